@@ -1,0 +1,135 @@
+//! Entities: a key and named properties, within the Datastore's limits.
+ghost use Rattle.std.specs.Prelude.{◌≡◌, ◌<◌, ◌^◌, IsTrue, IfOk, None, length, min};
+
+use crate::entity_rules::{first_faulty, size_of};
+use crate::key::Key;
+use crate::limits::MAX_ENTITY_SIZE;
+use crate::sequence::{Sequence, TryCopy};
+use crate::text::TextString;
+use crate::value::Values;
+use std::alloc::{AllocError, Global};
+use std::marker::Model;
+
+/// A named property with one value or several.
+#[derive(Drop)]
+pub struct Property {
+    /// 1 to 1,500 bytes, not reserved.
+    pub name: TextString,
+    /// Whether indexes hold the values.
+    pub indexed: bool,
+    /// At least one in an entity.
+    pub values: Values,
+}
+
+/// The properties of an entity, by name.
+pub type Properties = Sequence<Property>;
+
+/// Entities in their order.
+pub type Entities = Sequence<Entity>;
+
+/// Why a key and properties are no entity.
+#[derive(Drop, Debug)]
+pub enum EntityRefused {
+    /// A kind or a name of the key is reserved.
+    BadKey,
+    /// The first property, by its place, whose name is empty, longer than 1,500 bytes or reserved, that has no value, a
+    /// rating above 100, or an indexed string or byte string of more than 1,500 bytes.
+    BadValue { property: u32 },
+    /// The entity's size, or 2^63 - 1 where it is larger; it is above 1,048,576.
+    TooLarge { size: u64 },
+    /// There was no memory. `Entity::new` never answers it.
+    NoMemory,
+}
+
+/// A key and its properties, which keep the limits: what can be written.
+///
+/// Contracts see it as these two.
+#[derive(Drop)]
+pub struct Entity {
+    key: Key,
+    properties: Properties,
+}
+
+impl Model for Entity {
+    ghost use Rattle.ds_base.specs.Entities.{EntityParts, IsEntity};
+
+    ghost Value = { EntityParts };
+
+    ghost view = { λ e. record { key = e.key; properties = e.properties } };
+
+    ghost invariant = { λ e. IsEntity e.key e.properties };
+}
+
+impl Entity {
+    ghost use Rattle.std.specs.Result.{result_err};
+    ghost use Rattle.std.specs.Prelude.{◌≤◌};
+    ghost use Rattle.ds_base.specs.Keys.{renumbered, ends_in_id};
+    ghost use Rattle.ds_base.specs.Entities.{EntityParts, IsEntity, entity_refusal, names_ascend};
+
+    /// The entity of this key and these properties, whose names strictly ascend by bytes. The refusals, of which the first
+    /// that holds is answered, are those of `EntityRefused`. It takes no memory, and one pass over the entity.
+    pub fn new(key: Key, properties: Properties) -> Result<Entity, EntityRefused>
+        requires ascending { IsTrue (names_ascend properties) }
+        requires few { length properties < 2 ^ 32 }
+        ensures ok { IfOk result (λ e. e ≡ record { key = key; properties = properties }) }
+        ensures refused { result_err result ≡ entity_refusal key properties }
+    {
+        if !key.writable() {
+            return Err(EntityRefused::BadKey);
+        }
+        if let Some(property) = first_faulty(properties.as_slice()) {
+            return Err(EntityRefused::BadValue {
+                property: property as u32,
+            });
+        }
+        let size = size_of(&key, properties.as_slice());
+        if size > MAX_ENTITY_SIZE {
+            return Err(EntityRefused::TooLarge { size });
+        }
+        Ok(Entity { key, properties })
+    }
+
+    /// The key.
+    pub fn key(&self) -> &Key
+        ensures value { result.now ≡ self.now.key }
+        ensures lawful { IsEntity self.now.key self.now.properties }
+    {
+        &self.key
+    }
+
+    /// The properties, by name.
+    pub fn properties(&self) -> &Properties
+        ensures value { result.now ≡ self.now.properties }
+        ensures lawful { IsEntity self.now.key self.now.properties }
+    {
+        &self.properties
+    }
+
+    /// Gives the key's last identifier the number `id`; nothing else changes. It takes no memory.
+    pub fn renumber(&mut self, id: u64)
+        requires ends_in_id { IsTrue (ends_in_id self.old.key.elems) }
+        requires positive { 1 ≤ id }
+        requires bounded { id < 2 ^ 63 }
+        ensures { self.new ≡ record { key = renumbered self.old.key id; properties = self.old.properties } }
+    {
+        self.key.renumber(id);
+    }
+}
+
+impl TryCopy for Entity {
+    fn copy(&self, alloc: Global) -> Result<Entity, AllocError> {
+        let key = self.key.copy(alloc)?;
+        let properties = self.properties.copy(alloc)?;
+        Ok(Entity { key, properties })
+    }
+}
+
+impl TryCopy for Property {
+    fn copy(&self, alloc: Global) -> Result<Property, AllocError> {
+        Ok(Property {
+            name: self.name.copy(alloc)?,
+            indexed: self.indexed,
+            values: self.values.copy(alloc)?,
+        })
+    }
+}

@@ -1,0 +1,110 @@
+//! The conditions of an entity: which properties are faulty, and what its size is.
+ghost use Rattle.std.specs.Prelude.{◌≡◌, ◌+◌, ◌≤◌, min, position, sum_by};
+ghost use Rattle.std.specs.List.{list_any};
+ghost use Rattle.ds_base.specs.Entities.{is_faulty_value, is_faulty_property, elem_size, key_size, value_size, content_size, property_size, entity_size};
+
+use crate::entity::Property;
+use crate::key::{Elem, Ident, Key, is_name, is_reserved};
+use crate::limits::{MAX_NAME_BYTES, MAX_RATING, MAX_TOLD_SIZE};
+use crate::value::Value;
+
+/// The place of the first property that no entity may have.
+pub(crate) fn first_faulty(properties: &[Property]) -> Option<usize>
+    ensures { result ≡ position is_faulty_property properties.now }
+{
+    properties
+        .iter()
+        .position(|property| is_faulty_property(property))
+}
+
+fn is_faulty_property(property: &Property) -> bool
+    ensures { result ≡ is_faulty_property property.now }
+{
+    let name = property.name.bytes();
+    !is_name(name)
+        || is_reserved(name)
+        || property.values.len() == 0
+        || any_faulty(property.indexed, property.values.as_slice())
+}
+
+fn any_faulty(indexed: bool, values: &[Value]) -> bool
+    ensures { result ≡ list_any (is_faulty_value indexed) values.now }
+{
+    values.iter().any(|value| is_faulty_value(indexed, value))
+}
+
+fn is_faulty_value(indexed: bool, value: &Value) -> bool
+    ensures { result ≡ is_faulty_value indexed value.now }
+{
+    match value {
+        Value::Rating(n) => *n > MAX_RATING,
+        Value::Bytes(bytes) => indexed && bytes.bytes().len() > MAX_NAME_BYTES,
+        Value::Str(text) => indexed && text.bytes().len() > MAX_NAME_BYTES,
+        _ => false,
+    }
+}
+
+/// The size of an entity of this key and these properties, or 2^63 - 1 where it is larger.
+pub(crate) fn size_of(key: &Key, properties: &[Property]) -> u64
+    ensures { result ≡ min (entity_size key.now properties.now) MAX_TOLD_SIZE }
+{
+    let mut size = size_of_key(key);
+    for property in properties {
+        size = capped_sum(size, size_of_property(property));
+    }
+    size
+}
+
+fn size_of_property(property: &Property) -> u64
+    ensures { result ≡ min (property_size property.now) MAX_TOLD_SIZE }
+{
+    let mut size = capped_sum(16, property.name.bytes().len() as u64);
+    for value in property.values.as_slice() {
+        size = capped_sum(size, size_of_value(value));
+    }
+    size
+}
+
+fn size_of_value(value: &Value) -> u64
+    ensures { result ≡ min (value_size value.now) MAX_TOLD_SIZE }
+{
+    capped_sum(16, size_of_content(value))
+}
+
+fn size_of_content(value: &Value) -> u64
+    ensures { result ≡ min (content_size value.now) MAX_TOLD_SIZE }
+{
+    match value {
+        Value::Bytes(bytes) | Value::Blob(bytes) => capped_sum(0, bytes.bytes().len() as u64),
+        Value::Str(text) | Value::Text(text) => capped_sum(0, text.bytes().len() as u64),
+        Value::Key(key) => size_of_key(key),
+        _ => 0,
+    }
+}
+
+fn size_of_key(key: &Key) -> u64
+    ensures { result ≡ min (key_size key.now) MAX_TOLD_SIZE }
+{
+    let mut size = capped_sum(0, key.namespace().bytes().len() as u64);
+    for elem in key.elems().as_slice() {
+        size = capped_sum(size, size_of_elem(elem));
+    }
+    size
+}
+
+fn size_of_elem(elem: &Elem) -> u64
+    ensures { result ≡ min (elem_size elem.now) MAX_TOLD_SIZE }
+{
+    let ident = match &elem.ident {
+        Ident::Id(_) => 8,
+        Ident::Name(name) => name.bytes().len() as u64,
+    };
+    capped_sum(capped_sum(16, elem.kind.bytes().len() as u64), ident)
+}
+
+/// The sum, or 2^63 - 1 where it is larger.
+fn capped_sum(a: u64, b: u64) -> u64
+    ensures { result ≡ min (a + b) MAX_TOLD_SIZE }
+{
+    a.saturating_add(b).min(MAX_TOLD_SIZE)
+}

@@ -1,0 +1,71 @@
+//! How index values compare, with the laws of a total order.
+ghost use Rattle.std.specs.Prelude.{◌≡◌, refl};
+ghost use Rattle.std.specs.Cmp.{eq_by_cmp_equiv, partial_equiv_from_equiv};
+ghost use Rattle.std.specs.Ordering.{eq_by_cmp, as_partial_cmp};
+ghost use Rattle.ds_base.specs.KeyOrderLaws.{partial_from_total};
+ghost use Rattle.ds_base.specs.IndexOrder.{index_value_cmp, class_of};
+ghost use Rattle.ds_base.specs.IndexOrderLaws.{index_value_cmp-total};
+
+use crate::index_value::IndexValue;
+use std::cmp::Ordering;
+
+impl PartialEq for IndexValue {
+    ghost eq = { eq_by_cmp index_value_cmp };
+
+    ghost laws = { partial_equiv_from_equiv (eq_by_cmp_equiv index_value_cmp-total) };
+
+    fn eq(&self, other: &IndexValue) -> bool {
+        self.cmp(other) == Ordering::Equal
+    }
+}
+
+impl Eq for IndexValue {
+    ghost laws = { eq_by_cmp_equiv index_value_cmp-total };
+}
+
+impl PartialOrd for IndexValue {
+    ghost partial_cmp = { as_partial_cmp index_value_cmp };
+
+    ghost laws = { partial_from_total index_value_cmp-total };
+
+    fn partial_cmp(&self, other: &IndexValue) -> Option<Ordering> {
+        Some(self.cmp(other))
+    }
+}
+
+impl Ord for IndexValue {
+    ghost cmp = { index_value_cmp };
+
+    ghost total = { index_value_cmp-total };
+
+    ghost matches_partial_cmp = { λ _ _. refl };
+
+    ghost matches_eq = { λ _ _. refl };
+
+    /// The order of index values: by class, and inside a class numerically, `false` before `true`, by bytes, or as keys
+    /// compare. It takes no memory.
+    fn cmp(&self, other: &IndexValue) -> Ordering
+        ensures { result ≡ index_value_cmp self.now other.now }
+    {
+        match (self, other) {
+            (IndexValue::Num(a), IndexValue::Num(b)) => a.cmp(b),
+            (IndexValue::Bool(a), IndexValue::Bool(b)) => a.cmp(b),
+            (IndexValue::Bytes(a), IndexValue::Bytes(b)) => a.cmp(b),
+            (IndexValue::Key(a), IndexValue::Key(b)) => a.cmp(b),
+            _ => class_of(self).cmp(&class_of(other)),
+        }
+    }
+}
+
+/// The place of the value's class.
+fn class_of(value: &IndexValue) -> u8
+    ensures { result ≡ class_of value.now }
+{
+    match value {
+        IndexValue::Null => 0,
+        IndexValue::Num(_) => 1,
+        IndexValue::Bool(_) => 2,
+        IndexValue::Bytes(_) => 3,
+        IndexValue::Key(_) => 4,
+    }
+}

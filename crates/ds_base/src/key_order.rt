@@ -1,0 +1,139 @@
+//! How keys compare, are equal and are hashed, with the laws of a total order.
+//!
+//! Two identifiers, elements or keys are equal exactly where they compare as equal, and then they are the same.
+ghost use Rattle.std.specs.Prelude.{◌≡◌, ◌++◌, Some, refl};
+ghost use Rattle.std.specs.Cmp.{eq_by_cmp_equiv, partial_equiv_from_equiv};
+ghost use Rattle.std.specs.Ordering.{eq_by_cmp, as_partial_cmp};
+ghost use Rattle.std.specs.Hash as fed;
+ghost use Rattle.ds_base.specs.KeyOrder.{ident_cmp, elem_cmp, key_cmp};
+ghost use Rattle.ds_base.specs.KeyOrderLaws.{ident_cmp-total, elem_cmp-total, key_cmp-total, partial_from_total};
+
+use crate::key::{Elem, Ident, Key};
+use std::cmp::Ordering;
+use std::hash::{Hash, Hasher};
+
+impl PartialEq for Ident {
+    ghost eq = { eq_by_cmp ident_cmp };
+
+    ghost laws = { partial_equiv_from_equiv (eq_by_cmp_equiv ident_cmp-total) };
+
+    fn eq(&self, other: &Ident) -> bool {
+        self.cmp(other) == Ordering::Equal
+    }
+}
+
+impl Eq for Ident {
+    ghost laws = { eq_by_cmp_equiv ident_cmp-total };
+}
+
+impl PartialOrd for Ident {
+    ghost partial_cmp = { as_partial_cmp ident_cmp };
+
+    ghost laws = { partial_from_total ident_cmp-total };
+
+    fn partial_cmp(&self, other: &Ident) -> Option<Ordering> {
+        Some(self.cmp(other))
+    }
+}
+
+impl Ord for Ident {
+    ghost cmp = { ident_cmp };
+
+    ghost total = { ident_cmp-total };
+
+    ghost matches_partial_cmp = { λ _ _. refl };
+
+    ghost matches_eq = { λ _ _. refl };
+
+    fn cmp(&self, other: &Ident) -> Ordering {
+        match (self, other) {
+            (Ident::Id(a), Ident::Id(b)) => a.cmp(b),
+            (Ident::Id(_), Ident::Name(_)) => Ordering::Less,
+            (Ident::Name(_), Ident::Id(_)) => Ordering::Greater,
+            (Ident::Name(a), Ident::Name(b)) => a.cmp(b),
+        }
+    }
+}
+
+impl PartialEq for Elem {
+    ghost eq = { eq_by_cmp elem_cmp };
+
+    ghost laws = { partial_equiv_from_equiv (eq_by_cmp_equiv elem_cmp-total) };
+
+    fn eq(&self, other: &Elem) -> bool {
+        self.cmp(other) == Ordering::Equal
+    }
+}
+
+impl Eq for Elem {
+    ghost laws = { eq_by_cmp_equiv elem_cmp-total };
+}
+
+impl PartialOrd for Elem {
+    ghost partial_cmp = { as_partial_cmp elem_cmp };
+
+    ghost laws = { partial_from_total elem_cmp-total };
+
+    fn partial_cmp(&self, other: &Elem) -> Option<Ordering> {
+        Some(self.cmp(other))
+    }
+}
+
+impl Ord for Elem {
+    ghost cmp = { elem_cmp };
+
+    ghost total = { elem_cmp-total };
+
+    ghost matches_partial_cmp = { λ _ _. refl };
+
+    ghost matches_eq = { λ _ _. refl };
+
+    fn cmp(&self, other: &Elem) -> Ordering {
+        self.kind
+            .cmp(&other.kind)
+            .then_with(|| self.ident.cmp(&other.ident))
+    }
+}
+
+impl PartialEq for Key {
+    ghost eq = { eq_by_cmp key_cmp };
+
+    ghost laws = { partial_equiv_from_equiv (eq_by_cmp_equiv key_cmp-total) };
+
+    fn eq(&self, other: &Key) -> bool {
+        self.cmp(other) == Ordering::Equal
+    }
+}
+
+impl Eq for Key {
+    ghost laws = { eq_by_cmp_equiv key_cmp-total };
+}
+
+impl PartialOrd for Key {
+    ghost partial_cmp = { as_partial_cmp key_cmp };
+
+    ghost laws = { partial_from_total key_cmp-total };
+
+    fn partial_cmp(&self, other: &Key) -> Option<Ordering> {
+        Some(self.cmp(other))
+    }
+}
+
+impl Ord for Key {
+    ghost cmp = { key_cmp };
+
+    ghost total = { key_cmp-total };
+
+    ghost matches_partial_cmp = { λ _ _. refl };
+
+    ghost matches_eq = { λ _ _. refl };
+
+    /// The order of keys: by namespace, then element by element. It takes no memory, and one pass.
+    fn cmp(&self, other: &Key) -> Ordering
+        ensures { result ≡ key_cmp self.now other.now }
+    {
+        self.namespace()
+            .cmp(other.namespace())
+            .then_with(|| self.elems().as_slice().cmp(other.elems().as_slice()))
+    }
+}
