@@ -51,12 +51,14 @@ impl Buffer {
         self.bytes.extend_from_slice(piece)
     }
 
-    /// Makes room for `more` bytes: after it so many bytes are appended without memory. A refusal changes nothing.
+    /// Makes room for `more` bytes: after it so many bytes are appended without memory. A refusal changes nothing, and
+    /// never comes where there is the room already.
     pub fn make_room(&mut self, more: usize) -> Result<(), AllocError>
         ensures same { self.new.bytes ≡ self.old.bytes }
         ensures ok { OnOk result (more ≤ self.new.spare) }
         ensures kept { self.old.spare ≤ self.new.spare }
         ensures err { OnErr result (self.new ≡ self.old) }
+        ensures succeeds { more ≤ self.old.spare → IsOk result }
     {
         self.bytes.reserve(more)
     }

@@ -1,0 +1,5 @@
+pub mod Queries
+pub mod Reading
+pub mod Replies
+pub mod Requests
+pub mod Values
