@@ -1,0 +1,35 @@
+-- Filter and order: the results of a query of one kind over a list of entities.
+use Rattle.std.specs.Prelude.{ℕ, List, [], ◌∷◌, Bool, ◌&&◌, Option, Some, None, filter, map, fold}
+use Rattle.std.specs.Ordering.{match_ordering}
+use Rattle.ds_base.specs.declared.key.Elem.{Elem}
+use Rattle.ds_base.specs.declared.results.Item.{Item}
+use Rattle.ds_base.specs.Keys.{KeyParts, same_bytes}
+use Rattle.ds_base.specs.KeyOrder.{key_cmp}
+use Rattle.ds_base.specs.Entities.{EntityParts}
+
+-- the kind of the entity itself: that of its path's last element
+abbrev pub kind_of : List Elem → List ℕ
+kind_of [] = []
+kind_of (e ∷ []) = e.kind
+kind_of (e ∷ f ∷ es) = kind_of (f ∷ es)
+
+-- an entity counts whose key has the namespace and ends in the kind
+abbrev pub is_of_kind : List ℕ → List ℕ → EntityParts → Bool
+is_of_kind namespace kind e = same_bytes e.key.namespace namespace && same_bytes (kind_of e.key.elems) kind
+
+-- an entity at its place among sorted ones
+abbrev pub insert_by_key : EntityParts → List EntityParts → List EntityParts
+insert_by_key e [] = e ∷ []
+insert_by_key e (f ∷ fs) = match_ordering (key_cmp e.key f.key) (e ∷ f ∷ fs) (e ∷ f ∷ fs) (f ∷ insert_by_key e fs)
+
+-- by the order of keys; keys are distinct, so no two entities tie
+abbrev pub sorted_by_key : List EntityParts → List EntityParts
+sorted_by_key = fold (λ es e. insert_by_key e es) []
+
+-- a result of a query for whole entities
+abbrev pub whole_item : EntityParts → Item
+whole_item e = record { key = e.key; entity = Some e; projected = [] }
+
+-- the entities of the kind, in the order of their keys
+abbrev pub kind_results : List ℕ → List ℕ → List EntityParts → List Item
+kind_results namespace kind entities = map whole_item (sorted_by_key (filter (is_of_kind namespace kind) entities))

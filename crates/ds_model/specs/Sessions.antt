@@ -1,0 +1,85 @@
+-- What a client has seen: its replies so far raise it, and nothing lowers it.
+use Rattle.std.specs.Prelude.{ℕ, ◌+◌, ◌^◌, max, List, [], ◌∷◌, Bool, nat_le, cond, Option, Some, None, replicate, take, fold}
+use Rattle.ds_base.specs.declared.key.Ident.{Ident}
+use Rattle.ds_base.specs.declared.key.Ident.TheVariants.{Id, Name}
+use Rattle.ds_base.specs.declared.key.Elem.{Elem}
+use Rattle.ds_log.specs.declared.Touch.{Touch}
+use Rattle.ds_log.specs.declared.Write.{Write}
+use Rattle.ds_log.specs.declared.Entry.{Entry}
+
+-- an open transaction: its flag for several groups, its touched groups in order with their places, and its writes
+pub record Transaction : Type 0 where
+  pub several_groups : Bool
+  pub touched : List Touch
+  pub writes : List Write
+
+-- a seen place in the journal, a seen count per shard, a shown id counter, and a transaction or none
+pub record Session : Type 0 where
+  pub place : ℕ
+  pub counts : List ℕ
+  pub next_id : ℕ
+  pub transaction : Option Transaction
+
+-- automatic ids are drawn from here on
+abbrev pub first_id : ℕ
+first_id = 2 ^ 52
+
+abbrev pub first_session : ℕ → Session
+first_session shards = record { place = 0; counts = replicate shards 0; next_id = first_id; transaction = None }
+
+-- the clients are numbered from 0 to 15
+abbrev pub first_sessions : ℕ → List Session
+first_sessions shards = replicate 16 (first_session shards)
+
+-- a printed commit or place raises the place
+abbrev pub saw_place : ℕ → Session → Session
+saw_place m s = record s { place = max s.place m }
+
+-- the commit of the last counted entry, 0 where there is none
+abbrev pub last_commit : List Entry → ℕ
+last_commit = fold (λ m entry. entry.commit) 0
+
+-- the greatest commit of the shards' last counted entries
+abbrev pub counted_place : List (List Entry) → List ℕ → ℕ
+counted_place [] counts = 0
+counted_place (entries ∷ lists) [] = 0
+counted_place (entries ∷ lists) (count ∷ counts) = max (last_commit (take count entries)) (counted_place lists counts)
+
+abbrev pub greater_counts : List ℕ → List ℕ → List ℕ
+greater_counts [] counts = []
+greater_counts (c ∷ cs) [] = c ∷ cs
+greater_counts (c ∷ cs) (a ∷ counts) = max c a ∷ greater_counts cs counts
+
+-- a printed count raises the shard's count, and the place to the commit of the last counted entry
+abbrev pub saw_counts : List (List Entry) → List ℕ → Session → Session
+saw_counts lists counts s = record s { place = max s.place (counted_place lists counts); counts = greater_counts s.counts counts }
+
+-- a printed id counter raises the shown one
+abbrev pub saw_next : ℕ → Session → Session
+saw_next next s = record s { next_id = max s.next_id next }
+
+-- an accepted written id that is drawn from the counter raises the shown counter above it
+abbrev pub next_above : List Elem → ℕ
+next_above = fold (λ next e. max next (above e.ident)) 0 where
+  above : Ident → ℕ
+  above (Id n) = cond (nat_le first_id n) (n + 1) 0
+  above (Name x) = 0
+
+-- at the start of a round the sessions meet: each one's place, counts and shown id counter become the greatest of all
+abbrev pub greatest_place : List Session → ℕ
+greatest_place = fold (λ m s. max m s.place) 0
+
+abbrev pub greatest_counts : List ℕ → List Session → List ℕ
+greatest_counts = fold (λ counts s. greater_counts counts s.counts)
+
+abbrev pub greatest_next : List Session → ℕ
+greatest_next = fold (λ m s. max m s.next_id) 0
+
+abbrev pub met : List Session → List Session
+met sessions = raise_all sessions where
+  raised : Session → Session
+  raised s = record s { place = greatest_place sessions; counts = greatest_counts s.counts sessions; next_id = greatest_next sessions }
+
+  raise_all : List Session → List Session
+  raise_all [] = []
+  raise_all (s ∷ ss) = raised s ∷ raise_all ss

@@ -1,0 +1,4 @@
+pub mod KindResults
+pub mod OneShard
+pub mod Sorted
+pub mod Steps
