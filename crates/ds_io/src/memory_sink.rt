@@ -1,0 +1,94 @@
+//! A sink in memory.
+ghost use Rattle.std.specs.Prelude.{◌≡◌, ◌<◌, ◌≤◌, ◌++◌, [], length, take, min, IfOk, OnErr, IsErr, IsTrue, is_err, Some, false};
+ghost use Rattle.ds_io.specs.Memory.{after_call, fresh, is_due};
+
+use crate::schedule::Schedule;
+use crate::traits::{Failed, Sink};
+use ds_base::{ByteString, Numbers};
+use std::alloc::Global;
+use std::marker::Model;
+
+/// A sink that keeps what is written in memory. It tells those bytes, and which of its calls fail.
+#[derive(Drop)]
+pub struct MemorySink {
+    bytes: ByteString,
+    most: usize,
+    schedule: Schedule,
+}
+
+impl Model for MemorySink {
+    ghost use Rattle.ds_io.specs.Memory.{SinkParts};
+
+    ghost Value = { SinkParts };
+
+    ghost view = { λ s. record { held = s.bytes; most = s.most; schedule = s.schedule } };
+}
+
+impl MemorySink {
+    /// A sink that holds nothing yet. One call takes at most `most` bytes, where 0 makes each call that is given bytes
+    /// fail; the calls with the numbers of `fails`, where the first call is 1, fail too. It takes no memory itself.
+    pub fn make(alloc: Global, most: usize, fails: Numbers) -> MemorySink
+        ensures held { result.held ≡ [] }
+        ensures most { result.most ≡ most }
+        ensures schedule { result.schedule ≡ fresh fails }
+    {
+        MemorySink {
+            bytes: ByteString::new(alloc),
+            most,
+            schedule: Schedule::new(fails),
+        }
+    }
+
+    /// What was taken so far.
+    pub fn written(&self) -> &ByteString
+        ensures { result.now ≡ self.now.held }
+    {
+        &self.bytes
+    }
+
+    /// `write`, before a failure is counted as a fault.
+    fn take(&mut self, piece: &[u8]) -> Result<usize, Failed>
+        ensures fails_when_due { IsTrue (is_due self.old.schedule) → IsErr result }
+        ensures amount { IfOk result (λ n. n ≡ min self.old.most (length piece.now)) }
+        ensures takes_some { IfOk result (λ n. 0 < length piece.now → 0 < n) }
+        ensures holds_what_it_took { IfOk result (λ n. self.new.held ≡ self.old.held ++ take n piece.now) }
+        ensures takes_nothing { OnErr result (self.new.held ≡ self.old.held) }
+        ensures most { self.new.most ≡ self.old.most }
+        ensures schedule { self.new.schedule ≡ after_call self.old.schedule false }
+    {
+        let n = self.most.min(piece.len());
+        if self.schedule.begin() || (n == 0 && !piece.is_empty()) {
+            return Err(Failed);
+        }
+        match self.bytes.append(&piece[..n]) {
+            Ok(()) => Ok(n),
+            Err(_) => Err(Failed),
+        }
+    }
+}
+
+impl Sink for MemorySink {
+    ghost held = { λ s. Some s.held };
+
+    ghost faults = { λ s. s.schedule.faults };
+
+    /// Takes as many of the first bytes of `piece` as may be taken in one call. It fails where this call is one that
+    /// fails, where it may take nothing of a piece that has bytes, and for want of memory.
+    fn write(&mut self, piece: &[u8]) -> Result<usize, Failed>
+        ensures fails_when_due { IsTrue (is_due self.old.schedule) → IsErr result }
+        ensures amount { IfOk result (λ n. n ≡ min self.old.most (length piece.now)) }
+        ensures takes_some { IfOk result (λ n. 0 < length piece.now → 0 < n) }
+        ensures holds_what_it_took { IfOk result (λ n. self.new.held ≡ self.old.held ++ take n piece.now) }
+        ensures takes_nothing { OnErr result (self.new.held ≡ self.old.held) }
+
+        ensures most { self.new.most ≡ self.old.most }
+        ensures schedule { self.new.schedule ≡ after_call self.old.schedule (is_err result) }
+        ensures faults_stay_counted { self.old.schedule.faults ≤ self.new.schedule.faults }
+    {
+        let taken = self.take(piece);
+        if taken.is_err() {
+            self.schedule.raise();
+        }
+        taken
+    }
+}

@@ -1,0 +1,151 @@
+//! The forms over std: a reader, a writer, and the file system.
+//!
+//! They tell no bytes, since nobody knows what a terminal or a file gives. They count each error of std as a fault, in
+//! a count that stays at its last value; so also a call that a signal interrupts, which std's plain calls don't
+//! repeat. A program that installs no signal handler, as the server, meets none.
+ghost use Rattle.std.specs.Prelude.{◌≡◌, ◌≤◌, length, IfOk, None};
+
+use crate::traits::{Failed, Files, LoadFault, MAX_FILE_BYTES, Sink, Source};
+use ds_base::ByteString;
+use std::alloc::Global;
+use std::fs::File;
+use std::io::{ErrorKind, Read, Write};
+use std::marker::Model;
+use std::rt;
+
+/// A source over a reader of std. Contracts see its count of faults.
+#[derive(Drop)]
+pub struct StdSource<R> {
+    reader: R,
+    faults: u64,
+}
+
+impl<R> Model for StdSource<R> {
+    ghost use Rattle.std.specs.Prelude.{ℕ};
+
+    ghost Value = { ℕ };
+
+    ghost view = { λ s. s.faults };
+}
+
+impl<R> StdSource<R> {
+    /// A source over this reader, with no fault so far.
+    pub fn new(reader: R) -> StdSource<R>
+        ensures { result ≡ 0 }
+    {
+        StdSource { reader, faults: 0 }
+    }
+}
+
+impl<R: Read> Source for StdSource<R> {
+    ghost left = { λ _. None };
+
+    ghost faults = { λ s. s };
+
+    /// One `read` of the reader.
+    fn read(&mut self, buf: &mut [u8]) -> Result<usize, Failed> {
+        match self.reader.read(buf) {
+            Ok(n) => Ok(n),
+            Err(_) => {
+                self.faults = self.faults.saturating_add(1);
+                Err(Failed)
+            }
+        }
+    }
+}
+
+/// A sink over a writer of std. Contracts see its count of faults.
+#[derive(Drop)]
+pub struct StdSink<W> {
+    writer: W,
+    faults: u64,
+}
+
+impl<W> Model for StdSink<W> {
+    ghost use Rattle.std.specs.Prelude.{ℕ};
+
+    ghost Value = { ℕ };
+
+    ghost view = { λ s. s.faults };
+}
+
+impl<W> StdSink<W> {
+    /// A sink over this writer, with no fault so far.
+    pub fn new(writer: W) -> StdSink<W>
+        ensures { result ≡ 0 }
+    {
+        StdSink { writer, faults: 0 }
+    }
+}
+
+impl<W: Write> Sink for StdSink<W> {
+    ghost held = { λ _. None };
+
+    ghost faults = { λ s. s };
+
+    /// One `write` of the writer and one `flush`, so that what is taken is on its way also where the writer keeps a
+    /// buffer.
+    fn write(&mut self, piece: &[u8]) -> Result<usize, Failed> {
+        if let Ok(n) = self.writer.write(piece) {
+            if (n > 0 || piece.is_empty()) && self.writer.flush().is_ok() {
+                return Ok(n);
+            }
+        }
+        self.faults = self.faults.saturating_add(1);
+        Err(Failed)
+    }
+}
+
+/// The files of a runtime. Contracts see its count of faults, which serves all names.
+#[derive(Drop)]
+pub struct StdFiles<R> {
+    runtime: R,
+    faults: u64,
+}
+
+impl<R> Model for StdFiles<R> {
+    ghost use Rattle.std.specs.Prelude.{ℕ};
+
+    ghost Value = { ℕ };
+
+    ghost view = { λ s. s.faults };
+}
+
+impl<R> StdFiles<R> {
+    /// The files of this runtime, with no fault so far.
+    pub fn new(runtime: R) -> StdFiles<R>
+        ensures { result ≡ 0 }
+    {
+        StdFiles { runtime, faults: 0 }
+    }
+}
+
+// All bytes of a file. It reads at most one byte more than it gives, so that a file without an end ends too.
+fn load_file<R: rt::Files>(runtime: &R, alloc: Global, name: &str) -> Result<ByteString, LoadFault>
+    ensures { IfOk result (λ bytes. length bytes ≤ MAX_FILE_BYTES) }
+{
+    let Ok(file) = File::open(runtime, name) else {
+        return Err(LoadFault::Failed);
+    };
+    let mut bytes = Vec::new(alloc);
+    match file.take(MAX_FILE_BYTES as u64 + 1).read_to_end(&mut bytes) {
+        Ok(_) if bytes.len() <= MAX_FILE_BYTES => Ok(ByteString::from_vec(bytes)),
+        Err(error) if error.kind() == ErrorKind::OutOfMemory => Err(LoadFault::NoMemory),
+        _ => Err(LoadFault::Failed),
+    }
+}
+
+impl<R: rt::Files> Files for StdFiles<R> {
+    ghost content = { λ _ _. None };
+
+    ghost faults = { λ s _. s };
+
+    /// Opens the file and reads it to its end. Want of memory is no fault.
+    fn load(&mut self, alloc: Global, name: &str) -> Result<ByteString, LoadFault> {
+        let loaded = load_file(&self.runtime, alloc, name);
+        if let Err(LoadFault::Failed) = loaded {
+            self.faults = self.faults.saturating_add(1);
+        }
+        loaded
+    }
+}
