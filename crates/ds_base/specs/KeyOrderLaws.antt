@@ -1,12 +1,12 @@
 -- The laws of the order of keys: it is total, and answers Equal for equal keys alone.
-use Rattle.std.specs.Prelude.{◌≡◌, ◌↔◌, ℕ, List, [], refl, Bool, true, false}
-use Rattle.std.proofs.Common.{sym, ◌∙◌, ap, subst}
+use Rattle.std.specs.Prelude.{◌≡◌, ◌↔◌, ℕ, List, [], refl}
+use Rattle.std.proofs.Common.{ap, subst}
 use Rattle.std.specs.Bool.{Decides}
 use Rattle.std.specs.Cmp.{IsTotalOrder, IsPartialOrder, on_total, then_total, nat_cmp_total, po, tied_itself, Equal-is}
 use Rattle.std.specs.Cmp.Lexicographic.{slice_cmp, lists_total, nat_list_cmp_total}
 use Rattle.std.specs.declared.cmp.Ordering.{Ordering}
 use Rattle.std.specs.declared.cmp.Ordering.TheVariants.{Less, Equal, Greater}
-use Rattle.std.specs.Ordering.{ordering_then, nat_cmp, on, then_cmp, eq_by_cmp, as_partial_cmp, is_eq}
+use Rattle.std.specs.Ordering.{ordering_then, nat_cmp, on, then_cmp, eq_by_cmp, as_partial_cmp}
 use Rattle.std.specs.FinMap.{IsAntisymmetric, nat_cmp-IsAntisymmetric, slice_cmp-IsAntisymmetric}
 use Rattle.ds_base.specs.declared.key.Ident.{Ident}
 use Rattle.ds_base.specs.declared.key.Ident.TheVariants.{Id, Name}
