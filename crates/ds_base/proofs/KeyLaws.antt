@@ -1,16 +1,16 @@
 -- What a root and a new last id keep of a key.
-use Rattle.std.proofs.Common.{◌≡◌, ℕ, zero, suc, ◌+◌, ◌<◌, ◌≤◌, List, [], ◌∷◌, length, take, refl, ap, sym, ◌∙◌, subst, Bool, true, false, ◌&&◌, ◌||◌, arith, IsTrue, rules}
+use Rattle.std.proofs.Common.{◌≡◌, ℕ, zero, suc, ◌+◌, ◌<◌, ◌≤◌, List, [], ◌∷◌, length, refl, ap, sym, ◌∙◌, true, ◌&&◌, ◌||◌, arith}
 use Rattle.std.proofs.lemmas.Grind.{common_steps}
 use Rattle.std.proofs.lemmas.List.Sums.{sum_by-cons}
 use Rattle.std.proofs.lemmas.Bool.{and_parts, and_from}
-use Rattle.std.specs.Prelude.{sum_by, nat_le, not, nat_eq, slice_set, slice_index_or, position}
+use Rattle.std.specs.Prelude.{sum_by, nat_le, not, slice_set, slice_index_or, position}
 use Rattle.std.specs.List.{list_all, list_any}
 use Rattle.ds_base.specs.declared.key.Ident.{Ident}
 use Rattle.ds_base.specs.declared.key.Ident.TheVariants.{Id, Name}
 use Rattle.ds_base.specs.declared.key.Elem.{Elem}
 use Rattle.ds_base.specs.declared.limits.TheConstants.{MAX_ID, MAX_PATH_LENGTH}
-use Rattle.ds_base.specs.Keys.{KeyParts, is_key, is_path, is_namespace, is_elem, is_ident, is_name, is_reserved_elem, is_writable, root_of, ends_in_id, with_last_id, renumbered}
-use Rattle.ds_base.specs.Entities.{elem_size, key_size, entity_size, entity_refusal, IsEntity, property_size, refusal_by, is_faulty_property}
+use Rattle.ds_base.specs.Keys.{KeyParts, is_key, is_path, is_namespace, is_elem, is_ident, is_name, is_reserved_elem, is_writable, ends_in_id, with_last_id, renumbered}
+use Rattle.ds_base.specs.Entities.{elem_size, entity_size, entity_refusal, IsEntity, property_size, refusal_by, is_faulty_property}
 use Rattle.ds_base.specs.declared.entity.Property.{Property}
 
 pub length-with_last_id : (es : List Elem) (id : ℕ) → length (with_last_id es id) ≡ length es

@@ -1,5 +1,5 @@
 -- The size of an entity, and why one is refused.
-use Rattle.std.specs.Prelude.{ℕ, ◌+◌, ◌-◌, ◌^◌, min, Bool, true, false, ◌&&◌, ◌||◌, not, ◌==◌, nat_le, nat_lt, List, [], ◌∷◌, length, sum_by, Option, Some, None, position, cond, ◌≡◌, ◌<◌, IsTrue}
+use Rattle.std.specs.Prelude.{ℕ, ◌+◌, ◌^◌, min, Bool, true, false, ◌&&◌, ◌||◌, not, ◌==◌, nat_lt, List, [], ◌∷◌, length, sum_by, Option, Some, None, position, cond, ◌≡◌, ◌<◌, IsTrue}
 use Rattle.std.specs.List.{list_any}
 use Rattle.ds_base.specs.declared.limits.TheConstants.{MAX_NAME_BYTES, MAX_RATING, MAX_ENTITY_SIZE, MAX_TOLD_SIZE}
 use Rattle.ds_base.specs.declared.key.Ident.{Ident}

@@ -1,7 +1,7 @@
 -- How index values compare: the order of every query's result.
 use Rattle.std.specs.Prelude.{ℕ}
 use Rattle.std.specs.declared.cmp.Ordering.{Ordering}
-use Rattle.std.specs.declared.cmp.Ordering.TheVariants.{Less, Equal, Greater}
+use Rattle.std.specs.declared.cmp.Ordering.TheVariants.{Equal}
 use Rattle.std.specs.Ordering.{ordering_then, nat_cmp, int_cmp, bool_cmp}
 use Rattle.ds_base.specs.KeyOrder.{bytes_cmp, key_cmp}
 use Rattle.ds_base.specs.declared.index_value.IndexValue.{IndexValue}

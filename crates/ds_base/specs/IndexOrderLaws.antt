@@ -1,16 +1,17 @@
 -- The laws of the order of index values: it is total, and answers Equal for equal values alone.
-use Rattle.std.specs.Prelude.{◌≡◌, ℕ, ℤ, pos, List, [], refl, Bool, true, false}
-use Rattle.std.proofs.Common.{sym, ◌∙◌, ap, subst}
+use Rattle.std.specs.Bool.{Decides}
+use Rattle.std.specs.Prelude.{◌≡◌, ◌↔◌, ℕ, ℤ, pos, List, [], refl, Bool, true, false}
+use Rattle.std.proofs.Common.{ap, subst}
 use Rattle.std.specs.Cmp.{IsTotalOrder, on_total, then_total, nat_cmp_total, int_cmp_total, bool_cmp_total}
-use Rattle.std.specs.Cmp.Lexicographic.{slice_cmp, lists_total, nat_list_cmp_total}
+use Rattle.std.specs.Cmp.Lexicographic.{nat_list_cmp_total}
 use Rattle.std.specs.declared.cmp.Ordering.{Ordering}
-use Rattle.std.specs.declared.cmp.Ordering.TheVariants.{Less, Equal, Greater}
-use Rattle.std.specs.Ordering.{ordering_then, nat_cmp, int_cmp, bool_cmp, on, then_cmp}
-use Rattle.std.specs.FinMap.{IsAntisymmetric, int_cmp-IsAntisymmetric, slice_cmp-IsAntisymmetric}
+use Rattle.std.specs.declared.cmp.Ordering.TheVariants.{Equal}
+use Rattle.std.specs.Ordering.{nat_cmp, int_cmp, bool_cmp, on, then_cmp, eq_by_cmp}
+use Rattle.std.specs.FinMap.{IsAntisymmetric, int_cmp-IsAntisymmetric}
 use Rattle.ds_base.specs.Keys.{KeyParts}
 use Rattle.ds_base.specs.KeyOrder.{bytes_cmp, key_cmp}
-use Rattle.ds_base.specs.KeyOrderLaws.{then-Equal, bytes_cmp-same, key_cmp-total, key_cmp-same}
-use Rattle.ds_base.specs.IndexOrder.{class_of, within_class_cmp, index_value_cmp}
+use Rattle.ds_base.specs.KeyOrderLaws.{then-Equal, bytes_cmp-same, key_cmp-total, key_cmp-same, Equal-same, eq_by_cmp-decides}
+use Rattle.ds_base.specs.IndexOrder.{class_of, index_value_cmp}
 use Rattle.ds_base.specs.declared.index_value.IndexValue.{IndexValue}
 use Rattle.ds_base.specs.declared.index_value.IndexValue.TheVariants as class
 
@@ -77,3 +78,9 @@ index_value_cmp-same (class.Num m) _ e = cc
 index_value_cmp-same (class.Bool b) _ e = cc
 index_value_cmp-same (class.Bytes s) _ e = cc
 index_value_cmp-same (class.Key k) _ e = cc
+
+pub index_value_cmp-Equal : (v w : IndexValue) → (index_value_cmp v w ≡ Equal) ↔ (v ≡ w)
+index_value_cmp-Equal = Equal-same index_value_cmp-total index_value_cmp-same
+
+pub same_index_value-decides : (v w : IndexValue) → Decides (eq_by_cmp index_value_cmp v w) (v ≡ w)
+same_index_value-decides = eq_by_cmp-decides index_value_cmp-total index_value_cmp-same

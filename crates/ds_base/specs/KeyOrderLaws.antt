@@ -1,17 +1,18 @@
 -- The laws of the order of keys: it is total, and answers Equal for equal keys alone.
-use Rattle.std.specs.Prelude.{◌≡◌, ℕ, List, [], refl, Bool, true, false}
-use Rattle.std.proofs.Common.{sym, ◌∙◌, ap, subst}
-use Rattle.std.specs.Cmp.{IsTotalOrder, IsPartialOrder, on_total, then_total, nat_cmp_total, po}
+use Rattle.std.specs.Prelude.{◌≡◌, ◌↔◌, ℕ, List, [], refl}
+use Rattle.std.proofs.Common.{ap, subst}
+use Rattle.std.specs.Bool.{Decides}
+use Rattle.std.specs.Cmp.{IsTotalOrder, IsPartialOrder, on_total, then_total, nat_cmp_total, po, tied_itself, Equal-is}
 use Rattle.std.specs.Cmp.Lexicographic.{slice_cmp, lists_total, nat_list_cmp_total}
 use Rattle.std.specs.declared.cmp.Ordering.{Ordering}
 use Rattle.std.specs.declared.cmp.Ordering.TheVariants.{Less, Equal, Greater}
-use Rattle.std.specs.Ordering.{ordering_then, nat_cmp, on, then_cmp, eq_by_cmp, as_partial_cmp, is_eq}
+use Rattle.std.specs.Ordering.{ordering_then, nat_cmp, on, then_cmp, eq_by_cmp, as_partial_cmp}
 use Rattle.std.specs.FinMap.{IsAntisymmetric, nat_cmp-IsAntisymmetric, slice_cmp-IsAntisymmetric}
 use Rattle.ds_base.specs.declared.key.Ident.{Ident}
 use Rattle.ds_base.specs.declared.key.Ident.TheVariants.{Id, Name}
 use Rattle.ds_base.specs.declared.key.Elem.{Elem}
 use Rattle.ds_base.specs.Keys.{KeyParts}
-use Rattle.ds_base.specs.KeyOrder.{bytes_cmp, ident_cmp, elem_cmp, key_cmp}
+use Rattle.ds_base.specs.KeyOrder.{bytes_cmp, ident_cmp, elem_cmp, key_cmp, same_key}
 
 -- an order over three columns that an identifier is read as: whether it is a name, its id, its name
 rank_of : Ident → ℕ
@@ -86,3 +87,32 @@ key_cmp-same x y e =
 -- a partial order and an equality from a total order
 pub partial_from_total : {K : Type 0} {R : K → K → Ordering} → IsTotalOrder R → IsPartialOrder (eq_by_cmp R) (as_partial_cmp R)
 partial_from_total o = po o (λ x y. refl)
+
+-- a total order that answers Equal for equal values alone answers it exactly for them
+pub Equal-same : {K : Type 0} {R : K → K → Ordering} → IsTotalOrder R → IsAntisymmetric R → (x y : K) → (R x y ≡ Equal) ↔ (x ≡ y)
+Equal-same {R = R} o same x y = (same x y, λ e. subst (λ z. R x z ≡ Equal) e (tied_itself o x))
+
+-- so its test of equality decides whether two values are equal
+pub eq_by_cmp-decides : {K : Type 0} {R : K → K → Ordering} → IsTotalOrder R → IsAntisymmetric R → (x y : K) → Decides (eq_by_cmp R x y) (x ≡ y)
+eq_by_cmp-decides {R = R} o same x y =
+    let tied = Equal-same o same x y in
+    let test = Equal-is (R x y) in
+    (λ e. tied.0 (test.0 e), λ e. test.1 (tied.1 e))
+
+pub ident_cmp-Equal : (x y : Ident) → (ident_cmp x y ≡ Equal) ↔ (x ≡ y)
+ident_cmp-Equal = Equal-same ident_cmp-total ident_cmp-same
+
+pub elem_cmp-Equal : (x y : Elem) → (elem_cmp x y ≡ Equal) ↔ (x ≡ y)
+elem_cmp-Equal = Equal-same elem_cmp-total elem_cmp-same
+
+pub key_cmp-Equal : (x y : KeyParts) → (key_cmp x y ≡ Equal) ↔ (x ≡ y)
+key_cmp-Equal = Equal-same key_cmp-total key_cmp-same
+
+pub same_ident-decides : (x y : Ident) → Decides (eq_by_cmp ident_cmp x y) (x ≡ y)
+same_ident-decides = eq_by_cmp-decides ident_cmp-total ident_cmp-same
+
+pub same_elem-decides : (x y : Elem) → Decides (eq_by_cmp elem_cmp x y) (x ≡ y)
+same_elem-decides = eq_by_cmp-decides elem_cmp-total elem_cmp-same
+
+pub same_key-decides : (x y : KeyParts) → Decides (same_key x y) (x ≡ y)
+same_key-decides = eq_by_cmp-decides key_cmp-total key_cmp-same

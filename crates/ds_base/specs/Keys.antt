@@ -1,5 +1,5 @@
 -- What a key is, which keys there are, and how keys lie under one another.
-use Rattle.std.specs.Prelude.{ℕ, ◌-◌, Bool, true, false, ◌&&◌, ◌||◌, not, ◌==◌, nat_le, nat_lt, nat_eq, List, [], ◌∷◌, length, take, drop, codes}
+use Rattle.std.specs.Prelude.{ℕ, ◌-◌, Bool, true, false, ◌&&◌, ◌||◌, not, ◌==◌, nat_le, nat_eq, List, [], ◌∷◌, length, take, drop, codes}
 use Rattle.std.specs.List.{list_all, list_any, starts_with}
 use Rattle.std.specs.Cmp.Lexicographic.{pointwise}
 use Rattle.ds_base.specs.declared.limits.TheConstants.{MAX_PATH_LENGTH, MAX_ID, MAX_NAME_BYTES, MAX_NAMESPACE_BYTES}

@@ -2,6 +2,7 @@ pub mod Buffers
 pub mod Entities
 pub mod IndexOrder
 pub mod IndexOrderLaws
+pub mod KeyHash
 pub mod KeyOrder
 pub mod KeyOrderLaws
 pub mod Keys

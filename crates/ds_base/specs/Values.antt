@@ -1,5 +1,5 @@
 -- What of a value an index holds.
-use Rattle.std.specs.Prelude.{ℕ, Bool, true, false, Option, Some, None, ℤ, pos}
+use Rattle.std.specs.Prelude.{Option, Some, None, pos}
 use Rattle.ds_base.specs.declared.value.Value.{Value}
 use Rattle.ds_base.specs.declared.value.Value.TheVariants as value
 use Rattle.ds_base.specs.declared.index_value.IndexValue.{IndexValue}

@@ -65,7 +65,8 @@ impl Buffer {
 
     /// Takes the bytes out and keeps the room that they had.
     pub fn clear(&mut self)
-        ensures { self.new.bytes ≡ [] }
+        ensures emptied { self.new.bytes ≡ [] }
+        ensures room { self.old.spare ≤ self.new.spare }
     {
         self.bytes.clear()
     }

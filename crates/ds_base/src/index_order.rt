@@ -1,5 +1,5 @@
 //! How index values compare, with the laws of a total order.
-ghost use Rattle.std.specs.Prelude.{◌≡◌, refl};
+ghost use Rattle.std.specs.Prelude.{◌≡◌, ◌↔◌, IsTrue, refl};
 ghost use Rattle.std.specs.Cmp.{eq_by_cmp_equiv, partial_equiv_from_equiv};
 ghost use Rattle.std.specs.Ordering.{eq_by_cmp, as_partial_cmp};
 ghost use Rattle.ds_base.specs.KeyOrderLaws.{partial_from_total};
@@ -14,7 +14,10 @@ impl PartialEq for IndexValue {
 
     ghost laws = { partial_equiv_from_equiv (eq_by_cmp_equiv index_value_cmp-total) };
 
-    fn eq(&self, other: &IndexValue) -> bool {
+    fn eq(&self, other: &IndexValue) -> bool
+        ensures value { result ≡ eq_by_cmp index_value_cmp self.now other.now }
+        ensures same { IsTrue result ↔ (self.now ≡ other.now) }
+    {
         self.cmp(other) == Ordering::Equal
     }
 }
@@ -45,15 +48,22 @@ impl Ord for IndexValue {
     /// The order of index values: by class, and inside a class numerically, `false` before `true`, by bytes, or as keys
     /// compare. It takes no memory.
     fn cmp(&self, other: &IndexValue) -> Ordering
-        ensures { result ≡ index_value_cmp self.now other.now }
+        ensures value { result ≡ index_value_cmp self.now other.now }
+        ensures same { (result ≡ Ordering.Equal) ↔ (self.now ≡ other.now) }
     {
-        match (self, other) {
-            (IndexValue::Num(a), IndexValue::Num(b)) => a.cmp(b),
-            (IndexValue::Bool(a), IndexValue::Bool(b)) => a.cmp(b),
-            (IndexValue::Bytes(a), IndexValue::Bytes(b)) => a.cmp(b),
-            (IndexValue::Key(a), IndexValue::Key(b)) => a.cmp(b),
-            _ => class_of(self).cmp(&class_of(other)),
-        }
+        compare_values(self, other)
+    }
+}
+
+fn compare_values(a: &IndexValue, b: &IndexValue) -> Ordering
+    ensures { result ≡ index_value_cmp a.now b.now }
+{
+    match (a, b) {
+        (IndexValue::Num(m), IndexValue::Num(n)) => m.cmp(n),
+        (IndexValue::Bool(m), IndexValue::Bool(n)) => m.cmp(n),
+        (IndexValue::Bytes(m), IndexValue::Bytes(n)) => m.cmp(n),
+        (IndexValue::Key(m), IndexValue::Key(n)) => m.cmp(n),
+        _ => class_of(a).cmp(&class_of(b)),
     }
 }
 

@@ -13,12 +13,15 @@ use std::cmp::Ordering;
 /// `false` before `true`, by bytes, or as keys do.
 #[derive(Drop)]
 pub enum IndexValue {
+    /// Null, before all others.
     Null,
     /// Integers, dates and ratings.
     Num(i64),
+    /// Truth values.
     Bool(bool),
     /// Byte strings, and strings as UTF-8.
     Bytes(ByteString),
+    /// Keys, after all others.
     Key(Key),
 }
 

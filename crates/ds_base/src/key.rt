@@ -19,7 +19,9 @@ pub enum Ident {
 /// One step of a path: a kind of 1 to 1,500 bytes, and an identifier.
 #[derive(Drop)]
 pub struct Elem {
+    /// The kind of the entity that the path leads to up to here.
     pub kind: TextString,
+    /// The identifier, by which entities of one kind under one parent differ.
     pub ident: Ident,
 }
 

@@ -1,11 +1,11 @@
 //! How keys compare, are equal and are hashed, with the laws of a total order.
 //!
 //! Two identifiers, elements or keys are equal exactly where they compare as equal, and then they are the same.
-ghost use Rattle.std.specs.Prelude.{◌≡◌, ◌++◌, Some, refl};
+ghost use Rattle.std.specs.Prelude.{◌≡◌, ◌↔◌, IsTrue, Some, refl};
 ghost use Rattle.std.specs.Cmp.{eq_by_cmp_equiv, partial_equiv_from_equiv};
 ghost use Rattle.std.specs.Ordering.{eq_by_cmp, as_partial_cmp};
-ghost use Rattle.std.specs.Hash as fed;
-ghost use Rattle.ds_base.specs.KeyOrder.{ident_cmp, elem_cmp, key_cmp};
+ghost use Rattle.ds_base.specs.KeyOrder.{ident_cmp, elem_cmp, key_cmp, same_key};
+ghost use Rattle.ds_base.specs.KeyHash.{ident_writes, elem_writes, key_writes, ident-alike, elem-alike, key-alike};
 ghost use Rattle.ds_base.specs.KeyOrderLaws.{ident_cmp-total, elem_cmp-total, key_cmp-total, partial_from_total};
 
 use crate::key::{Elem, Ident, Key};
@@ -100,7 +100,10 @@ impl PartialEq for Key {
 
     ghost laws = { partial_equiv_from_equiv (eq_by_cmp_equiv key_cmp-total) };
 
-    fn eq(&self, other: &Key) -> bool {
+    fn eq(&self, other: &Key) -> bool
+        ensures value { result ≡ same_key self.now other.now }
+        ensures same { IsTrue result ↔ (self.now ≡ other.now) }
+    {
         self.cmp(other) == Ordering::Equal
     }
 }
@@ -130,10 +133,58 @@ impl Ord for Key {
 
     /// The order of keys: by namespace, then element by element. It takes no memory, and one pass.
     fn cmp(&self, other: &Key) -> Ordering
-        ensures { result ≡ key_cmp self.now other.now }
+        ensures value { result ≡ key_cmp self.now other.now }
+        ensures same { (result ≡ Ordering.Equal) ↔ (self.now ≡ other.now) }
     {
-        self.namespace()
-            .cmp(other.namespace())
-            .then_with(|| self.elems().as_slice().cmp(other.elems().as_slice()))
+        compare_keys(self, other)
+    }
+}
+
+fn compare_keys(a: &Key, b: &Key) -> Ordering
+    ensures { result ≡ key_cmp a.now b.now }
+{
+    a.namespace()
+        .cmp(b.namespace())
+        .then_with(|| a.elems().as_slice().cmp(b.elems().as_slice()))
+}
+
+impl Hash for Ident {
+    ghost hash_input = { ident_writes };
+
+    ghost respects_eq = { ident-alike };
+
+    fn hash<H: Hasher>(&self, state: &mut H) {
+        match self {
+            Ident::Id(id) => {
+                state.write_u8(0);
+                id.hash(state);
+            }
+            Ident::Name(name) => {
+                state.write_u8(1);
+                name.hash(state);
+            }
+        }
+    }
+}
+
+impl Hash for Elem {
+    ghost hash_input = { elem_writes };
+
+    ghost respects_eq = { elem-alike };
+
+    fn hash<H: Hasher>(&self, state: &mut H) {
+        self.kind.hash(state);
+        self.ident.hash(state);
+    }
+}
+
+impl Hash for Key {
+    ghost hash_input = { key_writes };
+
+    ghost respects_eq = { key-alike };
+
+    fn hash<H: Hasher>(&self, state: &mut H) {
+        self.namespace().hash(state);
+        self.elems().as_slice().hash(state);
     }
 }

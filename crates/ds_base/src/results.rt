@@ -22,7 +22,9 @@ pub type Counts = Sequence<u64>;
 /// A column of an index or of a query: a property or `__key__`, and its direction.
 #[derive(Drop)]
 pub struct Column {
+    /// The property's name, or `__key__`.
     pub name: TextString,
+    /// Whether its values go from the greatest to the least.
     pub descending: bool,
 }
 
@@ -32,7 +34,9 @@ pub type Columns = Sequence<Column>;
 /// A value bound to a name, as an argument of a GQL text.
 #[derive(Drop)]
 pub struct NamedValue {
+    /// The name that the text cites.
     pub name: TextString,
+    /// The value that stands for it.
     pub value: Value,
 }
 
@@ -42,6 +46,7 @@ pub type NamedValues = Sequence<NamedValue>;
 /// One result of a query.
 #[derive(Drop)]
 pub struct Item {
+    /// The key of the entity that matched.
     pub key: Key,
     /// Given exactly where entities are selected.
     pub entity: Option<Entity>,

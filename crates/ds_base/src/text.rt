@@ -1,13 +1,15 @@
 //! Byte strings and texts.
-ghost use Rattle.std.specs.Prelude.{◌≡◌, [], refl, IsUtf8, ◌++◌, OnOk, OnErr, IfOk, List, ℕ, nat_eq, Some};
+ghost use Rattle.std.specs.Prelude.{◌≡◌, ◌↔◌, IsTrue, [], refl, IsUtf8, ◌++◌, OnOk, OnErr, IfOk, List, ℕ, nat_eq, Some};
 ghost use Rattle.std.specs.String.{string_bytes};
-ghost use Rattle.std.specs.Cmp.Lexicographic.{slice_cmp, pointwise, nat_list_cmp_total, nat_list_eq_equiv, texts_ties, texts_po};
+ghost use Rattle.std.specs.Cmp.Lexicographic.{slice_cmp, pointwise, nat_list_cmp_total, nat_list_eq_equiv, texts_ties, texts_po, bytes_decides};
 ghost use Rattle.std.specs.Cmp.{partial_equiv_from_equiv};
 ghost use Rattle.std.specs.Ordering.{nat_cmp};
+ghost use Rattle.std.specs.Hash as fed;
 
 use crate::sequence::TryCopy;
 use std::alloc::{AllocError, Global};
 use std::cmp::Ordering;
+use std::hash::{Hash, Hasher};
 use std::marker::Model;
 
 /// A list of bytes.
@@ -153,7 +155,10 @@ impl PartialEq for TextString {
 
     ghost laws = { partial_equiv_from_equiv nat_list_eq_equiv };
 
-    fn eq(&self, other: &TextString) -> bool {
+    fn eq(&self, other: &TextString) -> bool
+        ensures value { result ≡ pointwise nat_eq self.now other.now }
+        ensures same { IsTrue result ↔ (self.now ≡ other.now) }
+    {
         self.text() == other.text()
     }
 }
@@ -188,12 +193,25 @@ impl Ord for TextString {
     }
 }
 
+impl Hash for TextString {
+    ghost hash_input = { fed.str };
+
+    ghost respects_eq = { (fed.same_Alike fed.str bytes_decides).fed };
+
+    fn hash<H: Hasher>(&self, state: &mut H) {
+        self.text().hash(state);
+    }
+}
+
 impl PartialEq for ByteString {
     ghost eq = { pointwise nat_eq };
 
     ghost laws = { partial_equiv_from_equiv nat_list_eq_equiv };
 
-    fn eq(&self, other: &ByteString) -> bool {
+    fn eq(&self, other: &ByteString) -> bool
+        ensures value { result ≡ pointwise nat_eq self.now other.now }
+        ensures same { IsTrue result ↔ (self.now ≡ other.now) }
+    {
         self.bytes() == other.bytes()
     }
 }

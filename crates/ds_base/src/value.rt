@@ -10,12 +10,15 @@ use std::alloc::{AllocError, Global};
 /// A property's value.
 #[derive(Drop)]
 pub enum Value {
+    /// The value that is no other: least in every order.
     Null,
+    /// A signed number of 64 bits.
     Int(i64),
     /// Microseconds since 1970 began.
     Date(i64),
     /// From 0 to 100 in an entity.
     Rating(u8),
+    /// A truth value.
     Bool(bool),
     /// At most 1,500 bytes where it is indexed.
     Bytes(ByteString),
@@ -25,6 +28,7 @@ pub enum Value {
     Text(TextString),
     /// Long bytes, which no index holds.
     Blob(ByteString),
+    /// A reference to an entity, which may or may not exist.
     Key(Key),
 }
 

@@ -1,4 +1,4 @@
-use Rattle.std.proofs.Common.{◌≡◌, ◌+◌, length, take, min}
+use Rattle.std.proofs.Common.{◌≡◌, ◌+◌, take, min}
 use Rattle.std.specs.Prelude.{sum_by}
 use Rattle.ds_base.specs.Entities.{property_size, key_size}
 use Rattle.ds_base.specs.declared.limits.TheConstants.{MAX_TOLD_SIZE}

@@ -1,4 +1,4 @@
-use Rattle.std.proofs.Common.{◌≡◌, true, ap, sym, ◌∙◌, arith}
+use Rattle.std.proofs.Common.{◌≡◌, true, ap, ◌∙◌, arith}
 use Rattle.ds_base.specs.Keys.{ends_in_id}
 use Rattle.ds_base.specs.Entities.{EntityParts}
 use Rattle.ds_base.proofs.KeyLaws.{IsEntity-renumbered}

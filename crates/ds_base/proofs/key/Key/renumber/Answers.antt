@@ -1,4 +1,3 @@
-use Rattle.std.proofs.Common.{◌≡◌, ap, sym, ◌∙◌}
 use Rattle.ds_base.proofs.KeyLaws.{is_key-renumbered}
 use Rattle.ds_base.proofs.key.Key.renumber.Goals as goal
 
