@@ -1,3 +1,4 @@
 pub mod Marked
 pub mod Loads
 pub mod Found
+pub mod Stores

@@ -1,6 +1,6 @@
 //! The search of two columns of stamps, from which and until before which each entry is seen.
 ghost use Rattle.std.specs.Prelude.{◌≡◌, ℕ, ◌+◌, ◌<◌, ◌≤◌, if◌then◌else◌, nat_le, length, slice_index, IsTrue};
-ghost use Rattle.ds_lanes.specs.Kernels.{first_visible};
+ghost use Rattle.ds_lanes.specs.Kernels.{first_visible, is_visible};
 ghost use Rattle.ds_lanes.specs.Hits.{NoneIn, visible_at};
 
 use crate::masks::lanes_before;
@@ -23,10 +23,18 @@ pub fn first_visible(from: &[u64], to: &[u64], at: u64) -> usize
     ensures not_ended { result < length from.now → at < slice_index to.now result }
 {
     let mut i = pass_unseen_lanes(from, to, at, pass_unseen_blocks(from, to, at));
-    while i < from.len() && (at < from[i] || to[i] <= at) {
+    while i < from.len() && !is_seen(from[i], to[i], at) {
         i += 1;
     }
     i
+}
+
+/// Whether an entry that holds from the stamp `from` until before `to` is seen at `at`.
+#[inline(always)]
+fn is_seen(from: u64, to: u64, at: u64) -> bool
+    ensures { result ≡ is_visible from to at }
+{
+    from <= at && at < to
 }
 
 /// Passes whole blocks in which no entry is seen.

@@ -27,23 +27,31 @@ fn complement_lanes(dst: &mut [u8], src: &[u8]) -> usize
 {
     let mut at = 0;
     while src.len() - at >= LANES {
-        complement_vector(dst, src, at);
+        store(complement_at(src, at), dst, at);
         at += LANES;
     }
     at
 }
 
-/// Writes the complements of the vector at `at`. It is stored by its halves, low half first: a
-/// processor with vectors of 16 bytes writes long slices faster in ascending order, and one with
-/// vectors of 32 makes one store of both.
+/// The complements of the vector at `at`.
 #[inline(always)]
-fn complement_vector(dst: &mut [u8], src: &[u8], at: usize)
-    requires equal { length dst.old ≡ length src.now }
-    requires room { at + LANES ≤ length src.now }
-    ensures kept { (k : ℕ) → k < at → slice_index dst.new k ≡ slice_index dst.old k }
-    ensures written { (k : ℕ) → at ≤ k → k < at + LANES → slice_index dst.new k ≡ 255 - slice_index src.now k }
+fn complement_at(src: &[u8], at: usize) -> u8x32
+    requires { at + LANES ≤ length src.now }
+    ensures long { length result ≡ LANES }
+    ensures each { (k : ℕ) → k < LANES → slice_index result k ≡ 255 - slice_index src.now (at + k) }
 {
-    let lanes = u8x32::splat(255) - u8x32::from_slice(&src[at..]);
+    u8x32::splat(255) - u8x32::from_slice(&src[at..])
+}
+
+/// Stores a vector by its halves, the low one first. A processor with vectors of 16 bytes fills long
+/// slices faster in ascending order, and one with vectors of 32 makes one store of both.
+#[inline(always)]
+fn store(lanes: u8x32, dst: &mut [u8], at: usize)
+    requires long { length lanes ≡ LANES }
+    requires room { at + LANES ≤ length dst.old }
+    ensures kept { (k : ℕ) → k < at → slice_index dst.new k ≡ slice_index dst.old k }
+    ensures written { (k : ℕ) → k < LANES → slice_index dst.new (at + k) ≡ slice_index lanes k }
+{
     lanes.extract::<0, 16>().copy_to_slice(&mut dst[at..]);
     lanes.extract::<16, 16>().copy_to_slice(&mut dst[at + 16..]);
 }
