@@ -8,6 +8,8 @@ mod bytes;
 mod columns;
 mod complements;
 mod masks;
+#[cfg(test)]
+mod tests;
 
 pub use bytes::{common_prefix, first_zero};
 pub use columns::first_visible;
