@@ -1,5 +1,5 @@
 -- Which lanes the comparisons of the kernels set, of a vector that was loaded from a slice.
-use Rattle.std.proofs.Common.{◌≡◌, ℕ, ◌+◌, ◌<◌, ◌≤◌, true, false, cond, List, map, length, get_or, replicate, eqb, leb, ltb, not, ap, ap₂, sym, ◌∙◌, lit≤, arith, w64}
+use Rattle.std.proofs.Common.{◌≡◌, ℕ, ◌+◌, ◌<◌, ◌≤◌, false, cond, List, map, length, get_or, replicate, eqb, leb, ltb, not, ap, ap₂, sym, ◌∙◌, lit≤, arith, w64}
 use Rattle.std.proofs.lemmas.Bool.{and_parts, cond-true}
 use Rattle.std.proofs.lemmas.Simd.{get_or-chunk, get_or-replicate, get_or-sel_l, get_or-zip2, length-chunk, length-replicate, length-sel_l, length-zip2, tops_compared}
 use lib.Lanes.{chunk, sel_l, top, zip2}
