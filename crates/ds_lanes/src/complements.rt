@@ -25,12 +25,12 @@ fn complement_lanes(dst: &mut [u8], src: &[u8]) -> usize
     ensures within { result ≤ length src.now }
     ensures written { (k : ℕ) → k < result → slice_index dst.new k ≡ 255 - slice_index src.now k }
 {
-    let mut at = 0;
-    while src.len() - at >= LANES {
+    let whole = src.len() / LANES;
+    for chunk in 0..whole {
+        let at = chunk * LANES;
         store(complement_at(src, at), dst, at);
-        at += LANES;
     }
-    at
+    whole * LANES
 }
 
 /// The complements of the vector at `at`.
