@@ -1,0 +1,5 @@
+pub mod Marked
+pub mod Loads
+pub mod Found
+pub mod Stores
+pub mod Laws

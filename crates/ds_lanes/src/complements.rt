@@ -1,0 +1,57 @@
+//! The bytes of a slice turned round, so that their order is reversed.
+ghost use Rattle.std.specs.Prelude.{◌≡◌, ℕ, ◌+◌, ◌-◌, ◌<◌, ◌≤◌, length, slice_index};
+ghost use Rattle.ds_lanes.specs.Kernels.{complement};
+
+use std::simd::prelude::*;
+
+/// How many bytes a vector holds.
+const LANES: usize = 32;
+
+/// Leaves each byte of `dst` as 255 minus that of `src`, so that a greater byte comes out as a lesser.
+pub fn complement(dst: &mut [u8], src: &[u8])
+    requires { length dst.old ≡ length src.now }
+    ensures { dst.new ≡ complement src.now }
+{
+    let done = complement_lanes(dst, src);
+    for i in done..src.len() {
+        dst[i] = 255 - src[i];
+    }
+}
+
+/// Writes the complements of whole vectors, and gives how many bytes those are.
+#[inline(always)]
+fn complement_lanes(dst: &mut [u8], src: &[u8]) -> usize
+    requires { length dst.old ≡ length src.now }
+    ensures within { result ≤ length src.now }
+    ensures written { (k : ℕ) → k < result → slice_index dst.new k ≡ 255 - slice_index src.now k }
+{
+    let whole = src.len() / LANES;
+    for chunk in 0..whole {
+        let at = chunk * LANES;
+        store(complement_at(src, at), dst, at);
+    }
+    whole * LANES
+}
+
+/// The complements of the vector at `at`.
+#[inline(always)]
+fn complement_at(src: &[u8], at: usize) -> u8x32
+    requires { at + LANES ≤ length src.now }
+    ensures long { length result ≡ LANES }
+    ensures each { (k : ℕ) → k < LANES → slice_index result k ≡ 255 - slice_index src.now (at + k) }
+{
+    u8x32::splat(255) - u8x32::from_slice(&src[at..])
+}
+
+/// Stores a vector by its halves, the low one first. A processor with vectors of 16 bytes fills long
+/// slices faster in ascending order, and one with vectors of 32 makes one store of both.
+#[inline(always)]
+fn store(lanes: u8x32, dst: &mut [u8], at: usize)
+    requires long { length lanes ≡ LANES }
+    requires room { at + LANES ≤ length dst.old }
+    ensures kept { (k : ℕ) → k < at → slice_index dst.new k ≡ slice_index dst.old k }
+    ensures written { (k : ℕ) → k < LANES → slice_index dst.new (at + k) ≡ slice_index lanes k }
+{
+    lanes.extract::<0, 16>().copy_to_slice(&mut dst[at..]);
+    lanes.extract::<16, 16>().copy_to_slice(&mut dst[at + 16..]);
+}
