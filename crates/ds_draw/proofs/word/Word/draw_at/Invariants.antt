@@ -1,0 +1,5 @@
+use Rattle.std.proofs.Common.{◌≡◌}
+use Rattle.ds_draw.proofs.word.Word.draw_at.Given as goal
+
+abbrev pub invariant-loop : goal.invariant-loop
+invariant-loop g l = (l.seat.word ≡ l.initial.seat.word) × (l.seat.draws ≡ l.initial.seat.draws)
