@@ -89,3 +89,22 @@ impl Seats {
         self.items.pop()
     }
 }
+
+/// The seats of a vector, in its order. It takes no memory, so a caller can take the room for all seats beforehand.
+impl From<Vec<Seat>> for Seats {
+    ghost from_gives = { λ items seats. seats ≡ items.items };
+
+    fn from(items: Vec<Seat>) -> Seats {
+        Seats { items }
+    }
+}
+
+/// The vector of the seats, in their order. It takes no memory.
+impl From<Seats> for Vec<Seat> {
+    ghost from_gives = { λ seats items. items.items ≡ seats };
+
+    fn from(seats: Seats) -> Vec<Seat> {
+        let Seats { items } = seats;
+        items
+    }
+}

@@ -1,0 +1,86 @@
+//! Threads that draw from one word. What they drew is proved from the public clauses alone, and tested.
+ghost use Rattle.std.specs.Prelude.{◌≡◌, ◌+◌, ◌*◌, ◌^◌, ◌<◌, ◌≤◌, ◌++◌, [], IfOk};
+ghost use Rattle.ds_draw.specs.Draws.{HasEachOnce};
+
+use super::*;
+use std::sync::{Mutex, Wait};
+use std::test::Fail;
+use std::thread::{Threads, join};
+
+const LIMIT: u64 = i64::MAX as u64;
+
+// Draws single numbers where the word stands, each while it holds the lock, and collects them.
+fn draw_many<Rt: Threads + Wait + Sync>(
+    rt: &Rt,
+    alloc: Global,
+    word: &Word,
+    turn: &Mutex<()>,
+    mut seat: Seat,
+    many: usize,
+) -> Result<(Seat, Vec<u64>), AllocError>
+    requires word { seat.word ≡ word.now.name }
+    requires new { seat.draws ≡ [] }
+    ensures { IfOk result (λ r. (r.0.word ≡ word.now.name) × (r.0.draws ≡ r.1.items)) }
+{
+    let mut numbers = Vec::new(alloc);
+    for _ in 0..many {
+        numbers.reserve(1)?;
+        let guard = turn.lock(rt);
+        let at = word.look(&mut seat);
+        if at == LIMIT {
+            break;
+        }
+        word.draw_at(rt, &mut seat, at, 1);
+        numbers.push(at)?;
+        drop(guard);
+    }
+    Ok((seat, numbers))
+}
+
+// Two threads draw from one word, which begins at 1: where it stands at the end, and what each drew.
+fn two_threads<Rt: Threads + Wait + Sync>(
+    rt: &Rt,
+    alloc: Global,
+    many: usize,
+) -> Result<(u64, Vec<u64>, Vec<u64>), AllocError>
+    ensures { IfOk result (λ r. HasEachOnce 1 r.0 (r.1.items ++ r.2.items)) }
+{
+    let Drawn { word, mut seats } = make(alloc, 1, 2)?;
+    let (Some(second), Some(first)) = (seats.pop(), seats.pop()) else {
+        unreachable!()
+    };
+    let lock = Mutex::new(());
+    let (shared, turn) = (&word, &lock);
+    let (one, other) = join(
+        rt,
+        move || -> Result<(Seat, Vec<u64>), AllocError>
+            requires { (first.word ≡ shared.now.name) × (first.draws ≡ []) }
+            ensures { IfOk result (λ r. (r.0.word ≡ shared.entry.now.name) × (r.0.draws ≡ r.1.items)) }
+        { draw_many(rt, alloc, shared, turn, first, many) },
+        move || -> Result<(Seat, Vec<u64>), AllocError>
+            requires { (second.word ≡ shared.now.name) × (second.draws ≡ []) }
+            ensures { IfOk result (λ r. (r.0.word ≡ shared.entry.now.name) × (r.0.draws ≡ r.1.items)) }
+        { draw_many(rt, alloc, shared, turn, second, many) },
+    );
+    let (first, ones) = one?;
+    let (second, others) = other?;
+    let mut all = Vec::with_capacity(alloc, 2)?;
+    all.push(first)?;
+    all.push(second)?;
+    let end = word.close(Seats::from(all));
+    Ok((end, ones, others))
+}
+
+#[test]
+fn two_threads_draw_each_number_once(rt: HostRuntime) -> Result<(), Fail> {
+    let (end, mut all, others) = two_threads(&rt, rt.alloc(), 1000)?;
+    assert_eq!(rt; (end, all.len(), others.len()), (2001, 1000, 1000));
+    all.extend_from_slice(&others)?;
+    all.sort()?;
+    let mut next = 1;
+    for number in &all {
+        assert_eq!(rt; *number, next);
+        next = number.wrapping_add(1);
+    }
+    Ok(())
+}
