@@ -50,13 +50,9 @@ pub fn make(alloc: Global, first: u64, seats: u32) -> Result<Drawn, AllocError>
     let mut all = Seats::new(alloc);
     for _ in 1..seats {
         let inner = table.shared.split_seat::<OnePart>(&mut giver);
-        if all.push(Seat { inner }).is_err() {
-            return Err(AllocError);
-        }
+        all.push(Seat { inner }).map_err(|_| AllocError)?;
     }
-    if all.push(Seat { inner: giver }).is_err() {
-        return Err(AllocError);
-    }
+    all.push(Seat { inner: giver }).map_err(|_| AllocError)?;
     Ok(Drawn {
         word: Word { table },
         seats: all,

@@ -84,3 +84,51 @@ fn two_threads_draw_each_number_once(rt: HostRuntime) -> Result<(), Fail> {
     }
     Ok(())
 }
+
+// Draws every second number, waiting for the word to come to each.
+fn draw_every_second<Rt: Threads + Wait + Sync>(
+    rt: &Rt,
+    word: &Word,
+    mut seat: Seat,
+    first: u64,
+) -> Seat
+    requires word { seat.word ≡ word.now.name }
+    requires first { first < 2 ^ 32 }
+    ensures { result.word ≡ word.now.name }
+{
+    for i in 0..100 {
+        word.draw_at(rt, &mut seat, first + 2 * i, 1);
+    }
+    seat
+}
+
+// Two threads draw in turn from one word, which begins at 1: what a look finds then, and whether the list of seats gave
+// them out as it says.
+fn in_turn<Rt: Threads + Wait + Sync>(rt: &Rt, alloc: Global) -> Result<(u64, bool), AllocError> {
+    let Drawn { word, mut seats } = make(alloc, 1, 2)?;
+    let had_two = seats.len() == 2 && seats.get(1).is_some() && seats.get(2).is_none();
+    let (Some(even), Some(odd)) = (seats.pop(), seats.pop()) else {
+        unreachable!()
+    };
+    let shared = &word;
+    let (mut seat, other) = join(
+        rt,
+        move || -> Seat
+            requires { even.word ≡ shared.now.name }
+            ensures { result.word ≡ shared.entry.now.name }
+        { draw_every_second(rt, shared, even, 2) },
+        move || -> Seat
+            requires { odd.word ≡ shared.now.name }
+            ensures { result.word ≡ shared.entry.now.name }
+        { draw_every_second(rt, shared, odd, 1) },
+    );
+    let has_none = seats.is_empty() && seats.pop().is_none();
+    drop(other);
+    Ok((word.look(&mut seat), had_two && has_none))
+}
+
+#[test]
+fn a_draw_waits_until_the_word_comes(rt: HostRuntime) -> Result<(), Fail> {
+    assert_eq!(rt; in_turn(&rt, rt.alloc())?, (201, true));
+    Ok(())
+}
