@@ -97,11 +97,11 @@ draws {S} start slots by me from to some_part up small s kept homes at fits = go
             let c : times n (numbers start.first from ++ numbers from to) ≡ times n (numbers start.first to) = ap (times n) (numbers-append start.first from to (omega arith) (omega arith)) in
             let d : times n (numbers start.first found) ≡ times n (numbers start.first from) = ap (λ k. times n (numbers start.first k)) here in
             omega arith) in
-        (drew me.0 from to, keeps, tt, rises start s s.homes by me.0 (drew me.0 from to) to kept at some_part refl (omega arith) small (omega arith) grows, ((λ _. refl), (λ other. absurd (other here))))
+        (drew me.0 from to, keeps, tt, rises start s s.homes by me.0 (drew me.0 from to) to kept at some_part refl (omega arith) small (omega arith) grows, (kept.counters by me.0 at, (λ _. refl), (λ other. absurd (other here))))
     go false e =
         let apart : found ≢ from = grind (arith, nat_tests) in
         let known = kept.counters by me.0 at in
-        (looked me.0 found, keeps, tt, rises start s s.homes by me.0 (looked me.0 found) found kept at some_part refl (omega arith) kept.limit (omega arith) (λ n. refl), ((λ same. absurd (apart same)), (λ _. (known, kept.limit, refl))))
+        (looked me.0 found, keeps, tt, rises start s s.homes by me.0 (looked me.0 found) found kept at some_part refl (omega arith) kept.limit (omega arith) (λ n. refl), (known, (λ same. absurd (apart same)), (λ _. refl)))
 
 pub begins : {S : Type 0} (start : Start) → 0 < start.seats → start.first < 2 ^ 63 → IsKept {S = S} start (opening (start.first ∷ []) [] (opens start))
 begins start some_seat small = record {

@@ -41,8 +41,9 @@ impl Word {
     }
 
     /// Draws the numbers from `at` up to but without `at + count` by the one exchange that finds the word at `at`;
-    /// `at + count` is the seat's counter then. An exchange that finds another number is a look, and is tried again:
-    /// the call waits until the word comes to stand at `at`, and never returns where it doesn't. It takes no memory.
+    /// `at + count` is the seat's counter then, which wasn't above `at` before. An exchange that finds another number is
+    /// a look, and is tried again: the call waits until the word comes to stand at `at`, and never returns where it
+    /// doesn't. It takes no memory.
     pub fn draw_at<Rt: Threads + Wait + Sync>(
         &self,
         rt: &Rt,
@@ -53,7 +54,8 @@ impl Word {
         requires word { seat.old.word ≡ self.now.name }
         requires some { 0 < count }
         requires limit { at + count < 2 ^ 63 }
-        ensures { seat.new ≡ record { word = seat.old.word; draws = seat.old.draws ++ numbers at (at + count); counter = at + count } }
+        ensures drawn { seat.new ≡ record { word = seat.old.word; draws = seat.old.draws ++ numbers at (at + count); counter = at + count } }
+        ensures risen { seat.old.counter ≤ at }
     {
         for _ in rt.forever() {
             if self.try_draw(seat, at, count) {
@@ -71,7 +73,8 @@ impl Word {
         requires limit { at + count < 2 ^ 63 }
         ensures word { seat.new.word ≡ seat.old.word }
         ensures draws { MatchBool result (seat.new.draws ≡ seat.old.draws ++ numbers at (at + count)) (seat.new.draws ≡ seat.old.draws) }
-        ensures counter { IsTrue result → seat.new.counter ≡ at + count }
+        ensures counter { IsTrue result → (seat.new.counter ≡ at + count) × (seat.old.counter ≤ at) }
+        ensures risen { seat.old.counter ≤ seat.new.counter }
     {
         let found = self
             .table
