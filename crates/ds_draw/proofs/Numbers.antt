@@ -53,12 +53,12 @@ IsPermutation-from_times (x ∷ xs) ys h =
     let e = h x in
     let s = split_at x ys (omega arith) in
     let fewer : (n : ℕ) → times n xs ≡ times n (s.0 ++ s.1) = λ n.
-        (let e : times n (x ∷ xs) ≡ times n (s.0 ++ x ∷ s.1) = h n ∙ ap (times n) s.2 in
-        let a = times-append n s.0 (x ∷ s.1) in
-        let b = times-append n s.0 s.1 in
-        let c = times-cons n x s.1 in
-        let d = times-cons n x xs in
-        omega arith) in
+    (let e : times n (x ∷ xs) ≡ times n (s.0 ++ x ∷ s.1) = h n ∙ ap (times n) s.2 in
+    let a = times-append n s.0 (x ∷ s.1) in
+    let b = times-append n s.0 s.1 in
+    let c = times-cons n x s.1 in
+    let d = times-cons n x xs in
+    omega arith) in
     let rest = IsPermutation-cons x xs (s.0 ++ s.1) (IsPermutation-from_times xs (s.0 ++ s.1) fewer) in
     let whole = IsPermutation-trans (x ∷ xs) (x ∷ (s.0 ++ s.1)) (s.0 ++ x ∷ s.1) rest (IsPermutation-sym (s.0 ++ x ∷ s.1) (x ∷ (s.0 ++ s.1)) (IsPermutation-middle s.0 x s.1)) in
     subst (λ (l : List ℕ). IsPermutation (x ∷ xs) l) (sym s.2) whole

@@ -1,18 +1,17 @@
 -- Each kind of step keeps the rule.
-use Rattle.std.proofs.Common.{◌≡◌, ◌≢◌, ◌⊎◌, ℕ, zero, suc, ◌+◌, ◌-◌, ◌^◌, ◌<◌, ◌≤◌, Bool, true, false, List, [], ◌∷◌, ◌++◌, length, set, refl, sym, ap, ◌∙◌, subst, ⊎_elim, arith, max}
+use Rattle.std.proofs.Common.{◌≡◌, ◌≢◌, ℕ, zero, suc, ◌+◌, ◌^◌, ◌<◌, ◌≤◌, Bool, true, false, List, [], ◌∷◌, ◌++◌, length, set, refl, sym, ap, ◌∙◌, subst, ⊎_elim, arith}
 use Rattle.std.specs.Prelude.{sum_by, slice_index, ◌==◌}
-use Rattle.std.specs.List.{range_with_len}
 use mathlib.Core.Option.{Option, some, none, some-ne-none, some-injective}
 use lib.ListN.{get_elem?}
 use prog.Atomic.{either}
 use Rattle.std.proofs.lemmas.Bool.Decides.{nat_tests}
 use Rattle.std.proofs.lemmas.List.Sums.{sum_by_push, sum_by-cons}
-use Rattle.atomic_table.specs.Table.{State, Act, Step, step, Me, keeps, carried_after, Valid, stepped, Allows, Splits, Joins, opening, Final, Seen}
+use Rattle.atomic_table.specs.Table.{State, Act, step, Me, keeps, carried_after, Valid, stepped, Allows, Splits, Joins, Final, Seen}
 use Rattle.atomic_table.proofs.Lists.{at_set, at_snoc}
 use Rattle.ds_draw.specs.declared.rule.Known.{Known}
 use Rattle.ds_draw.specs.declared.rule.Start.{Start}
 use Rattle.ds_draw.specs.Draws.{numbers, HasEachOnce}
-use Rattle.ds_draw.specs.Rule.{times, opens, spent_seat, looked, drew, split_left, split_right, joined, IsKept, Looks, Draws}
+use Rattle.ds_draw.specs.Rule.{times, spent_seat, looked, drew, split_left, split_right, joined, IsKept, Looks, Draws}
 use Rattle.ds_draw.proofs.Numbers.{times-append, numbers-append, IsPermutation-from_times}
 
 -- the sum after one view has changed
@@ -75,49 +74,38 @@ rises start s homes by v w to kept at some_part same_parts up small known grows 
       spent = each_set IsSpent IsSpent s.views by w (λ u h. h) kept.spent (λ none_left. absurd (omega arith));
     }
 
+-- a look keeps the rule
 pub looks : {S : Type 0} (start : Start) (slots by : ℕ) (me : Me S Known) (first : ℕ) → 0 < me.0.parts → Allows (IsKept start) slots by me 0 (λ n. n) (Looks (step slots 0 first 0 none) me)
 looks start slots by me first some_part s kept homes at fits =
     let found = slice_index s.words 0 in
     let known = kept.counters by me.0 at in
     (looked me.0 found, keeps, tt, rises start s s.homes by me.0 (looked me.0 found) found kept at some_part refl (omega arith) kept.limit (omega arith) (λ n. refl), (known, kept.limit, refl))
 
+-- so does an exchange, whether it draws or looks
 pub draws : {S : Type 0} (start : Start) (slots by : ℕ) (me : Me S Known) (from to : ℕ) → 0 < me.0.parts → from < to → to < 2 ^ 63
     → Allows (IsKept start) slots by me 0 (λ n. either (n == from) to n) (Draws (step slots 0 from to none) me)
 draws {S} start slots by me from to some_part up small s kept homes at fits = go (found == from) refl
   where
     found : ℕ
     found = slice_index s.words 0
+
     go : (b : Bool) → (found == from) ≡ b → (w : Known) × (a : Act S) × Valid s.homes me.1 a × IsKept start (stepped s 0 (either b to found) by me.1 w a) × Draws (step slots 0 from to none) me found (w, carried_after me.1 a)
     go true e =
         let here : found ≡ from = grind (arith, nat_tests) in
         let begins = kept.begins in
         let grows : (n : ℕ) → times n (me.0.drawn ++ numbers from to) + times n (numbers start.first found) ≡ times n me.0.drawn + times n (numbers start.first to) = λ n.
-            (let a = times-append n me.0.drawn (numbers from to) in
-            let b = times-append n (numbers start.first from) (numbers from to) in
-            let c : times n (numbers start.first from ++ numbers from to) ≡ times n (numbers start.first to) = ap (times n) (numbers-append start.first from to (omega arith) (omega arith)) in
-            let d : times n (numbers start.first found) ≡ times n (numbers start.first from) = ap (λ k. times n (numbers start.first k)) here in
-            omega arith) in
+        (let a = times-append n me.0.drawn (numbers from to) in
+        let b = times-append n (numbers start.first from) (numbers from to) in
+        let c : times n (numbers start.first from ++ numbers from to) ≡ times n (numbers start.first to) = ap (times n) (numbers-append start.first from to (omega arith) (omega arith)) in
+        let d : times n (numbers start.first found) ≡ times n (numbers start.first from) = ap (λ k. times n (numbers start.first k)) here in
+        omega arith) in
         (drew me.0 from to, keeps, tt, rises start s s.homes by me.0 (drew me.0 from to) to kept at some_part refl (omega arith) small (omega arith) grows, (kept.counters by me.0 at, (λ _. refl), (λ other. absurd (other here))))
     go false e =
         let apart : found ≢ from = grind (arith, nat_tests) in
         let known = kept.counters by me.0 at in
         (looked me.0 found, keeps, tt, rises start s s.homes by me.0 (looked me.0 found) found kept at some_part refl (omega arith) kept.limit (omega arith) (λ n. refl), (known, (λ same. absurd (apart same)), (λ _. refl)))
 
-pub begins : {S : Type 0} (start : Start) → 0 < start.seats → start.first < 2 ^ 63 → IsKept {S = S} start (opening (start.first ∷ []) [] (opens start))
-begins start some_seat small = record {
-  one_word = refl;
-  begins = omega arith;
-  limit = small;
-  parts = grind arith;
-  each_once = λ n. (let none_left : start.first - start.first ≡ 0 = omega arith in ap (λ k. times n (range_with_len start.first k)) (sym none_left));
-  counters = one (λ v. v.counter ≤ start.first) (omega arith);
-  spent = one IsSpent (λ none_left. absurd (omega arith));
-}
-  where
-    one : (P : Known → Type 0) → P (opens start) → (by : ℕ) (v : Known) → get_elem? (opens start ∷ []) by ≡ some v → P v
-    one P mine zero v e = subst P (some-injective _ _ e) mine
-    one P mine (suc by) v e = absurd (some-ne-none v (sym e))
-
+-- so does a split of a seat with more than one part
 pub splits : {S : Type 0} (start : Start) (by : ℕ) (v : Known) → 1 < v.parts → Splits (IsKept {S = S} start) by v (split_left v) (split_right v)
 splits start by v some_parts s kept at =
     let left = split_left v in
@@ -134,6 +122,7 @@ splits start by v some_parts s kept at =
       spent = each_snoc IsSpent views right (each_set IsSpent IsSpent s.views by left (λ u h. h) kept.spent (λ none_left. absurd (omega arith))) (λ none_left. absurd (omega arith));
     }
 
+-- so does a join into a seat with a part
 pub joins : {S : Type 0} (start : Start) (by : ℕ) (v : Known) (other : ℕ) (w : Known) → 0 < v.parts → Joins (IsKept {S = S} start) by v other w (joined v w) spent_seat
 joins start by v other w some_part s kept at apart there =
     let both = joined v w in
@@ -172,7 +161,7 @@ ends_at start s by v kept at whole = record {
       let p = kept.parts in
       let idle = each_set IsSpent IsSpent s.views by spent_seat (λ u h. h) kept.spent (λ _. (refl, refl)) in
       let others : sum_by (λ (u : Known). times n u.drawn) views ≡ 0 =
-          sum_none (λ (u : Known). times n u.drawn) views (omega arith) (λ j u e none_left. ap (times n) (idle j u e none_left).0) in
+      sum_none (λ (u : Known). times n u.drawn) views (omega arith) (λ j u e none_left. ap (times n) (idle j u e none_left).0) in
       let r = sum_set (λ (u : Known). times n u.drawn) s.views by v spent_seat at in
       let q = kept.each_once n in
       omega arith));
@@ -185,6 +174,7 @@ first_word : (words : List ℕ) (word : ℕ) → get_elem? words 0 ≡ some word
 first_word [] word e = absurd (some-ne-none word (sym e))
 first_word (x ∷ xs) word e = some-injective x word e
 
+-- what the closing of the table tells of a seat with all parts
 pub ends : {S : Type 0} (start : Start) (by : ℕ) (v : Known) (words : List ℕ) (slots : List S) (word : ℕ) → Final (Seen (IsKept start) by v) words slots → get_elem? words 0 ≡ some word → v.parts ≡ start.seats → Ends start word v
 ends start by v words slots word final found whole =
     let s = final.0 in

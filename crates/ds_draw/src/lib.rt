@@ -17,12 +17,11 @@ mod rule;
 mod seat;
 mod word;
 
-pub use seat::{Seat, Seats};
-pub use word::Word;
-
 use crate::rule::{EachOnce, OnePart, Start};
 use atomic_table::Table;
+pub use seat::{Seat, Seats};
 use std::alloc::{AllocError, Global};
+pub use word::Word;
 
 /// What `make` gives: a word, and all its seats.
 #[derive(Drop)]

@@ -1,5 +1,5 @@
 use Rattle.std.proofs.Common.{rules, arith}
-use Rattle.ds_draw.proofs.Steps.{begins, splits}
+use Rattle.ds_draw.proofs.Steps.{splits}
 use Rattle.ds_draw.proofs.make.Goals as goal
 
 pub split_seat-inner-requires : goal.split_seat-inner-requires

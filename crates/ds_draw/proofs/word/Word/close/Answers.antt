@@ -1,7 +1,8 @@
-use Rattle.std.proofs.Common.{◌≡◌, ◌++◌, [], ◌∷◌, rules, arith, sym, ap, ◌∙◌, subst, length}
+use Rattle.std.proofs.Common.{◌≡◌, ◌++◌, [], ◌∷◌, arith, sym, ap, ◌∙◌, subst, length}
 use Rattle.std.specs.Prelude.{All}
 use Rattle.ds_draw.specs.Draws.{SeatView, draws_of}
-use Rattle.ds_draw.proofs.Gathered.{All-middle, HasEachOnce-same}
+use Rattle.ds_draw.proofs.Gathered.{All-middle}
+use Rattle.ds_draw.proofs.EachOnce.{HasEachOnce-same}
 use Rattle.ds_draw.proofs.Steps.{joins, ends}
 use Rattle.ds_draw.proofs.word.Word.close.Goals as goal
 

@@ -1,6 +1,5 @@
-use Rattle.std.proofs.Common.{◌≡◌, ◌+◌, ◌≤◌, ◌++◌, List, [], length}
-use Rattle.std.specs.Prelude.{All}
-use Rattle.ds_draw.specs.Draws.{SeatView, draws_of}
+use Rattle.std.proofs.Common.{◌≡◌, ◌++◌, List, [], length}
+use Rattle.ds_draw.specs.Draws.{SeatView}
 use Rattle.ds_draw.proofs.Gathered.{Gathered}
 use Rattle.ds_draw.proofs.word.Word.close.Given as goal
 
