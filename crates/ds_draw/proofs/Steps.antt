@@ -82,7 +82,7 @@ looks start slots by me first some_part s kept homes at fits =
     (looked me.0 found, keeps, tt, rises start s s.homes by me.0 (looked me.0 found) found kept at some_part refl (omega arith) kept.limit (omega arith) (λ n. refl), (known, kept.limit, refl))
 
 -- so does an exchange, whether it draws or looks
-pub draws : {S : Type 0} (start : Start) (slots by : ℕ) (me : Me S Known) (from to : ℕ) → 0 < me.0.parts → from < to → to < 2 ^ 63
+pub draws : {S : Type 0} (start : Start) (slots by : ℕ) (me : Me S Known) (from to : ℕ) → 0 < me.0.parts → from ≤ to → to < 2 ^ 63
     → Allows (IsKept start) slots by me 0 (λ n. either (n == from) to n) (Draws (step slots 0 from to none) me)
 draws {S} start slots by me from to some_part up small s kept homes at fits = go (found == from) refl
   where
