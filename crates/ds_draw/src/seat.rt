@@ -1,5 +1,5 @@
 //! A seat: a thread's right to draw numbers, and the list type of seats.
-ghost use Rattle.std.specs.Prelude.{◌≡◌, ◌<◌, ◌++◌, [], ◌∷◌, length, MatchOption, MatchResult, IsTrue, ◌↔◌, Some, None, slice_get};
+ghost use Rattle.std.specs.Prelude.{◌≡◌, ◌++◌, [], ◌∷◌, length, MatchOption, MatchResult, IsTrue, ◌↔◌, Some, None, slice_get};
 
 use crate::rule::Known;
 use atomic_table::Seat as TableSeat;

@@ -1,5 +1,5 @@
 //! Threads that draw from one word. What they drew is proved from the public clauses alone, and tested.
-ghost use Rattle.std.specs.Prelude.{◌≡◌, ◌+◌, ◌*◌, ◌^◌, ◌<◌, ◌≤◌, ◌++◌, [], IfOk};
+ghost use Rattle.std.specs.Prelude.{◌≡◌, ◌^◌, ◌<◌, ◌++◌, [], IfOk};
 ghost use Rattle.ds_draw.specs.Draws.{HasEachOnce};
 
 use super::*;

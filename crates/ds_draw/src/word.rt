@@ -1,5 +1,5 @@
 //! A word that only rises, and the calls that look at it and draw numbers from it.
-ghost use Rattle.std.specs.Prelude.{◌≡◌, ◌≢◌, ◌+◌, ◌^◌, ◌<◌, ◌≤◌, ◌++◌, length, All, IsTrue, MatchBool};
+ghost use Rattle.std.specs.Prelude.{◌≡◌, ◌+◌, ◌^◌, ◌<◌, ◌≤◌, ◌++◌, length, All, IsTrue, MatchBool};
 ghost use Rattle.ds_draw.specs.Draws.{numbers, draws_of, HasEachOnce};
 
 use crate::rule::{BothSeats, Draw, EachOnce, Known, Look, Start};
