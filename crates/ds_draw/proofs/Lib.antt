@@ -1,0 +1,4 @@
+pub mod EachOnce
+pub mod Gathered
+pub mod Numbers
+pub mod Steps
