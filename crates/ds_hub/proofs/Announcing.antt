@@ -23,7 +23,7 @@ module _ {O : Type 0} where
       let same : joined v ≡ joined log = begins_whole (joined v) (joined log) (joined_begins v log pre) (omega arith) in
       let more : joined (log ++ batch ∷ []) ≡ joined log ++ batch = joined-one_more log batch in
       let n : either (length (joined log) == old) (old + count) (length (joined log)) ≡ length (joined (log ++ batch ∷ [])) =
-          rw (is, more) (omega (arith, length-append (joined log) batch)) in (
+      rw (is, more) (omega (arith, length-append (joined log) batch)) in (
         keeps,
         batch ∷ [],
         None,

@@ -1,6 +1,9 @@
 -- Lists that begin a list, and the batches of a history.
 use Rattle.std.proofs.Common.{◌≡◌, ℕ, zero, suc, ◌≤◌, List, [], ◌∷◌, ◌++◌, length, refl, ap, sym, ◌∙◌, arith, append_assoc, length-append}
 use Rattle.std.proofs.lemmas.List.{append-nil}
+use Rattle.std.proofs.lemmas.Bool.{leb-true, le-leb}
+use Rattle.std.specs.Prelude.{IsTrue, ◌↔◌}
+use Rattle.std.proofs.Math.Dec.{leb}
 use mathlib.Core.List.{IsPrefix}
 use Rattle.ds_hub.specs.Line.{joined}
 
@@ -45,3 +48,10 @@ module _ {O : Type 0} where
   -- what begins a history holds operations that begin the operations of the history
   pub joined_begins : (xs ys : List (List O)) → IsPrefix xs ys → IsPrefix (joined xs) (joined ys)
   joined_begins xs ys p = (joined p.0, sym (joined-append xs p.0) ∙ ap joined p.1)
+
+  -- which of two beginnings of one list begins the other is told by their lengths
+  pub begins_by_length : (xs ys zs : List O) (m n : ℕ) → m ≡ length xs → n ≡ length ys → IsPrefix xs zs → IsPrefix ys zs → IsTrue (leb m n) ↔ IsPrefix xs ys
+  begins_by_length xs ys zs m n lm ln p q = (
+    (λ t. begins_longer xs ys zs p q (let le : m ≤ n = leb-true m n t in omega arith)),
+    (λ b. le-leb m n (let le = begins_no_longer xs ys b in omega arith)),
+  )

@@ -1,5 +1,5 @@
 //! What a thread knows of the list that a hub publishes.
-ghost use Rattle.std.specs.Prelude.{◌≡◌, ◌+◌, ◌<◌, ◌^◌, ◌++◌, ◌⊎◌, [], None, length, MatchBool};
+ghost use Rattle.std.specs.Prelude.{◌≡◌, ◌+◌, ◌<◌, ◌^◌, ◌++◌, ◌⊎◌, ◌↔◌, IsTrue, [], None, length, MatchBool};
 ghost use mathlib.Core.List.{IsPrefix};
 
 use crate::history::{Announce, History, Nothing};
@@ -116,6 +116,16 @@ impl<O> Prefix<O> {
             held: self.held,
             seen: self.seen.again(),
         }
+    }
+
+    /// Whether the other prefix of this hub begins with this one.
+    pub fn begins(&self, other: &Prefix<O>) -> bool
+        requires { other.now.hub ≡ self.now.hub }
+        ensures { IsTrue result ↔ IsPrefix self.now.list other.now.list }
+    {
+        let mut both = self.seen.again();
+        both.learn(&other.seen);
+        self.held <= other.held
     }
 
     /// The longer of two prefixes of one hub, which the other begins.
