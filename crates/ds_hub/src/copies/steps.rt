@@ -56,7 +56,10 @@ impl<O: Drop, T: Absorb<Step<O>> + Drop, V, P: Protocol<T, V>> Copies<O, T, V, P
         replace_with(
             &mut self.writer,
             rt,
-            |writer: Writer<T, Step<O>, V, P>, rt: &R| -> (Writer<T, Step<O>, V, P>, Result<(), AllocError>)
+            |writer: Writer<T, Step<O>, V, P>, rt: &R| -> (
+                Writer<T, Step<O>, V, P>,
+                Result<(), AllocError>,
+            )
                 requires { (next : T) → T.state next ≡ fold T.applied (T.state writer.desk.shown.value) (drop writer.behind writer.log.items) → TurnsAt P.holds writer.desk.place.id (knows writer.desk.place) writer.desk.shown.value next M.then }
             { writer.publish_as::<M, R>(rt) },
         )
