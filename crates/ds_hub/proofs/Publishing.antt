@@ -21,6 +21,6 @@ module _ {T O S : Type 0} (applied : T → O → T) (state : S → T) where
   publishes hub knows shown steps announced marked unmarked waiting seat r same list next is =
       let e = is ∙ stepped-mark applied (state shown.state) shown.prefix steps marked in
       turns applied state seat knows shown next (operations steps)
-        (ap (λ p. p.1.hub) e ∙ (same ∙ (r.announced_hub ∙ sym r.shown_hub)))
-        (ap (λ p. p.1.list) e ∙ (list ∙ r.whole))
-        (ap (λ p. p.0) e)
+      (ap (λ p. p.1.hub) e ∙ (same ∙ (r.announced_hub ∙ sym r.shown_hub)))
+      (ap (λ p. p.1.list) e ∙ (list ∙ r.whole))
+      (ap (λ p. p.0) e)

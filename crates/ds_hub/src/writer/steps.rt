@@ -50,6 +50,9 @@ impl<O: Drop, S: Absorb<O> + Drop> Writer<O, S> {
         ensures succeeds { S.never_fails → IsOk result }
         ensures lists { MatchResult result (λ _. self.new ≡ record self.old { published = self.old.published ++ self.old.pending; pending = [] }) (λ _. self.new ≡ self.old) }
     {
+        if self.waiting == 0 {
+            return Ok(());
+        }
         announce(
             rt,
             &self.head,

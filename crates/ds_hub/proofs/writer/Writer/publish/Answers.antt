@@ -14,15 +14,15 @@ pub publish_as-requires : goal.publish_as-requires
 publish_as-requires g c =
     let w = c.self.inside in
     rw c.mark.ensures
-      (λ next is.
-        publishes g.S.Absorb.applied g.S.Absorb.state w.head w.copies.knows w.copies.shown w.copies.steps w.announced c.announce.new.announced w.unmarked w.waiting w.copies.seat c.self.invariant c.announce.ensures.hub c.announce.ensures.list next is)
+    (λ next is.
+    publishes g.S.Absorb.applied g.S.Absorb.state w.head w.copies.knows w.copies.shown w.copies.steps w.announced c.announce.new.announced w.unmarked w.waiting w.copies.seat c.self.invariant c.announce.ensures.hub c.announce.ensures.list next is)
 
 pub invariant_of-self-in-Err : goal.invariant_of-self-in-Err
 invariant_of-self-in-Err g c =
     let w = c.self.inside in
     let e = c.in-Err.ensures.err in
     rw (e.0, e.1, e.2, c.mark.ensures)
-      (runs_marked g.S.Absorb.applied w.head w.copies.knows (g.S.Absorb.state w.copies.shown.state) w.copies.shown.prefix w.copies.steps w.announced c.announce.new.announced w.unmarked w.waiting c.self.invariant c.announce.ensures.hub c.announce.ensures.list)
+    (runs_marked g.S.Absorb.applied w.head w.copies.knows (g.S.Absorb.state w.copies.shown.state) w.copies.shown.prefix w.copies.steps w.announced c.announce.new.announced w.unmarked w.waiting c.self.invariant c.announce.ensures.hub c.announce.ensures.list)
 
 pub returns-in-Err-clause-lists : goal.returns-in-Err-clause-lists
 returns-in-Err-clause-lists g c =
