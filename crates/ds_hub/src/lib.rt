@@ -20,3 +20,6 @@ pub use reader::{Reader, View};
 pub use readers::Readers;
 pub use std::alloc::AllocError as NoMemory;
 pub use writer::Writer;
+
+#[cfg(test)]
+mod tests;
