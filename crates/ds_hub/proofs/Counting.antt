@@ -1,8 +1,7 @@
 -- What the steps of the writer make of what it keeps.
 use Rattle.std.proofs.Common.{◌≡◌, ℕ, ◌+◌, ◌<◌, ◌≤◌, ◌^◌, List, [], ◌∷◌, ◌++◌, length, fold, refl, ap, sym, ◌∙◌, subst, arith, append_assoc, length-append, Option}
 use Rattle.std.proofs.lemmas.List.{append-nil}
-use Rattle.logbook.specs.Pages.{Book}
-use Rattle.ds_hub.specs.Line.{Line}
+use Rattle.ds_hub.specs.Line.{HubId, Line}
 use Rattle.ds_hub.specs.Steps.{Fits, stepped, operations, unmarked_from}
 use Rattle.ds_hub.specs.Holding.{IsOf}
 use Rattle.ds_hub.specs.Running.{IsRunning}
@@ -44,7 +43,7 @@ module _ {T O : Type 0} (applied : T → O → T) where
   stepped-mark state line (Operation o ∷ steps) marked = stepped-mark (applied state o) line steps marked
   stepped-mark state line (Mark other ∷ steps) marked = stepped-mark state other steps marked
 
-  pub runs_added : (hub : Book) (knows : Option (Origin T O)) (state : T) (shown : Line O) (steps : List (Step O)) (announced : Line O) (unmarked waiting : ℕ) (op : O)
+  pub runs_added : (hub : HubId) (knows : Option (Origin T O)) (state : T) (shown : Line O) (steps : List (Step O)) (announced : Line O) (unmarked waiting : ℕ) (op : O)
       → IsRunning applied hub knows state shown steps announced unmarked waiting → length shown.list + length (operations steps) < 2 ^ 62
       → IsRunning applied hub knows state shown (steps ++ Operation op ∷ []) announced (unmarked + 1) (waiting + 1)
   runs_added hub knows state shown steps announced unmarked waiting op r room =
@@ -61,7 +60,7 @@ module _ {T O : Type 0} (applied : T → O → T) where
       }
 
   -- the pending operations stand in the history, and a mark says so
-  pub runs_marked : (hub : Book) (knows : Option (Origin T O)) (state : T) (shown : Line O) (steps : List (Step O)) (announced marked : Line O) (unmarked waiting : ℕ)
+  pub runs_marked : (hub : HubId) (knows : Option (Origin T O)) (state : T) (shown : Line O) (steps : List (Step O)) (announced marked : Line O) (unmarked waiting : ℕ)
       → IsRunning applied hub knows state shown steps announced unmarked waiting
       → marked.hub ≡ announced.hub → marked.list ≡ announced.list ++ unmarked_from [] steps
       → IsRunning applied hub knows state shown (steps ++ Mark marked ∷ []) marked 0 waiting
@@ -79,7 +78,7 @@ module _ {T O : Type 0} (applied : T → O → T) where
       }
 
   -- the marked copy is shown, and no step is left
-  pub runs_published : (hub : Book) (knows known : Option (Origin T O)) (state next : T) (shown marked after : Line O) (steps : List (Step O)) (waiting : ℕ)
+  pub runs_published : (hub : HubId) (knows known : Option (Origin T O)) (state next : T) (shown marked after : Line O) (steps : List (Step O)) (waiting : ℕ)
       → IsRunning applied hub knows state shown (steps ++ Mark marked ∷ []) marked 0 waiting
       → after ≡ marked → known ≡ knows → Fits applied next after knows
       → IsRunning applied hub known next after [] marked 0 0

@@ -1,8 +1,7 @@
 -- What is shown after a mark goes on by the pending operations.
 use Rattle.std.proofs.Common.{◌≡◌, ℕ, List, [], ◌∷◌, ◌++◌, fold, ap, sym, ◌∙◌, Option}
-use Rattle.logbook.specs.Pages.{Book}
 use Rattle.crossbeam_utils.specs.Register.{TurnsAt}
-use Rattle.ds_hub.specs.Line.{Line}
+use Rattle.ds_hub.specs.Line.{HubId, Line}
 use Rattle.ds_hub.specs.Steps.{Fits, stepped, operations, unmarked_from}
 use Rattle.ds_hub.specs.Running.{IsRunning}
 use Rattle.ds_hub.specs.declared.version.Step.{Step}
@@ -13,7 +12,7 @@ use Rattle.ds_hub.proofs.Counting.{stepped-mark}
 use Rattle.ds_hub.proofs.Turning.{held, turns}
 
 module _ {T O S : Type 0} (applied : T → O → T) (state : S → T) where
-  pub publishes : (hub : Book) (knows : Option (Origin T O)) (shown : Version O S) (steps : List (Step O)) (announced marked : Line O) (unmarked waiting seat : ℕ)
+  pub publishes : (hub : HubId) (knows : Option (Origin T O)) (shown : Version O S) (steps : List (Step O)) (announced marked : Line O) (unmarked waiting seat : ℕ)
       → IsRunning applied hub knows (state shown.state) shown.prefix steps announced unmarked waiting
       → marked.hub ≡ announced.hub → marked.list ≡ announced.list ++ unmarked_from [] steps
       → (next : Version O S) → (state next.state, next.prefix) ≡ fold (stepped applied) (state shown.state, shown.prefix) (steps ++ Mark marked ∷ [])

@@ -1,11 +1,11 @@
 -- What a step on the two copies keeps.
-use Rattle.std.proofs.Common.{◌≡◌, ℕ, ◌≢◌, ◌⊎◌, List, [], ◌∷◌, ◌++◌, fold, set, refl, ap, sym, ◌∙◌, subst, ⊎_elim, Option, Some, None}
+use Rattle.std.proofs.Common.{◌≡◌, ℕ, ◌≢◌, List, [], ◌∷◌, ◌++◌, fold, set, refl, ap, sym, ◌∙◌, subst, ⊎_elim, Option, Some, None}
 use Rattle.std.proofs.lemmas.List.{append-nil}
 use Rattle.std.proofs.lemmas.List.Sums.{fold-append}
 use mathlib.Core.Option.{some}
 use lib.ListN.{get_elem?}
 use Rattle.crossbeam_utils.specs.Register.{Admits, TurnsAt, Forks, Merges}
-use Rattle.atomic_table.proofs.Lists.{at_set, at_snoc, set_again}
+use Rattle.atomic_table.proofs.Lists.{at_set, at_snoc}
 use Rattle.ds_hub.specs.Line.{Line}
 use Rattle.ds_hub.specs.Steps.{Fits, AllFit}
 use Rattle.ds_hub.specs.declared.version.Version.{Version}

@@ -1,13 +1,12 @@
 -- What a hub's writer keeps between two calls.
 use Rattle.std.specs.Prelude.{◌≡◌, ℕ, ◌+◌, ◌≤◌, ◌^◌, List, [], ◌++◌, length, Option}
-use Rattle.logbook.specs.Pages.{Book}
-use Rattle.ds_hub.specs.Line.{Line}
+use Rattle.ds_hub.specs.Line.{HubId, Line}
 use Rattle.ds_hub.specs.Steps.{Fits, operations, unmarked_from}
 use Rattle.ds_hub.specs.Holding.{IsOf}
 use Rattle.ds_hub.specs.declared.version.Step.{Step}
 use Rattle.ds_hub.specs.declared.law.Origin.{Origin}
 
-pub record IsRunning {T O : Type 0} (applied : T → O → T) (hub : Book) (knows : Option (Origin T O)) (state : T) (shown : Line O) (steps : List (Step O)) (announced : Line O) (unmarked waiting : ℕ) : Type 0 where
+pub record IsRunning {T O : Type 0} (applied : T → O → T) (hub : HubId) (knows : Option (Origin T O)) (state : T) (shown : Line O) (steps : List (Step O)) (announced : Line O) (unmarked waiting : ℕ) : Type 0 where
   -- it was told where the hub begins, and what readers see is the fold of the published list from there
   pub told : IsOf hub knows
   pub fits : Fits applied state shown knows

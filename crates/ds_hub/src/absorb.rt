@@ -1,7 +1,7 @@
 //! States that take in operations.
 ghost use Rattle.std.specs.Prelude.{◌≡◌, IsOk, MatchResult};
 
-use std::alloc::AllocError;
+use crate::NoMemory;
 
 /// A state that takes in operations of type `O`, one after another.
 pub trait Absorb<O> {
@@ -18,7 +18,7 @@ pub trait Absorb<O> {
     ghost never_fails: { Type 0 } = { ⊥ };
 
     /// Takes in an operation. `Err` is want of memory, and changes nothing that contracts see.
-    fn absorb(&mut self, operation: &O) -> Result<(), AllocError>
+    fn absorb(&mut self, operation: &O) -> Result<(), NoMemory>
         ensures absorbed { MatchResult result (λ _. state self.new ≡ applied (state self.old) operation.now) (λ _. state self.new ≡ state self.old) }
         ensures succeeds { never_fails → IsOk result };
 }

@@ -3,6 +3,7 @@ ghost use Rattle.std.specs.Prelude.{◌≡◌, ◌++◌, ◌<◌, [], Some, None
 ghost use Rattle.left_right.specs.Sides.{view as knows};
 ghost use Rattle.ds_hub.specs.Holding.{IsOf, start_of};
 
+use crate::NoMemory;
 use crate::absorb::Absorb;
 use crate::copies::Copies;
 use crate::law::{Begins, Tells};
@@ -21,15 +22,16 @@ pub struct Hub<O: Drop, S: Absorb<O> + Drop> {
     pub readers: Readers<O, S>,
 }
 
-/// Makes a hub of two equal states, with so many readers. Nothing is published or pending, and no reader has seen anything.
-/// A place for a reader that `left_right` refuses is asked for again. `Err` is want of memory.
+/// Makes a hub of two equal states, with so many readers. The hub begins with that state, to which no operation of this hub was
+/// applied: nothing is published or pending, and no reader has seen anything. A place for a reader that `left_right` refuses is
+/// asked for again. `Err` is want of memory.
 pub fn make<O: Drop, S: Absorb<O> + Drop, Rt: Threads + Wait + Sync>(
     rt: &Rt,
     alloc: Global,
     first: S,
     second: S,
     readers: u32,
-) -> Result<Hub<O, S>, AllocError>
+) -> Result<Hub<O, S>, NoMemory>
     requires some { 0 < readers }
     requires alike { S.state first ≡ S.state second }
     ensures writer { IfOk result (λ hub. (hub.writer.start ≡ Some (S.state first)) × (hub.writer.published ≡ []) × (hub.writer.pending ≡ [])) }

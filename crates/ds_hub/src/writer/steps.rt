@@ -4,12 +4,12 @@ ghost use mathlib.Core.List.{IsPrefix};
 
 use super::Writer;
 use super::marks::{announce, mark};
+use crate::NoMemory;
 use crate::absorb::Absorb;
 use crate::law::Stays;
 use crate::note::Note;
 use crate::reader::Reader;
 use crate::version::Step;
-use std::alloc::AllocError;
 use std::sync::Wait;
 use std::thread::Threads;
 
@@ -46,7 +46,7 @@ impl<O: Drop, S: Absorb<O> + Drop> Writer<O, S> {
 
     /// Publishes the pending operations, all at once. It waits for the readers that still read the copy from before the last
     /// call. `Err` is want of memory, and changes neither list.
-    pub fn publish<Rt: Threads + Wait + Sync>(&mut self, rt: &Rt) -> Result<(), AllocError>
+    pub fn publish<Rt: Threads + Wait + Sync>(&mut self, rt: &Rt) -> Result<(), NoMemory>
         ensures succeeds { S.never_fails → IsOk result }
         ensures lists { MatchResult result (λ _. self.new ≡ record self.old { published = self.old.published ++ self.old.pending; pending = [] }) (λ _. self.new ≡ self.old) }
     {

@@ -1,4 +1,4 @@
-use Rattle.std.proofs.Common.{◌≡◌, ap, ◌∙◌}
+use Rattle.std.proofs.Common.{ap, ◌∙◌}
 use Rattle.ds_hub.proofs.Turning.{opens}
 use Rattle.ds_hub.proofs.hub.open.Goals as goal
 

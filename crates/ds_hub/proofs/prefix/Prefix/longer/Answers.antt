@@ -1,4 +1,4 @@
-use Rattle.std.proofs.Common.{◌≤◌, ap, subst, arith, length, List}
+use Rattle.std.proofs.Common.{◌≤◌, subst, arith, length}
 use mathlib.Core.List.{IsPrefix}
 use Rattle.ds_hub.specs.Line.{joined}
 use Rattle.ds_hub.proofs.Beginnings.{begins_longer, joined_begins}

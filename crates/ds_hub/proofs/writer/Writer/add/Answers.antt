@@ -1,6 +1,5 @@
-use Rattle.std.proofs.Common.{◌≡◌, ◌<◌, ◌+◌, ◌^◌, [], length, subst, sym, ap, ◌∙◌, refl, arith}
-use Rattle.ds_hub.specs.Steps.{operations, unmarked_from}
-use Rattle.ds_hub.specs.Running.{IsRunning}
+use Rattle.std.proofs.Common.{◌<◌, ◌+◌, ◌^◌, [], length, ap, refl, arith}
+use Rattle.ds_hub.specs.Steps.{operations}
 use Rattle.ds_hub.proofs.Counting.{runs_added, operations-one_more, unmarked_le}
 use Rattle.ds_hub.proofs.writer.Writer.add.Goals as goal
 

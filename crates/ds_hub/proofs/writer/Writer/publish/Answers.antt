@@ -1,6 +1,6 @@
-use Rattle.std.proofs.Common.{◌≡◌, ◌<◌, ◌+◌, ◌^◌, ◌++◌, [], length, sym, ap, ◌∙◌, refl, arith, length-append}
+use Rattle.std.proofs.Common.{[], length, ap, refl, arith, length-append}
 use Rattle.ds_hub.specs.Steps.{operations, unmarked_from}
-use Rattle.ds_hub.proofs.Counting.{runs_marked, runs_published, operations-mark}
+use Rattle.ds_hub.proofs.Counting.{runs_marked, operations-mark}
 use Rattle.ds_hub.proofs.Publishing.{publishes}
 use Rattle.ds_hub.proofs.writer.Writer.publish.Goals as goal
 
