@@ -1,0 +1,128 @@
+//! How a hub is made.
+ghost use Rattle.std.specs.Prelude.{◌≡◌, ◌++◌, ◌<◌, [], Some, None, replicate, IfOk};
+ghost use Rattle.left_right.specs.Sides.{view as knows};
+ghost use Rattle.ds_hub.specs.Holding.{IsOf, start_of};
+
+use crate::NoMemory;
+use crate::absorb::Absorb;
+use crate::copies::Copies;
+use crate::law::{Begins, Tells};
+use crate::prefix::{Head, Prefix};
+use crate::reader::{Outside, Reader};
+use crate::readers::Readers;
+use crate::version::Version;
+use crate::writer::{Ruled, Writer};
+use std::alloc::{AllocError, Global};
+use std::sync::Wait;
+use std::thread::Threads;
+
+/// A hub: its one writer, and its readers.
+pub struct Hub<O: Drop, S: Absorb<O> + Drop> {
+    pub writer: Writer<O, S>,
+    pub readers: Readers<O, S>,
+}
+
+/// Makes a hub of two equal states, with so many readers. The hub begins with that state, to which no operation of this hub was
+/// applied: nothing is published or pending, and no reader has seen anything. A place for a reader that `left_right` refuses is
+/// asked for again. `Err` is want of memory.
+pub fn make<O: Drop, S: Absorb<O> + Drop, Rt: Threads + Wait + Sync>(
+    rt: &Rt,
+    alloc: Global,
+    first: S,
+    second: S,
+    readers: u32,
+) -> Result<Hub<O, S>, NoMemory>
+    requires some { 0 < readers }
+    requires alike { S.state first ≡ S.state second }
+    ensures writer { IfOk result (λ hub. (hub.writer.start ≡ Some (S.state first)) × (hub.writer.published ≡ []) × (hub.writer.pending ≡ [])) }
+    ensures readers { IfOk result (λ hub. hub.readers ≡ replicate readers (record { hub = hub.writer.hub; start = Some (S.state first); known = [] })) }
+{
+    let (head, prefix) = Head::open();
+    let mut copies = open(rt, alloc, first, second, &prefix, readers)?;
+    let mut list = Readers::new(alloc);
+    if seat_all(rt, &mut copies, &prefix, &mut list, readers).is_err() {
+        copies.end(rt);
+        return Err(AllocError);
+    }
+    Ok(Hub {
+        writer: Writer {
+            copies,
+            head,
+            announced: prefix,
+            unmarked: 0,
+            waiting: 0,
+        },
+        readers: list,
+    })
+}
+
+// The two copies, where the writer was told where the hub begins.
+fn open<O: Drop, S: Absorb<O> + Drop, R: Wait>(
+    rt: &R,
+    alloc: Global,
+    first: S,
+    second: S,
+    prefix: &Prefix<O>,
+    readers: u32,
+) -> Result<Ruled<O, S>, AllocError>
+    requires some { 0 < readers }
+    requires alike { S.state first ≡ S.state second }
+    requires empty { prefix.now.list ≡ [] }
+    ensures shown { IfOk result (λ copies. (copies.shown.prefix ≡ prefix.now) × (S.state copies.shown.state ≡ S.state first) × (copies.steps ≡ [])) }
+    ensures knows { IfOk result (λ copies. copies.knows ≡ Some (record { start = S.state first; prefix = prefix.now })) }
+{
+    let first = Version {
+        state: first,
+        prefix: prefix.again(),
+    };
+    let second = Version {
+        state: second,
+        prefix: prefix.again(),
+    };
+    let mut copies = Copies::new(alloc, first, second, readers)?;
+    match copies.publish_as::<Begins, R>(rt) {
+        Ok(()) => Ok(copies),
+        Err(refused) => {
+            copies.end(rt);
+            Err(refused)
+        }
+    }
+}
+
+// A reader that was told where the hub begins.
+fn seat<O: Drop, S: Absorb<O> + Drop, R: Wait>(rt: &R, copies: &mut Ruled<O, S>) -> Outside<O, S>
+    ensures copies { (copies.new.shown ≡ copies.old.shown) × (copies.new.steps ≡ copies.old.steps) × (copies.new.knows ≡ copies.old.knows) }
+    ensures told { knows result.place ≡ copies.old.knows }
+{
+    for _ in rt.forever() {
+        if let Ok(outside) = copies.reader::<Tells, Tells>() {
+            return outside;
+        }
+    }
+    unreachable!()
+}
+
+// So many readers. `Err` is want of memory.
+fn seat_all<O: Drop, S: Absorb<O> + Drop, R: Wait>(
+    rt: &R,
+    copies: &mut Ruled<O, S>,
+    prefix: &Prefix<O>,
+    list: &mut Readers<O, S>,
+    count: u32,
+) -> Result<(), AllocError>
+    requires told { IsOf prefix.now.hub copies.old.knows }
+    requires empty { list.old ≡ [] }
+    ensures copies { (copies.new.shown ≡ copies.old.shown) × (copies.new.steps ≡ copies.old.steps) × (copies.new.knows ≡ copies.old.knows) }
+    ensures list { IfOk result (λ _. list.new ≡ replicate count (record { hub = prefix.now.hub; start = start_of copies.old.knows; known = prefix.now.list })) }
+{
+    for _place in 0..count {
+        let reader = Reader {
+            outside: seat(rt, copies),
+            prefix: prefix.again(),
+        };
+        if list.push(reader).is_err() {
+            return Err(AllocError);
+        }
+    }
+    Ok(())
+}

@@ -1,0 +1,17 @@
+//! What the writer tells.
+use crate::prefix::Prefix;
+use std::marker::Model;
+
+/// What a hub's writer had published when it told. It holds no operation. Contracts see the hub and that list.
+#[derive(Drop)]
+pub struct Note<O> {
+    pub(crate) prefix: Prefix<O>,
+}
+
+impl<O> Model for Note<O> {
+    ghost use Rattle.ds_hub.specs.Line.{Line};
+
+    ghost Value = { Line O };
+
+    ghost view = { λ n. n.prefix };
+}
