@@ -14,6 +14,8 @@ pub mod memory_source;
 pub mod schedule;
 pub mod standard;
 pub mod steps;
+#[cfg(test)]
+mod tests;
 pub mod traits;
 
 pub use memory_files::MemoryFiles;

@@ -51,11 +51,7 @@ fn place_of(names: &[TextString], name: &str) -> Option<usize>
 }
 
 // The content at the place of the name.
-fn find<'a>(
-    names: &[TextString],
-    contents: &'a [ByteString],
-    name: &str,
-) -> Option<&'a ByteString>
+fn find<'a>(names: &[TextString], contents: &'a [ByteString], name: &str) -> Option<&'a ByteString>
     ensures { option_copied result ≡ content_at names.now contents.now name.now }
 {
     match place_of(names, name) {
@@ -83,18 +79,15 @@ impl Files for MemoryFiles {
         ensures schedule { self.new.schedule ≡ after_call self.old.schedule (is_failed result) }
         ensures faults_stay_counted { self.old.schedule.faults ≤ self.new.schedule.faults }
     {
-        if !self.schedule.begin() {
-            let found = find(self.names.as_slice(), self.contents.as_slice(), name);
-            if let Some(content) = found {
-                if content.bytes().len() <= MAX_FILE_BYTES {
-                    return match ByteString::of(alloc, content.bytes()) {
-                        Ok(copy) => Ok(copy),
-                        Err(_) => Err(LoadFault::NoMemory),
-                    };
-                }
+        let due = self.schedule.begin();
+        match find(self.names.as_slice(), self.contents.as_slice(), name) {
+            Some(content) if !due && content.bytes().len() <= MAX_FILE_BYTES => {
+                Ok(ByteString::of(alloc, content.bytes())?)
+            }
+            _ => {
+                self.schedule.raise();
+                Err(LoadFault::Failed)
             }
         }
-        self.schedule.raise();
-        Err(LoadFault::Failed)
     }
 }

@@ -1,14 +1,14 @@
 //! The forms over std: a reader, a writer, and the file system.
 //!
-//! They tell no bytes, since nobody knows what a terminal or a file gives. They count each error of std as a fault, in
-//! a count that stays at its last value; so also a call that a signal interrupts, which std's plain calls don't
-//! repeat. A program that installs no signal handler, as the server, meets none.
+//! They tell no bytes, since nobody knows what a terminal or a file gives. Each error of std is counted as a fault, in a
+//! count that stays at its last value. A `read` or `write` that a signal interrupts is a fault too, and not repeated: a
+//! program that installs no signal handler, as the server, isn't interrupted. A load repeats what was interrupted.
 ghost use Rattle.std.specs.Prelude.{◌≡◌, ◌≤◌, length, IfOk, None};
 
 use crate::traits::{Failed, Files, LoadFault, MAX_FILE_BYTES, Sink, Source};
 use ds_base::ByteString;
 use std::alloc::Global;
-use std::fs::File;
+use std::fs::{File, OpenFile};
 use std::io::{ErrorKind, Read, Write};
 use std::marker::Model;
 use std::rt;
@@ -120,13 +120,19 @@ impl<R> StdFiles<R> {
     }
 }
 
-// All bytes of a file. It reads at most one byte more than it gives, so that a file without an end ends too.
+// All bytes of a file. One that is too large is refused by its length before it is read; where the length is not
+// known, as for a device, at most one byte more is read than is given, so that a file without an end ends too.
 fn load_file<R: rt::Files>(runtime: &R, alloc: Global, name: &str) -> Result<ByteString, LoadFault>
     ensures { IfOk result (λ bytes. length bytes ≤ MAX_FILE_BYTES) }
 {
     let Ok(file) = File::open(runtime, name) else {
         return Err(LoadFault::Failed);
     };
+    if let Ok(metadata) = file.metadata()
+        && metadata.len() > MAX_FILE_BYTES as u64
+    {
+        return Err(LoadFault::Failed);
+    }
     let mut bytes = Vec::new(alloc);
     match file.take(MAX_FILE_BYTES as u64 + 1).read_to_end(&mut bytes) {
         Ok(_) if bytes.len() <= MAX_FILE_BYTES => Ok(ByteString::from_vec(bytes)),

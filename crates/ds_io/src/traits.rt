@@ -41,8 +41,8 @@ pub trait Source {
     ghost faults: { Self → ℕ };
 
     /// Reads the next bytes into the front of `buf` and gives their number; 0 for a `buf` with room is the end. What
-    /// `buf` holds past that number, or after a failure, is not said. After a failure no byte is lost: the next read
-    /// gives what this one would have given.
+    /// `buf` holds past that number, or after a failure, is not said. Where it is told what is left, a failure loses
+    /// nothing of it: the next read begins with the same byte.
     fn read(&mut self, buf: &mut [u8]) -> Result<usize, Failed>
         ensures within { IfOk result (λ n. n ≤ length buf.new) }
         ensures not_past_the_end { IfOk result (λ n. IfSome (left self.old) (λ bytes. n ≤ length bytes)) }
@@ -64,7 +64,7 @@ pub trait Sink {
     ghost faults: { Self → ℕ };
 
     /// Takes the first bytes of `piece` and gives their number, which is above 0 unless `piece` is empty: to take
-    /// nothing of a piece that has bytes is a fault. After a failure nothing of `piece` was taken.
+    /// nothing of a piece that has bytes is a fault. Where it is told what is held, a failure has taken nothing.
     fn write(&mut self, piece: &[u8]) -> Result<usize, Failed>
         ensures within { IfOk result (λ n. n ≤ length piece.now) }
         ensures takes_some { IfOk result (λ n. 0 < length piece.now → 0 < n) }
