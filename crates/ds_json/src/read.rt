@@ -1,0 +1,2 @@
+//! What is read of a line's JSON value, part by part.
+mod each;
