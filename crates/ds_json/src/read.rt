@@ -1,2 +1,3 @@
 //! What is read of a line's JSON value, part by part.
 mod each;
+mod keys;

@@ -1,23 +1,9 @@
-use Rattle.std.proofs.Common.{◌≡◌, List, [], ◌∷◌, ◌++◌, Err, sym, ap, ◌∙◌, rules}
-use Rattle.serde_json.specs.View.{view, items_view}
-use Rattle.ds_json.specs.Reading.{Reads, each_of}
-use Rattle.ds_json.proofs.Each.{each_after, each_after-start, each_after-item, each_after-refused, Reads-refused}
+use Rattle.std.proofs.Common.{◌≡◌, []}
+use Rattle.serde_json.specs.View.{items_view}
+use Rattle.ds_json.proofs.Each.{each_after-start}
 use Rattle.ds_json.proofs.read.each.read_each.Goals as goal
 
-pub loop-item-init : goal.loop-item-init
-loop-item-init g c =
+pub returns : goal.returns
+returns g c =
     let none : c.in-Ok.read.items ≡ [] = c.in-Ok.ensures.items in
-    rw (c.into_iter-item-iterator.ensures.into_iter_gives.0, none) (each_after-start (g.R.ReadItem.reads c.args.rule.now) (items_view c.args.items.items))
-
-pub returns-in_err-item : goal.returns-in_err-item
-returns-in_err-item g c =
-    let r : c.from_residual.result ≡ Err c.in_err-item.field-0.0 = search rules in
-    let reads = g.R.ReadItem.reads c.args.rule.now in
-    rw r (Reads-refused _ _ c.in_err-item.field-0.0 c.in_err-item.ensures
-      (λ h. c.loop-item.invariant ∙ ap (λ vs. each_after reads c.loop-item.read.items (items_view vs)) c.in-Some.ensures.steps.0 ∙ each_after-refused reads _ _ _ _ h))
-
-pub loop-item-preserved : goal.loop-item-preserved
-loop-item-preserved g c =
-    let p : c.push.new.self.items ≡ c.loop-item.read.items ++ c.in_ok-item.item ∷ [] = c.in_default-push.ensures.items in
-    let reads = g.R.ReadItem.reads c.args.rule.now in
-    rw p (c.loop-item.invariant ∙ ap (λ vs. each_after reads c.loop-item.read.items (items_view vs)) c.in-Some.ensures.steps.0 ∙ each_after-item reads _ _ _ _ c.in_ok-item.ensures)
+    rw (each_after-start (g.R.ReadItem.reads c.args.rule.now) (items_view c.args.items.items)) (rw (c.into_iter.ensures.rest, none) at c.read_rest.ensures)
