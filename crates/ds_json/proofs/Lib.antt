@@ -1,3 +1,4 @@
 pub mod Each
 pub mod Keys
 pub mod ValueViews
+pub mod Values

@@ -1,3 +1,4 @@
 //! What is read of a line's JSON value, part by part.
 mod each;
 mod keys;
+mod values;
