@@ -1,4 +1,5 @@
 pub mod Each
+pub mod Entities
 pub mod Keys
 pub mod ValueViews
 pub mod Values
