@@ -107,7 +107,7 @@ properties_below first [] ps below h = let e : [] ≡ ps = cc in subst (IsBelowF
 properties_below first (e ∷ es) ps below h =
     let r = is_read (string_bytes e.0) (view e.1) (members_view es) ps h in
     subst (IsBelowFirst (string_bytes first)) r.all_read
-      (below_with (string_bytes first) (string_bytes e.0) r.first.0 r.first.1 r.others below.0 (properties_below first es r.others below.1 r.others_read))
+    (below_with (string_bytes first) (string_bytes e.0) r.first.0 r.first.1 r.others below.0 (properties_below first es r.others below.1 r.others_read))
 
 -- the properties of a map's members have ascending names, as the map's keys ascend
 pub properties_ascend : (es : List Entry) (ps : List Property) → IsStrictlySortedBy string_cmp (keys_of es) → properties_of (members_view es) ≡ Ok ps → IsTrue (names_ascend ps)
@@ -116,4 +116,4 @@ properties_ascend [] ps sorted h = let e : [] ≡ ps = cc in subst (λ qs. IsTru
 properties_ascend (e ∷ es) ps sorted h =
     let r = is_read (string_bytes e.0) (view e.1) (members_view es) ps h in
     subst (λ qs. IsTrue (names_ascend qs)) r.all_read
-      (ascend_with (string_bytes e.0) r.first.0 r.first.1 r.others (properties_below e.0 es r.others sorted.0 r.others_read) (properties_ascend es r.others sorted.1 r.others_read))
+    (ascend_with (string_bytes e.0) r.first.0 r.first.1 r.others (properties_below e.0 es r.others sorted.0 r.others_read) (properties_ascend es r.others sorted.1 r.others_read))

@@ -1,5 +1,5 @@
 -- Reading keys: elements, paths, and the completion of a path.
-use Rattle.std.proofs.Common.{◌≡◌, ℕ, zero, suc, List, [], ◌∷◌, ◌++◌, length, Bool, true, false, Option, Some, None, option_map, option_and_then, Result, Ok, Err, refl, sym, ap, ◌∙◌, cond, IsTrue, is_some, get_or, set, arith}
+use Rattle.std.proofs.Common.{◌≡◌, ℕ, zero, suc, List, [], ◌∷◌, ◌++◌, length, Bool, true, false, Option, Some, None, option_map, option_and_then, Ok, Err, refl, sym, ap, ◌∙◌, cond, IsTrue, is_some, get_or, set, arith}
 use Rattle.serde_json.specs.Data.{Data, unsigned, null, boolean, number, string, array, object, Items, no_items, item}
 use Rattle.serde_json.specs.Events.{items_len}
 use Rattle.serde_json.specs.Find.{as_null}
@@ -7,7 +7,7 @@ use Rattle.serde_json.specs.View.{view, items_view}
 use Rattle.serde_json.specs.declared.value.Value.{Value}
 use Rattle.serde_json.proofs.Views.{items_len-items_view}
 use Rattle.ds_base.specs.declared.key.Elem.{Elem}
-use Rattle.ds_base.specs.Keys.{KeyParts, is_key}
+use Rattle.ds_base.specs.Keys.{is_key}
 use Rattle.ds_json.specs.declared.refusal.Refusal.{Refusal}
 use Rattle.ds_json.specs.declared.refusal.Refusal.TheVariants as refusal
 use Rattle.ds_json.specs.Reading.{and_then, or_refuse, each_of}

@@ -1,5 +1,4 @@
 pub mod Each
 pub mod Entities
 pub mod Keys
-pub mod ValueViews
 pub mod Values

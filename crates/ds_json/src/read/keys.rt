@@ -232,3 +232,21 @@ fn read_id(number: &Number) -> Option<Ident>
         _ => None,
     }
 }
+
+#[cfg(test)]
+mod tests {
+    use super::read_written_key;
+    use serde_json::Value;
+    use std::test::Fail;
+
+    #[test]
+    fn reads_incomplete_key_in_namespace(rt: HostRuntime) -> Result<(), Fail> {
+        let value = Value::from_str(rt.alloc(), "[\"shop\",[\"Book\",null]]")?;
+        let read = match read_written_key(rt.alloc(), value) {
+            Ok((key, incomplete)) => incomplete && key.namespace().text() == "shop",
+            Err(_) => false,
+        };
+        assert!(rt; read);
+        Ok(())
+    }
+}

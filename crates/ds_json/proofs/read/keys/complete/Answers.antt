@@ -10,11 +10,11 @@ returns-clause-completed c =
     let items = c.args.items.now.items in
     let n : suc (c.len-len.result - 1) ≡ length items = omega arith in
     completed-last items (c.len-len.result - 1) c.index_mut.result.now c.take-elem.new.dest c.complete_elem-elem.result.0 n
-      (c.complete_elem-elem.ensures.completed ∙ ap (λ v. completed (item (view v) no_items)) (c.take-elem.ensures.value ∙ c.index_mut.ensures.value))
+    (c.complete_elem-elem.ensures.completed ∙ ap (λ v. completed (item (view v) no_items)) (c.take-elem.ensures.value ∙ c.index_mut.ensures.value))
 
 pub returns-clause-told : goal.returns-clause-told
 returns-clause-told c =
     let items = c.args.items.now.items in
     let n : suc (c.len-len.result - 1) ≡ length items = omega arith in
     c.complete_elem-elem.ensures.told ∙ ap (λ v. is_incomplete (item (view v) no_items)) (c.take-elem.ensures.value ∙ c.index_mut.ensures.value)
-      ∙ is_incomplete-last items (c.len-len.result - 1) c.index_mut.result.now n
+    ∙ is_incomplete-last items (c.len-len.result - 1) c.index_mut.result.now n

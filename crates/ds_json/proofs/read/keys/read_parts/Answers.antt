@@ -1,4 +1,4 @@
-use Rattle.std.proofs.Common.{◌≡◌, Bool, true, false, sym}
+use Rattle.std.proofs.Common.{◌≡◌, true, false, sym}
 use Rattle.ds_json.proofs.Keys.{elem_of-not_two}
 use Rattle.ds_json.proofs.read.keys.read_parts.Goals as goal
 

@@ -11,16 +11,16 @@ pub returns-in_err-path : goal.returns-in_err-path
 returns-in_err-path c =
     let r : c.from_residual.result ≡ Err c.in_err-path.field-0.0 = search rules in
     rw r (Reads-refused _ _ c.in_err-path.field-0.0 c.in_err-path.ensures
-      (path_refused (items_view (into_iter_items c.args.rest)) c.args.namespace c.args.begun.items c.in_err-path.field-0.0))
+    (path_refused (items_view (into_iter_items c.args.rest)) c.args.namespace c.args.begun.items c.in_err-path.field-0.0))
 
 pub returns-in-Ok : goal.returns-in-Ok
 returns-in-Ok c =
     rw (c.in-Ok.ensures.ok) (ap (or_refuse refusal.Key)
-      (path_read (items_view (into_iter_items c.args.rest)) c.args.namespace c.args.begun.items c.in_ok-path.path c.in_ok-path.ensures
-      ∙ lawful_key-key c.args.namespace c.in_ok-path.path (c.in-Ok.ensures.refused.0 refl)))
+    (path_read (items_view (into_iter_items c.args.rest)) c.args.namespace c.args.begun.items c.in_ok-path.path c.in_ok-path.ensures
+    ∙ lawful_key-key c.args.namespace c.in_ok-path.path (c.in-Ok.ensures.refused.0 refl)))
 
 pub returns-in-Err : goal.returns-in-Err
 returns-in-Err c =
     ap (or_refuse refusal.Key)
-      (path_read (items_view (into_iter_items c.args.rest)) c.args.namespace c.args.begun.items c.in_ok-path.path c.in_ok-path.ensures
-      ∙ lawful_key-none c.args.namespace c.in_ok-path.path (λ h. let k : false ≡ true = c.in-Err.ensures.refused.1 h in cc))
+    (path_read (items_view (into_iter_items c.args.rest)) c.args.namespace c.args.begun.items c.in_ok-path.path c.in_ok-path.ensures
+    ∙ lawful_key-none c.args.namespace c.in_ok-path.path (λ h. let k : false ≡ true = c.in-Err.ensures.refused.1 h in cc))
