@@ -6,6 +6,7 @@
 #![tactic(auto)]
 
 pub mod call;
+mod read;
 pub mod refusal;
 pub mod reply;
 

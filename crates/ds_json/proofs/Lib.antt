@@ -1,0 +1,4 @@
+pub mod Each
+pub mod Entities
+pub mod Keys
+pub mod Values
