@@ -1,3 +1,5 @@
+pub mod OutputLaws
+pub mod Outputs
 pub mod Queries
 pub mod Reading
 pub mod Replies

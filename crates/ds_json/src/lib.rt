@@ -8,6 +8,7 @@
 pub mod call;
 pub mod refusal;
 pub mod reply;
+mod write;
 
 pub use call::{Call, Field, Request, RequestRefused};
 pub use refusal::Refusal;

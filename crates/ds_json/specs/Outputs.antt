@@ -1,0 +1,20 @@
+-- What an output takes: a count of bytes, or a buffer that has the room.
+use Rattle.std.specs.Prelude.{◌≡◌, ℕ, ◌+◌, ◌-◌, ◌^◌, ◌≤◌, min, List, ◌++◌, length}
+use Rattle.ds_base.specs.Buffers.{BufferParts}
+use Rattle.ds_json.specs.declared.write.output.Count.{Count}
+
+-- the largest count
+abbrev pub largest : ℕ
+largest = 2 ^ 64 - 1
+
+-- the count grows by the length of the text, up to the largest
+abbrev pub Counts : List ℕ → Count → Count → Type 0
+Counts text s t = s.bytes ≤ largest → t.bytes ≡ min (s.bytes + length text) largest
+
+-- where the text fits, it stands at the end, and took no more room than its length
+pub record Stands (text : List ℕ) (s t : BufferParts) : Type 0 where
+  pub appended : t.bytes ≡ s.bytes ++ text
+  pub room : s.spare ≤ t.spare + length text
+
+abbrev pub Fills : List ℕ → BufferParts → BufferParts → Type 0
+Fills text s t = length text ≤ s.spare → Stands text s t
