@@ -1,7 +1,11 @@
 -- What an output takes: a count of bytes, or a buffer that has the room.
-use Rattle.std.specs.Prelude.{◌≡◌, ℕ, ◌+◌, ◌-◌, ◌^◌, ◌≤◌, min, List, ◌++◌, length}
+use Rattle.std.specs.Prelude.{◌≡◌, ℕ, ◌+◌, ◌-◌, ◌^◌, ◌≤◌, min, List, ◌++◌, length, codes}
 use Rattle.ds_base.specs.Buffers.{BufferParts}
+use Rattle.serde_json.specs.Data.{Members, no_members, member, array}
+use Rattle.ds_base.specs.declared.results.Item.{Item}
+use Rattle.ds_query.specs.declared.query.Select.{Select}
 use Rattle.ds_json.specs.declared.write.output.Count.{Count}
+use Rattle.ds_json.specs.Replies.{result_items}
 
 -- the largest count
 abbrev pub largest : ℕ
@@ -18,3 +22,7 @@ pub record Stands (text : List ℕ) (s t : BufferParts) : Type 0 where
 
 abbrev pub Fills : List ℕ → BufferParts → BufferParts → Type 0
 Fills text s t = length text ≤ s.spare → Stands text s t
+
+-- the last member of a query's reply
+abbrev pub results_member : Select → List Item → Members
+results_member s results = member (codes "results") (array (result_items s results)) no_members

@@ -13,3 +13,4 @@ mod write;
 pub use call::{Call, Field, Request, RequestRefused};
 pub use refusal::Refusal;
 pub use reply::{Body, Reply, WriteAt};
+pub use write::{reply_room, write_reply, write_reply_to, write_reply_within};

@@ -19,11 +19,12 @@ pub(super) fn write_key<O: Output>(key: &Key, out: &mut O)
 fn write_keyed<O: Output>(namespace: &TextString, elems: &[Elem], out: &mut O)
     ensures { O.Writes (items_text false (keyed_items namespace.now elems.now)) out.old out.new }
 {
-    let is_default = namespace.bytes().is_empty();
-    if !is_default {
+    if namespace.bytes().is_empty() {
+        write_elems(elems, false, out);
+    } else {
         write_text(namespace, out);
+        write_elems(elems, true, out);
     }
-    write_elems(elems, !is_default, out);
 }
 
 /// Puts the elements and the closing bracket.

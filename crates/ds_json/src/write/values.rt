@@ -123,10 +123,9 @@ pub(super) fn write_index_value<O: Output>(value: &IndexValue, out: &mut O)
 fn write_text_or_bytes<O: Output>(bytes: &ByteString, out: &mut O)
     ensures { O.Writes (compact_text (index_value_data (IndexValue.Bytes bytes.now))) out.old out.new }
 {
-    if std::str::from_utf8(bytes.bytes()).is_ok() {
-        write_string(bytes.bytes(), out);
-    } else {
-        write_tagged_bytes(b"{\"bytes\":", bytes, out);
+    match std::str::from_utf8(bytes.bytes()) {
+        Ok(text) => write_string(text.as_bytes(), out),
+        Err(_) => write_tagged_bytes(b"{\"bytes\":", bytes, out),
     }
 }
 

@@ -1,0 +1,15 @@
+use Rattle.std.proofs.Common.{refl, arith}
+use Rattle.ds_json.proofs.Symbols.{escape-symbols}
+use Rattle.ds_json.proofs.write.text.write_symbols.Goals as goal
+
+pub slice_bounds-write_piece-end : goal.slice_bounds-write_piece-end
+slice_bounds-write_piece-end g c = ?
+
+pub write_piece-requires : goal.write_piece-requires
+write_piece-requires g c = ?
+
+pub loop-rest-preserved : goal.loop-rest-preserved
+loop-rest-preserved g c =
+    let j = g.met.O.Output.joined in
+    let split = escape-symbols c.loop-rest.rest.now 192 refl (omega arith) in
+    λ u h. c.loop-rest.invariant u (rw split at (j _ _ _ _ _ c.write_piece.ensures h))
