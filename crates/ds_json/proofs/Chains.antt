@@ -2,6 +2,8 @@
 use Rattle.std.proofs.Common.{◌≡◌, ℕ, ◌+◌, ◌<◌, List, [], ◌∷◌, ◌++◌, Bool, true, false, length, drop, get_or, ap, refl, sym, ◌==◌, arith}
 use Rattle.std.proofs.lemmas.List.{drop_more, append_assoc}
 use Rattle.std.proofs.lemmas.Bool.Decides.{nat_tests}
+use Rattle.std.specs.Str.{IsUtf8, is_utf8}
+use Rattle.std.proofs.lemmas.Str.{is_utf8-from_IsUtf8, IsUtf8-from_is_utf8}
 use Rattle.json.specs.Print.{quoted}
 use Rattle.serde_json.specs.Data.{Data, Items, item, Members, member, array}
 use Rattle.serde_json.specs.Written.{compact_text, comma_if, items_text, members_text}
@@ -46,3 +48,14 @@ pub values-several : (vs : List Value) → (length vs ≡ 1 → ⊥) → values_
 values-several [] ne = refl
 values-several (v ∷ []) ne = absurd (ne refl)
 values-several (v ∷ w ∷ vs) ne = refl
+
+-- whether bytes are UTF-8
+pub utf8-test : (bs : List ℕ) → IsUtf8 bs → is_utf8 bs ≡ true
+utf8-test bs h = is_utf8-from_IsUtf8 bs h
+
+not-true : (b : Bool) → (b ≡ true → ⊥) → b ≡ false
+not-true true h = absurd (h refl)
+not-true false h = refl
+
+pub utf8-refused : (bs : List ℕ) → (IsUtf8 bs → ⊥) → is_utf8 bs ≡ false
+utf8-refused bs h = not-true (is_utf8 bs) (λ e. h (IsUtf8-from_is_utf8 bs e))

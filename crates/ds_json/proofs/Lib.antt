@@ -1,3 +1,4 @@
 pub mod Chains
 pub mod Escapes
 pub mod Symbols
+pub mod Selection

@@ -1,6 +1,6 @@
 -- Base64, a piece at a time.
 use Rattle.std.proofs.Common.{◌≡◌, ℕ, ◌+◌, ◌-◌, ◌*◌, ◌%◌, ◌<◌, ◌≤◌, List, [], ◌∷◌, ◌++◌, length, take, drop, refl, sym, ap, ap₂, ◌∙◌, arith, append_assoc, append-nil, replicate}
-use Rattle.std.proofs.lemmas.List.{take-append-drop, length-take-le, length-append, length-drop, take_at}
+use Rattle.std.proofs.lemmas.List.{take-append-drop, length-take-le, length-append, length-drop, take_at, take_all}
 use Rattle.json.specs.Print.{escape_byte, escape}
 use Rattle.base64.specs.Rfc4648.{encode_symbols, padding_len}
 use Rattle.base64.specs.Engines.{standard}
@@ -27,11 +27,17 @@ encode_of-groups xs ys h =
     let same : padding_len (length (xs ++ ys)) ≡ padding_len (length ys) = omega (arith, length-append xs ys) in
     rw (none, same, append-nil, encode_symbols-groups t xs ys h, append_assoc) refl
 
-pub escape-symbols : (s : List ℕ) (n : ℕ) → n % 3 ≡ 0 → n ≤ length s
+split : (s : List ℕ) (n : ℕ) → n % 3 ≡ 0 → n ≤ length s
     → escape (encode_of standard (take n s)) ++ escape (encode_of standard (drop n s)) ≡ escape (encode_of standard s)
-escape-symbols s n h le =
+split s n h le =
     sym (escape-append (encode_of standard (take n s)) (encode_of standard (drop n s)))
     ∙ ap escape (encode_of-groups (take n s) (drop n s) (rw (length-take-le n s le) h) ∙ ap (encode_of standard) (take-append-drop n s))
+
+pub escape-symbols : (s : List ℕ) (n : ℕ) → n % 3 ≡ 0 → n ≤ length s
+    → escape (encode_of standard (take n s)) ++ escape (encode_of standard (take (length s - n) (drop n s))) ≡ escape (encode_of standard s)
+escape-symbols s n h le =
+    let all : take (length s - n) (drop n s) ≡ drop n s = take_all (length s - n) (drop n s) (omega (arith, length-drop n s)) in
+    rw all (split s n h le)
 
 -- what an encoding over a longer list put there
 pub encoded-front : (a old new : List ℕ) (n : ℕ) → new ≡ a ++ drop n old → length new ≡ length old → n ≤ length old → take n new ≡ a

@@ -49,6 +49,8 @@ pub fn write_reply_to(reply: &Reply, onto: &mut Buffer) -> Result<(), NoMemory>
     let room = reply_room(reply);
     onto.make_room(room as usize)?;
     write_line(reply, onto);
+    // As many bytes as there are in memory are fewer than a count is cut off at.
+    let _length = onto.bytes().len();
     Ok(())
 }
 

@@ -5,4 +5,4 @@ pub returns-in-Some : goal.returns-in-Some
 unfolding escape_byte
 returns-in-Some g c =
     let j = g.met.O.Output.joined in
-    λ rest u h. j _ _ _ _ _ c.put.ensures (j _ _ _ _ _ c.write_text.ensures h)
+    λ rest u h. rw c.in-Some.is (j _ _ _ _ _ c.put.ensures (j _ _ _ _ _ c.write_text.ensures h))
