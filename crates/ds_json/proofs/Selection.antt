@@ -1,7 +1,8 @@
 -- Members put by name, and how the least name that isn't written is the next of them.
-use Rattle.std.proofs.Common.{◌≡◌, ◌≢◌, ℕ, zero, suc, ◌+◌, ◌<◌, ◌≤◌, min, Bool, true, false, cond, List, [], ◌∷◌, ◌++◌, length, take, get_or, refl, sym, ap, ◌∙◌, subst, arith}
+use Rattle.std.proofs.Common.{◌≡◌, ◌≢◌, ℕ, zero, suc, ◌+◌, ◌<◌, ◌≤◌, min, Bool, true, false, cond, List, [], ◌∷◌, ◌++◌, length, take, get_or, refl, sym, ap, ◌∙◌, subst, arith, inl, inr, Option, Some, None}
 use Rattle.std.proofs.lemmas.List.{take_more, length-take-le, take_all}
 use Rattle.std.proofs.lemmas.Map.Lookups.{exact_bytes}
+use Rattle.std.proofs.lemmas.Bool.{cases_lt}
 use Rattle.std.specs.declared.cmp.Ordering.{Ordering}
 use Rattle.std.specs.declared.cmp.Ordering.TheVariants.{Less, Equal, Greater}
 use Rattle.std.specs.Ordering.{is_lt, nat_cmp, match_ordering, ordering_reverse}
@@ -9,8 +10,9 @@ use Rattle.std.specs.Cmp.{IsTotalOrder}
 use Rattle.std.specs.Cmp.Lexicographic.{slice_cmp, nat_list_cmp_total}
 use Rattle.serde_json.specs.Data.{Data, Members, no_members, member, put}
 use Rattle.ds_base.specs.declared.index_value.IndexValue.{IndexValue}
+use Rattle.ds_base.specs.declared.index_value.IndexValue.TheVariants as index
 use Rattle.ds_json.specs.Replies.{projected_members, index_value_data}
-use Rattle.ds_json.specs.Projections.{before, is_past, past, members_count}
+use Rattle.ds_json.specs.Projections.{before, is_past, past, IsNextPlace}
 
 abbrev C : List ℕ → List ℕ → Ordering
 C = slice_cmp nat_cmp
@@ -61,17 +63,18 @@ apart false t f = absurd cc
 -- a name that was passed changes nothing
 pub past-put_passed : (later : Bool) (k n : List ℕ) (d : Data) (ms : Members) → is_past later k n ≡ false → past later k (put n d ms) ≡ past later k ms
 past-put_passed later k n d no_members f = rw f refl
-past-put_passed later k n d (member l e ms) f = at (C n l) refl where
-  under : (b : Bool) → b ≡ is_past later k l → Greater ≡ C n l → cond b (member l e (put n d ms)) (past later k (put n d ms)) ≡ cond b (member l e ms) (past later k ms)
-  under true p g = apart (is_past later k n) (is_past-more later k l n (sym p) (before-greater n l g)) f
-  under false p g = past-put_passed later k n d ms f
-  at : (o : Ordering) → o ≡ C n l → past later k (match_ordering o (member n d (member l e ms)) (member l d ms) (member l e (put n d ms))) ≡ past later k (member l e ms)
-  at Less o = rw f refl
-  at Equal o =
+past-put_passed later k n d (member l e ms) f = at (C n l) refl (past-put_passed later k n d ms f) where
+  under : (b : Bool) → b ≡ is_past later k l → Greater ≡ C n l → past later k (put n d ms) ≡ past later k ms → cond b (member l e (put n d ms)) (past later k (put n d ms)) ≡ cond b (member l e ms) (past later k ms)
+  under true p g rec = apart (is_past later k n) (is_past-more later k l n (sym p) (before-greater n l g)) f
+  under false p g rec = rec
+
+  at : (o : Ordering) → o ≡ C n l → past later k (put n d ms) ≡ past later k ms → past later k (match_ordering o (member n d (member l e ms)) (member l d ms) (member l e (put n d ms))) ≡ past later k (member l e ms)
+  at Less o rec = rw f refl
+  at Equal o rec =
       let same : n ≡ l = exact_bytes n l (sym o) in
       let g : is_past later k l ≡ false = ap (λ (x : List ℕ). is_past later k x) (sym same) ∙ f in
       rw g refl
-  at Greater o = under (is_past later k l) refl o
+  at Greater o rec = under (is_past later k l) refl o rec
 
 -- what the first of the members left is
 pub record Begins (n : List ℕ) (d : Data) (ms : Members) : Type 0 where
@@ -81,58 +84,62 @@ pub record Begins (n : List ℕ) (d : Data) (ms : Members) : Type 0 where
 -- it becomes the first, where none was left
 pub past-put_only : (later : Bool) (k n : List ℕ) (d : Data) (ms : Members) → is_past later k n ≡ true → past later k ms ≡ no_members → Begins n d (past later k (put n d ms))
 past-put_only later k n d no_members t none = record { rest = no_members; is = rw t refl }
-past-put_only later k n d (member l e ms) t none = at (C n l) refl where
-  under : (b : Bool) → b ≡ is_past later k l → cond b (member l e ms) (past later k ms) ≡ no_members → Begins n d (cond b (member l e (put n d ms)) (past later k (put n d ms)))
-  under true p empty = absurd cc
-  under false p empty = past-put_only later k n d ms t empty
-  at : (o : Ordering) → o ≡ C n l → Begins n d (past later k (match_ordering o (member n d (member l e ms)) (member l d ms) (member l e (put n d ms))))
-  at Less o = record { rest = member l e ms; is = rw t refl }
-  at Equal o =
+past-put_only later k n d (member l e ms) t none = at (C n l) refl (λ empty. past-put_only later k n d ms t empty) where
+  under : (b : Bool) → b ≡ is_past later k l → (past later k ms ≡ no_members → Begins n d (past later k (put n d ms))) → cond b (member l e ms) (past later k ms) ≡ no_members → Begins n d (cond b (member l e (put n d ms)) (past later k (put n d ms)))
+  under true p rec empty = absurd (cc empty)
+  under false p rec empty = rec empty
+
+  at : (o : Ordering) → o ≡ C n l → (past later k ms ≡ no_members → Begins n d (past later k (put n d ms))) → Begins n d (past later k (match_ordering o (member n d (member l e ms)) (member l d ms) (member l e (put n d ms))))
+  at Less o rec = record { rest = member l e ms; is = rw t refl }
+  at Equal o rec =
       let same : n ≡ l = exact_bytes n l (sym o) in
       let g : is_past later k l ≡ true = ap (λ (x : List ℕ). is_past later k x) (sym same) ∙ t in
       record { rest = ms; is = rw (g, same) refl }
-  at Greater o = under (is_past later k l) refl none
+  at Greater o rec = under (is_past later k l) refl rec none
 
 -- it becomes the first, where the first doesn't come before it
 pub past-put_first : (later : Bool) (k n m : List ℕ) (d e : Data) (ms : Members) → is_past later k n ≡ true → before m n ≡ false → Begins m e (past later k ms) → Begins n d (past later k (put n d ms))
 past-put_first later k n m d e no_members t b f = record { rest = no_members; is = rw t refl }
-past-put_first later k n m d e (member l x ms) t b f = at (C n l) refl where
-  under : (c : Bool) → c ≡ is_past later k l → Greater ≡ C n l → Begins m e (cond c (member l x ms) (past later k ms)) → Begins n d (cond c (member l x (put n d ms)) (past later k (put n d ms)))
-  under true p g h =
+past-put_first later k n m d e (member l x ms) t b f = at (C n l) refl (λ h. past-put_first later k n m d e ms t b h) where
+  under : (c : Bool) → c ≡ is_past later k l → Greater ≡ C n l → (Begins m e (past later k ms) → Begins n d (past later k (put n d ms))) → Begins m e (cond c (member l x ms) (past later k ms)) → Begins n d (cond c (member l x (put n d ms)) (past later k (put n d ms)))
+  under true p g rec h =
       let same : l ≡ m = cc (h.is) in
       apart (before m n) (subst (λ (y : List ℕ). before y n ≡ true) same (before-greater n l g)) b
-  under false p g h = past-put_first later k n m d e ms t b h
-  at : (o : Ordering) → o ≡ C n l → Begins n d (past later k (match_ordering o (member n d (member l x ms)) (member l d ms) (member l x (put n d ms))))
-  at Less o = record { rest = member l x ms; is = rw t refl }
-  at Equal o =
+  under false p g rec h = rec h
+
+  at : (o : Ordering) → o ≡ C n l → (Begins m e (past later k ms) → Begins n d (past later k (put n d ms))) → Begins n d (past later k (match_ordering o (member n d (member l x ms)) (member l d ms) (member l x (put n d ms))))
+  at Less o rec = record { rest = member l x ms; is = rw t refl }
+  at Equal o rec =
       let same : n ≡ l = exact_bytes n l (sym o) in
       let g : is_past later k l ≡ true = ap (λ (y : List ℕ). is_past later k y) (sym same) ∙ t in
       record { rest = ms; is = rw (g, same) refl }
-  at Greater o = under (is_past later k l) refl o f
+  at Greater o rec = under (is_past later k l) refl o rec f
 
 -- the first stays, where it comes before it
 pub past-put_behind : (later : Bool) (k n m : List ℕ) (d e : Data) (ms : Members) → is_past later k n ≡ true → before m n ≡ true → Begins m e (past later k ms) → Begins m e (past later k (put n d ms))
 past-put_behind later k n m d e no_members t b f = absurd (cc (f.is))
-past-put_behind later k n m d e (member l x ms) t b f = at (C n l) refl where
-  under : (c : Bool) → c ≡ is_past later k l → Begins m e (cond c (member l x ms) (past later k ms)) → Begins m e (cond c (member l x (put n d ms)) (past later k (put n d ms)))
-  under true p h =
+past-put_behind later k n m d e (member l x ms) t b f = at (C n l) refl (λ h. past-put_behind later k n m d e ms t b h) where
+  under : (c : Bool) → c ≡ is_past later k l → (Begins m e (past later k ms) → Begins m e (past later k (put n d ms))) → Begins m e (cond c (member l x ms) (past later k ms)) → Begins m e (cond c (member l x (put n d ms)) (past later k (put n d ms)))
+  under true p rec h =
       let same : l ≡ m = cc (h.is) in
       let data-same : x ≡ e = cc (h.is) in
       record { rest = put n d ms; is = rw (same, data-same) refl }
-  under false p h = past-put_behind later k n m d e ms t b h
+  under false p rec h = rec h
+
   first_is : is_past later k l ≡ true → Begins m e (past later k (member l x ms)) → l ≡ m
   first_is g h = let is : member l x ms ≡ member m e h.rest = (rw g at h.is) in cc is
-  at : (o : Ordering) → o ≡ C n l → Begins m e (past later k (match_ordering o (member n d (member l x ms)) (member l d ms) (member l x (put n d ms))))
-  at Less o =
+
+  at : (o : Ordering) → o ≡ C n l → (Begins m e (past later k ms) → Begins m e (past later k (put n d ms))) → Begins m e (past later k (match_ordering o (member n d (member l x ms)) (member l d ms) (member l x (put n d ms))))
+  at Less o rec =
       let g : is_past later k l ≡ true = is_past-more later k n l t (before-less n l o) in
       let same : l ≡ m = first_is g f in
       apart (before m n) b (subst (λ (y : List ℕ). before y n ≡ false) same (not_before-less n l o))
-  at Equal o =
+  at Equal o rec =
       let same : n ≡ l = exact_bytes n l (sym o) in
       let g : is_past later k l ≡ true = ap (λ (y : List ℕ). is_past later k y) (sym same) ∙ t in
       let first : l ≡ m = first_is g f in
       apart (before m n) b (subst (λ (y : List ℕ). before y n ≡ false) (same ∙ first) (before-self n))
-  at Greater o = under (is_past later k l) refl f
+  at Greater o rec = under (is_past later k l) refl rec f
 
 -- ---- members in order
 
@@ -154,11 +161,11 @@ Above-put l n d (member m e ms) b a = at (C n m) where
 
 Sorted-put : (n : List ℕ) (d : Data) (ms : Members) → Sorted ms → Sorted (put n d ms)
 Sorted-put n d no_members s = (tt, tt)
-Sorted-put n d (member l e ms) s = at (C n l) refl where
-  at : (o : Ordering) → o ≡ C n l → Sorted (match_ordering o (member n d (member l e ms)) (member l d ms) (member l e (put n d ms)))
-  at Less o = (before-less n l o, s)
-  at Equal o = s
-  at Greater o = (Above-put l n d ms (before-greater n l o) s.0, Sorted-put n d ms s.1)
+Sorted-put n d (member l e ms) s = at (C n l) refl (Sorted-put n d ms s.1) where
+  at : (o : Ordering) → o ≡ C n l → Sorted (put n d ms) → Sorted (match_ordering o (member n d (member l e ms)) (member l d ms) (member l e (put n d ms)))
+  at Less o rec = (before-less n l o, s)
+  at Equal o rec = s
+  at Greater o rec = (Above-put l n d ms (before-greater n l o) s.0, rec)
 
 Sorted-projected : (ns : List (List ℕ)) (vs : List IndexValue) (ms : Members) → Sorted ms → Sorted (projected_members ns vs ms)
 Sorted-projected [] vs ms s = s
@@ -171,23 +178,25 @@ past-above l (member m d ms) a = rw a refl
 
 above-left : (later : Bool) (k l n : List ℕ) (d : Data) (ms : Members) → Above l ms → Sorted ms → Begins n d (past later k ms) → before l n ≡ true
 above-left later k l n d no_members a s f = absurd (cc (f.is))
-above-left later k l n d (member m e ms) a s f = under (is_past later k m) f where
-  under : (c : Bool) → Begins n d (cond c (member m e ms) (past later k ms)) → before l n ≡ true
-  under true h = let same : m ≡ n = cc (h.is) in subst (λ (y : List ℕ). before l y ≡ true) same a
-  under false h = before-trans l m n a (above-left later k m n d ms s.0 s.1 h)
+above-left later k l n d (member m e ms) a s f = under (is_past later k m) (λ h. above-left later k m n d ms s.0 s.1 h) f where
+  under : (c : Bool) → (Begins n d (past later k ms) → before m n ≡ true) → Begins n d (cond c (member m e ms) (past later k ms)) → before l n ≡ true
+  under true rec h = let same : m ≡ n = cc (h.is) in subst (λ (y : List ℕ). before l y ≡ true) same a
+  under false rec h = before-trans l m n a (rec h)
 
 -- what follows the first of the members left
 past-rest : (later : Bool) (k n : List ℕ) (d : Data) (ms : Members) → Sorted ms → (f : Begins n d (past later k ms)) → f.rest ≡ past true n ms
 past-rest later k n d no_members s f = absurd (cc (f.is))
-past-rest later k n d (member l e ms) s f = under (is_past later k l) f where
-  under : (c : Bool) (h : Begins n d (cond c (member l e ms) (past later k ms))) → h.rest ≡ past true n (member l e ms)
-  under true h =
+past-rest later k n d (member l e ms) s f = under (is_past later k l) (λ h. past-rest later k n d ms s.1 h) f where
+  under : (c : Bool) (rec : (h : Begins n d (past later k ms)) → h.rest ≡ past true n ms) (h : Begins n d (cond c (member l e ms) (past later k ms))) → h.rest ≡ past true n (member l e ms)
+  under true rec h =
       let same : n ≡ l = cc (h.is) in
       let tail : h.rest ≡ ms = cc (h.is) in
-      rw (same, before-self l, past-above l ms s.0) tail
-  under false h =
+      let b : before n l ≡ false = subst (λ (y : List ℕ). before y l ≡ false) (sym same) (before-self l) in
+      let all : past true n ms ≡ ms = ap (λ (y : List ℕ). past true y ms) same ∙ past-above l ms s.0 in
+      rw b (tail ∙ sym all)
+  under false rec h =
       let b : before n l ≡ false = not_before-after l n (above-left later k l n d ms s.0 s.1 h) in
-      rw b (past-rest later k n d ms s.1 h)
+      rw b (rec h)
 
 -- ---- the members of a projection
 
@@ -227,3 +236,69 @@ begins-whole later k n d ns vs f =
 pub past-none : (k : List ℕ) (ms : Members) → past false k ms ≡ ms
 past-none k no_members = refl
 past-none k (member l d ms) = refl
+
+-- ---- the search for the next name, among the first i
+
+pub record Found (ns : List (List ℕ)) (vs : List IndexValue) (later : Bool) (k : List ℕ) (i best count : ℕ) : Type 0 where
+  pub none : count ≤ best → past later k (projected ns vs i) ≡ no_members
+  pub some : best < count → (best < i) × Begins (get_or ns best []) (index_value_data (get_or vs best index.Null)) (past later k (projected ns vs i))
+
+pub found-start : (ns : List (List ℕ)) (vs : List IndexValue) (later : Bool) (k : List ℕ) (count : ℕ) → Found ns vs later k 0 count count
+found-start ns vs later k count = record { none = λ h. refl; some = λ h. absurd (omega arith) }
+
+pub found-passed : (ns : List (List ℕ)) (vs : List IndexValue) (later : Bool) (k : List ℕ) (i best count : ℕ) → i < length ns → i < length vs
+    → is_past later k (get_or ns i []) ≡ false → Found ns vs later k i best count → Found ns vs later k (i + 1) best count
+found-passed ns vs later k i best count a b f found =
+    let step = projected-step ns vs i [] index.Null a b in
+    let same : past later k (projected ns vs (i + 1)) ≡ past later k (projected ns vs i) =
+    ap (past later k) step ∙ past-put_passed later k (get_or ns i []) (index_value_data (get_or vs i index.Null)) (projected ns vs i) f in
+    record {
+      none = λ h. same ∙ found.none h;
+      some = λ h. let old = found.some h in (omega (arith, old.0), record { rest = old.1.rest; is = same ∙ old.1.is });
+    }
+
+pub found-better : (ns : List (List ℕ)) (vs : List IndexValue) (later : Bool) (k : List ℕ) (i best count : ℕ) → i < length ns → i < length vs → i < count
+    → is_past later k (get_or ns i []) ≡ true → (best < count → before (get_or ns best []) (get_or ns i []) ≡ false)
+    → Found ns vs later k i best count → Found ns vs later k (i + 1) i count
+found-better ns vs later k i best count a b lt t worse found = record {
+  none = λ h. absurd (omega arith);
+  some = λ h. (omega arith, subst (λ (ms : Members). Begins n d (past later k ms)) (sym (projected-step ns vs i [] index.Null a b)) first);
+} where
+  n : List ℕ
+  n = get_or ns i []
+
+  d : Data
+  d = index_value_data (get_or vs i index.Null)
+
+  first : Begins n d (past later k (put n d (projected ns vs i)))
+  first = elim (cases_lt best count) [
+    | inl lt ↦ past-put_first later k n (get_or ns best []) d (index_value_data (get_or vs best index.Null)) (projected ns vs i) t (worse lt) ((found.some lt).1)
+    | inr ge ↦ past-put_only later k n d (projected ns vs i) t (found.none ge)
+  ]
+
+pub found-behind : (ns : List (List ℕ)) (vs : List IndexValue) (later : Bool) (k : List ℕ) (i best count : ℕ) → i < length ns → i < length vs
+    → is_past later k (get_or ns i []) ≡ true → best < count → before (get_or ns best []) (get_or ns i []) ≡ true
+    → Found ns vs later k i best count → Found ns vs later k (i + 1) best count
+found-behind ns vs later k i best count a b t lt less found =
+    let old = found.some lt in
+    let n : List ℕ = get_or ns i [] in
+    let d : Data = index_value_data (get_or vs i index.Null) in
+    let now = past-put_behind later k n (get_or ns best []) d (index_value_data (get_or vs best index.Null)) (projected ns vs i) t less old.1 in
+    record {
+      none = λ h. absurd (omega arith);
+      some = λ h. (omega (arith, old.0), subst (λ (ms : Members). Begins (get_or ns best []) (index_value_data (get_or vs best index.Null)) (past later k ms)) (sym (projected-step ns vs i [] index.Null a b)) now);
+    }
+
+-- the search at its end
+pub found-none : (ns : List (List ℕ)) (vs : List IndexValue) (later : Bool) (k : List ℕ) (best count : ℕ) → count ≡ min (length ns) (length vs)
+    → Found ns vs later k count best count → count ≤ best → IsNextPlace ns vs later k None
+found-none ns vs later k best count e found h = ap (past later k) (sym (projected-whole ns vs count e)) ∙ found.none h
+
+pub found-some : (ns : List (List ℕ)) (vs : List IndexValue) (later : Bool) (k : List ℕ) (best count : ℕ) → count ≡ min (length ns) (length vs)
+    → Found ns vs later k count best count → best < count → IsNextPlace ns vs later k (Some best)
+found-some ns vs later k best count e found h =
+    let old = (found.some h).1 in
+    let n : List ℕ = get_or ns best [] in
+    let d : Data = index_value_data (get_or vs best index.Null) in
+    let whole : Begins n d (past later k (projected_members ns vs no_members)) = subst (λ (ms : Members). Begins n d (past later k ms)) (projected-whole ns vs count e) old in
+    (omega arith, omega arith, begins-whole later k n d ns vs whole)

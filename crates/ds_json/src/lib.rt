@@ -9,6 +9,8 @@ pub mod call;
 pub mod refusal;
 pub mod reply;
 mod write;
+#[cfg(test)]
+mod write_tests;
 
 pub use call::{Call, Field, Request, RequestRefused};
 pub use refusal::Refusal;

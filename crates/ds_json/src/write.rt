@@ -17,7 +17,7 @@ mod values;
 use crate::reply::Reply;
 use bodies::write_body;
 use ds_base::{Buffer, ByteString, NoMemory};
-use output::{Count, Output};
+use output::{Count, Output, length_in_memory};
 use std::alloc::Global;
 use std::mem;
 
@@ -50,7 +50,7 @@ pub fn write_reply_to(reply: &Reply, onto: &mut Buffer) -> Result<(), NoMemory>
     onto.make_room(room as usize)?;
     write_line(reply, onto);
     // As many bytes as there are in memory are fewer than a count is cut off at.
-    let _length = onto.bytes().len();
+    let _length = length_in_memory(onto.bytes());
     Ok(())
 }
 

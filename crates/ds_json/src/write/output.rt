@@ -1,5 +1,5 @@
 //! What takes a reply, piece by piece: a count of its bytes, or a buffer.
-ghost use Rattle.std.specs.Prelude.{ℕ, List, [], ◌++◌};
+ghost use Rattle.std.specs.Prelude.{◌≡◌, ◌<◌, ◌^◌, ℕ, List, [], ◌++◌, length};
 ghost use Rattle.ds_json.specs.Outputs.{Counts, Fills};
 ghost use Rattle.ds_json.specs.OutputLaws.{counts_nothing, counts_joined, fills_nothing, fills_joined};
 
@@ -47,4 +47,12 @@ impl Output for Buffer {
     fn put(&mut self, piece: &[u8]) {
         let _ = self.append(piece);
     }
+}
+
+/// How many bytes these are: fewer than 2^63, since they are in memory.
+pub(crate) fn length_in_memory(bytes: &[u8]) -> usize
+    ensures value { result ≡ length bytes.now }
+    ensures bound { length bytes.now < 2 ^ 63 }
+{
+    bytes.len()
 }

@@ -135,7 +135,13 @@ fn write_cursor<O: Output>(cursor: &Option<TextString>, out: &mut O)
 }
 
 /// Puts the reply of a settle.
-pub(super) fn write_settle<O: Output>(client: u64, line: u64, place: u64, applied: &Counts, out: &mut O)
+pub(super) fn write_settle<O: Output>(
+    client: u64,
+    line: u64,
+    place: u64,
+    applied: &Counts,
+    out: &mut O,
+)
     ensures { O.Writes (compact_text (body_data client line (Body.Settle place applied.now))) out.old out.new }
 {
     out.put(b"{\"applied\":[");

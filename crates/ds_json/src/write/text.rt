@@ -73,6 +73,7 @@ pub(super) fn write_base64<O: Output>(bytes: &[u8], out: &mut O)
 
 // As many bytes as are encoded at once: groups of three, so that no padding stands between them.
 const BYTES_AT_ONCE: usize = 192;
+
 const SYMBOLS_AT_ONCE: usize = 256;
 
 /// Puts the base64 of bytes, a piece at a time.

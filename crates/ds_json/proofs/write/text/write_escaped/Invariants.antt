@@ -7,5 +7,5 @@ use Rattle.ds_json.proofs.write.text.write_escaped.Given as goal
 abbrev pub invariant-loop-i : goal.invariant-loop-i
 invariant-loop-i g l = record {
   begun : l.start ≤ l.i;
-  whole : (u : _) → g.O.Output.Writes (slice_range l.text l.start l.i ++ escape (drop l.i l.text)) l.out u → g.O.Output.Writes (escape l.text) l.initial.out u
+  whole : (u : _) → g.O.Output.Writes (slice_range l.text l.start l.i ++ escape (drop l.i l.text)) l.out u → g.O.Output.Writes (escape l.text) l.initial.out u;
 }
