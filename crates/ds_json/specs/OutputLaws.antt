@@ -1,5 +1,5 @@
 -- Texts written one after another are their concatenation.
-use Rattle.std.proofs.Common.{◌≡◌, ℕ, ◌+◌, ◌≤◌, List, [], ◌++◌, length, length-append, append_assoc, append-nil, sym, ap, ◌∙◌, arith, min, inl, inr, ◌<◌, ◌^◌, ◌⊎◌}
+use Rattle.std.proofs.Common.{◌≡◌, ℕ, ◌+◌, ◌≤◌, List, [], ◌++◌, length, length-append, append_assoc, append-nil, sym, ap, ◌∙◌, arith, min, inl, inr, ◌<◌, ◌^◌}
 use Rattle.ds_base.specs.Buffers.{BufferParts}
 use Rattle.ds_json.specs.declared.write.output.Count.{Count}
 use Rattle.ds_json.specs.Outputs.{largest, Counts, Stands, Grows, Fills}

@@ -1,4 +1,4 @@
-use Rattle.std.proofs.Common.{refl, sym}
+use Rattle.std.proofs.Common.{refl}
 use Rattle.ds_json.specs.Replies.{elem_items, elem_data}
 use Rattle.ds_json.proofs.Chains.{items-more}
 use Rattle.ds_json.proofs.write.keys.write_elems.Goals as goal

@@ -1,4 +1,3 @@
-use Rattle.std.proofs.Common.{refl}
 use Rattle.ds_json.proofs.Chains.{keyed-default, keyed-other}
 use Rattle.ds_json.proofs.write.keys.write_keyed.Goals as goal
 

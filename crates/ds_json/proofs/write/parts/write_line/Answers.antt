@@ -1,6 +1,3 @@
-use Rattle.std.proofs.Common.{codes}
-use Rattle.serde_json.specs.Data.{Data, Members, no_members, member, string, object, array}
-use Rattle.ds_json.specs.Replies.{natural, field_name, reason_name, optional_key_data, constraint_data, index_def_data, key_data, count_items, cursor_member, result_items}
 use Rattle.json.specs.Print.{escape_byte}
 use Rattle.ds_json.proofs.write.parts.write_line.Goals as goal
 

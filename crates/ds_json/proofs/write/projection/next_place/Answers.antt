@@ -1,4 +1,4 @@
-use Rattle.std.proofs.Common.{arith, refl, ◌≡◌, length, min, inl, inr, Bool, true, false, ℕ, sym}
+use Rattle.std.proofs.Common.{arith, ◌≡◌, inl, inr}
 use Rattle.ds_json.proofs.Selection.{found-passed, found-better, found-behind, found-none, found-some}
 use Rattle.ds_json.proofs.write.projection.next_place.Goals as goal
 use Rattle.ds_json.proofs.write.projection.next_place.Goals.{then-is_better, else-is_better}

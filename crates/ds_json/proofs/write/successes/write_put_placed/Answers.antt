@@ -1,6 +1,6 @@
 use Rattle.std.proofs.Common.{codes}
-use Rattle.serde_json.specs.Data.{Data, Members, no_members, member, string, object, array}
-use Rattle.ds_json.specs.Replies.{natural, field_name, reason_name, optional_key_data, constraint_data, index_def_data, key_data, count_items, cursor_member, result_items}
+use Rattle.serde_json.specs.Data.{no_members, member, string}
+use Rattle.ds_json.specs.Replies.{natural, key_data}
 use Rattle.json.specs.Print.{escape_byte}
 use Rattle.ds_json.proofs.write.successes.write_put_placed.Goals as goal
 

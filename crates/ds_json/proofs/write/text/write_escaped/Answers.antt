@@ -1,4 +1,4 @@
-use Rattle.std.proofs.Common.{arith, refl, rules, List, ℕ, subst}
+use Rattle.std.proofs.Common.{arith, refl}
 use Rattle.ds_json.proofs.Escapes.{escape-run}
 use Rattle.ds_json.proofs.write.text.write_escaped.Goals as goal
 

@@ -1,4 +1,4 @@
-use Rattle.std.proofs.Common.{refl, sym, arith, length}
+use Rattle.std.proofs.Common.{refl, sym, arith}
 use Rattle.std.proofs.lemmas.List.{length-take-le}
 use Rattle.ds_json.proofs.Symbols.{escape-symbols}
 use Rattle.ds_json.proofs.write.text.write_symbols.Goals as goal

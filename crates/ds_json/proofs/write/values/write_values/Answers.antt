@@ -1,4 +1,3 @@
-use Rattle.std.proofs.Common.{rules}
 use Rattle.ds_json.proofs.Chains.{values-several}
 use Rattle.ds_json.proofs.write.values.write_values.Goals as goal
 
