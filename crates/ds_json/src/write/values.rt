@@ -65,11 +65,11 @@ fn write_property<O: Output>(property: &Property, out: &mut O)
 fn write_values<O: Output>(values: &[Value], out: &mut O)
     ensures { O.Writes (compact_text (values_data values.now)) out.old out.new }
 {
-    if values.len() == 1 {
-        write_value(&values[0], out);
-    } else {
+    if values.len() != 1 {
         out.put(b"[");
         write_items(values, out);
+    } else {
+        write_value(&values[0], out);
     }
 }
 
