@@ -1,3 +1,6 @@
+pub mod OutputLaws
+pub mod Outputs
+pub mod Projections
 pub mod Queries
 pub mod Reading
 pub mod Replies

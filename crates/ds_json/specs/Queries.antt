@@ -1,6 +1,6 @@
 -- The members of a query as JSON.
 use Rattle.std.specs.Prelude.{ℕ, List, [], ◌∷◌, Bool, true, false, Option, Some, None, option_map, Result, Ok, Err, cond, codes, length, nat_le}
-use Rattle.serde_json.specs.Data.{Data, null, boolean, number, string, array, object, Items, no_items, item, Members, no_members, member}
+use Rattle.serde_json.specs.Data.{Data, boolean, string, array, no_items, item}
 use Rattle.ds_base.specs.declared.value.Value.{Value}
 use Rattle.ds_base.specs.declared.results.Column.{Column}
 use Rattle.ds_base.specs.Keys.{KeyParts, is_namespace, same_bytes}

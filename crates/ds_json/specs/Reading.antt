@@ -1,8 +1,7 @@
 -- How parts of a line are read: what is read, or what is wrong with it.
-use Rattle.std.specs.Prelude.{◌≡◌, ℕ, ℤ, pos, negsuc, List, [], ◌∷◌, Bool, true, false, Option, Some, None, option_and_then, Result, Ok, Err, nat_le, cond, codes, ⊤}
-use Rattle.serde_json.specs.Data.{Data, null, boolean, number, string, array, object, Items, no_items, item, Members, no_members, member}
+use Rattle.std.specs.Prelude.{◌≡◌, ℕ, ℤ, pos, negsuc, List, [], ◌∷◌, Option, Some, None, option_and_then, Result, Ok, Err, nat_le, cond, ⊤}
+use Rattle.serde_json.specs.Data.{Data, null, Items, no_items, item, Members}
 use Rattle.serde_json.specs.Find.{as_number, as_i64, get_member}
-use Rattle.ds_base.specs.Keys.{same_bytes}
 use Rattle.ds_json.specs.declared.refusal.Refusal.{Refusal}
 use Rattle.ds_json.specs.declared.refusal.Refusal.TheVariants as refusal
 

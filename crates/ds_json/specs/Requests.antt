@@ -1,7 +1,7 @@
 -- What a line asks.
-use Rattle.std.specs.Prelude.{◌≡◌, ℕ, List, [], ◌∷◌, Bool, true, false, Option, Some, None, Result, Ok, Err, cond, codes, ⊤, IsTrue, length, ◌<◌, ◌^◌}
+use Rattle.std.specs.Prelude.{ℕ, List, [], false, Option, Some, None, Result, Ok, Err, cond, codes, ⊤, IsTrue, length, ◌<◌, ◌^◌}
 use Rattle.std.specs.Str.{is_utf8}
-use Rattle.serde_json.specs.Data.{Data, null, boolean, number, string, array, object, Items, no_items, item, Members, no_members, member}
+use Rattle.serde_json.specs.Data.{Data, string, object, Members}
 use Rattle.serde_json.specs.Read.{read}
 use Rattle.ds_base.specs.Keys.{same_bytes}
 use Rattle.ds_base.specs.Entities.{names_ascend}

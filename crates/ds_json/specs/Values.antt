@@ -1,7 +1,7 @@
 -- Keys, values, properties and entities as JSON.
 use Rattle.std.specs.Prelude.{ℕ, ℤ, pos, negsuc, List, [], ◌∷◌, Bool, true, false, not, ◌||◌, Option, Some, None, option_map, option_and_then, Result, Ok, Err, cond, codes}
 use Rattle.std.specs.Result.{result_ok}
-use Rattle.serde_json.specs.Data.{Data, Num, unsigned, null, boolean, number, string, array, object, Items, no_items, item, Members, no_members, member}
+use Rattle.serde_json.specs.Data.{Data, unsigned, null, boolean, number, string, array, object, Items, no_items, item, Members, no_members, member}
 use Rattle.serde_json.specs.Find.{as_i64}
 use Rattle.base64.specs.Engines.{standard}
 use Rattle.base64.specs.GeneralPurpose.{decode_of}
@@ -16,7 +16,7 @@ use Rattle.ds_base.specs.Entities.{is_faulty_value}
 use Rattle.ds_base.specs.declared.limits.TheConstants.{MAX_RATING}
 use Rattle.ds_json.specs.declared.refusal.Refusal.{Refusal}
 use Rattle.ds_json.specs.declared.refusal.Refusal.TheVariants as refusal
-use Rattle.ds_json.specs.Reading.{and_then, or_refuse, each_of, unless_null, optional, integer_of, up_to}
+use Rattle.ds_json.specs.Reading.{and_then, or_refuse, each_of, optional, integer_of, up_to}
 
 -- an identifier is an integer or a text
 abbrev pub ident_of : Data → Option Ident

@@ -9,7 +9,11 @@ pub mod call;
 mod read;
 pub mod refusal;
 pub mod reply;
+mod write;
+#[cfg(test)]
+mod write_tests;
 
 pub use call::{Call, Field, Request, RequestRefused};
 pub use refusal::Refusal;
 pub use reply::{Body, Reply, WriteAt};
+pub use write::{reply_room, write_reply, write_reply_to, write_reply_within};

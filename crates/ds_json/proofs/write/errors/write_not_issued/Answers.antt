@@ -1,0 +1,11 @@
+use Rattle.std.proofs.Common.{codes}
+use Rattle.serde_json.specs.Data.{no_members, member, string}
+use Rattle.ds_json.specs.Replies.{natural}
+use Rattle.json.specs.Print.{escape_byte}
+use Rattle.ds_json.proofs.write.errors.write_not_issued.Goals as goal
+
+pub returns : goal.returns
+unfolding escape_byte
+returns g c =
+    let j = g.met.O.Output.joined in
+    c.write_client.ensures (member (codes "error") (natural 21) (member (codes "id") (natural c.args.id) (member (codes "line") (natural c.args.line) (member (codes "name") (string (codes "IdNotIssued")) (member (codes "next") (natural c.args.next) no_members))))) _ (c.write_code.ensures (member (codes "id") (natural c.args.id) (member (codes "line") (natural c.args.line) (member (codes "name") (string (codes "IdNotIssued")) (member (codes "next") (natural c.args.next) no_members)))) _ (j _ _ _ _ _ c.put.ensures (j _ _ _ _ _ c.write_natural.ensures (c.write_line.ensures (member (codes "name") (string (codes "IdNotIssued")) (member (codes "next") (natural c.args.next) no_members)) _ (j _ _ _ _ _ c.put-2.ensures (j _ _ _ _ _ c.write_natural-2.ensures c.put-3.ensures))))))
