@@ -6,8 +6,12 @@
 #![tactic(auto)]
 
 pub mod call;
+mod members;
+mod queries;
+mod read;
 pub mod refusal;
 pub mod reply;
+mod scalars;
 
 pub use call::{Call, Field, Request, RequestRefused};
 pub use refusal::Refusal;
