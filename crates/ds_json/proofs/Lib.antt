@@ -1,1 +1,2 @@
 pub mod MembersLemmas
+pub mod QueriesLemmas

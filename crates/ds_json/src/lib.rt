@@ -8,10 +8,12 @@
 pub mod call;
 mod members;
 mod queries;
+mod query;
 mod read;
 pub mod refusal;
 pub mod reply;
 mod scalars;
+mod told;
 
 pub use call::{Call, Field, Request, RequestRefused};
 pub use refusal::Refusal;

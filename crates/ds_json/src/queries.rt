@@ -1,8 +1,10 @@
 //! Reading the members of a query.
-ghost use Rattle.std.specs.Prelude.{◌≡◌, [], ◌∷◌, None, Some, MatchOption, false, length, ◌≢◌, option_map};
-ghost use Rattle.serde_json.specs.View.{view};
+ghost use Rattle.std.specs.Prelude.{◌≡◌, [], ◌∷◌, None, Some, MatchOption, false, length, ◌≢◌, option_map, Ok};
+ghost use Rattle.serde_json.specs.View.{view, items_view};
+ghost use Rattle.serde_json.specs.Data.{array, string};
+ghost use Rattle.ds_json.specs.Values.{value_of};
 ghost use Rattle.ds_query.specs.declared.query.Select.TheVariants as select;
-ghost use Rattle.ds_json.specs.Reading.{Reads, optional};
+ghost use Rattle.ds_json.specs.Reading.{Reads, and_then, optional};
 ghost use Rattle.ds_json.specs.Queries.{namespace_of, name_of, kind_of, ancestor_of, op_of, operands_of, filter_of, filters_of, direction_of, order_of, orders_of, select_of, offset_of, limit_of, cursor_text_of, flag_of};
 
 use crate::read::each::{ReadItem, read_each};
@@ -82,6 +84,18 @@ fn three(mut values: Vec<Value>) -> Option<(Value, Value, Value)>
     Some((first, middle, last))
 }
 
+/// The two values of an array of two.
+fn two(mut values: Vec<Value>) -> Option<(Value, Value)>
+    ensures { MatchOption result (length values.items ≢ 2) (λ t. values.items ≡ t.0 ∷ t.1 ∷ []) }
+{
+    if values.len() != 2 {
+        return None;
+    }
+    let last = values.pop()?;
+    let first = values.pop()?;
+    Some((first, last))
+}
+
 /// The operator of this name.
 fn operator(name: &str) -> Option<Op>
     ensures { result ≡ op_of name.now }
@@ -106,6 +120,213 @@ fn direction(name: &str) -> Option<bool>
         "asc" => Some(false),
         "desc" => Some(true),
         _ => None,
+    }
+}
+
+/// The values that an operator compares with: an array of at least one for `in`, one value for every other operator.
+fn operands(alloc: Global, op: Op, value: Value) -> Result<Values, Refusal>
+    ensures { Reads (operands_of op (view value)) result }
+{
+    if op == Op::OneOf {
+        several_operands(alloc, value)
+    } else {
+        one_operand(alloc, value)
+    }
+}
+
+fn several_operands(alloc: Global, value: Value) -> Result<Values, Refusal>
+    ensures { Reads (operands_of Op.OneOf (view value)) result }
+{
+    match value {
+        Value::Array(values) => {
+            if values.is_empty() {
+                return Err(Refusal::Request);
+            }
+            read_each(alloc, &OperandRule, values)
+        }
+        _ => Err(Refusal::Request),
+    }
+}
+
+fn one_operand(alloc: Global, value: Value) -> Result<Values, Refusal>
+    ensures { Reads (and_then (value_of (view value)) (λ v. Ok (v ∷ []))) result }
+{
+    let value = read_value(alloc, value)?;
+    let mut values = Values::new(alloc);
+    match values.push(value) {
+        Ok(()) => Ok(values),
+        Err(_) => Err(Refusal::NoMemory),
+    }
+}
+
+/// A filter: `[property, operator, value]`.
+fn filter(alloc: Global, value: Value) -> Result<Filter, Refusal>
+    ensures { Reads (filter_of (view value)) result }
+{
+    match value {
+        Value::Array(parts) => match three(parts) {
+            Some((property, op, operand)) => filter_of_parts(alloc, property, op, operand),
+            None => Err(Refusal::Request),
+        },
+        _ => Err(Refusal::Request),
+    }
+}
+
+fn filter_of_parts(
+    alloc: Global,
+    property: Value,
+    op: Value,
+    operand: Value,
+) -> Result<Filter, Refusal>
+    ensures { Reads (filter_of (array (items_view (property ∷ op ∷ operand ∷ [])))) result }
+{
+    let Value::String(op) = op else {
+        return Err(Refusal::Request);
+    };
+    let property = name(property)?;
+    let Some(op) = operator(op.as_str()) else {
+        return Err(Refusal::Request);
+    };
+    let values = operands(alloc, op, operand)?;
+    Ok(Filter {
+        property,
+        op,
+        values,
+    })
+}
+
+/// An order: `[property, direction]`.
+fn order(value: Value) -> Result<Column, Refusal>
+    ensures { Reads (order_of (view value)) result }
+{
+    match value {
+        Value::Array(parts) => match two(parts) {
+            Some((property, direction)) => order_of_parts(property, direction),
+            None => Err(Refusal::Request),
+        },
+        _ => Err(Refusal::Request),
+    }
+}
+
+fn order_of_parts(property: Value, direction_name: Value) -> Result<Column, Refusal>
+    ensures { Reads (order_of (array (items_view (property ∷ direction_name ∷ [])))) result }
+{
+    let Value::String(direction_name) = direction_name else {
+        return Err(Refusal::Request);
+    };
+    let name = name(property)?;
+    match direction(direction_name.as_str()) {
+        Some(descending) => Ok(Column { name, descending }),
+        None => Err(Refusal::Request),
+    }
+}
+
+/// The rule by which the values of `in` are read.
+struct OperandRule;
+
+impl ReadItem for OperandRule {
+    type Item = ds_base::Value;
+
+    ghost reads = { λ _. value_of };
+
+    fn read(&self, alloc: Global, value: Value) -> Result<ds_base::Value, Refusal> {
+        read_value(alloc, value)
+    }
+}
+
+/// The rule by which filters are read.
+struct FilterRule;
+
+impl ReadItem for FilterRule {
+    type Item = Filter;
+
+    ghost reads = { λ _. filter_of };
+
+    fn read(&self, alloc: Global, value: Value) -> Result<Filter, Refusal> {
+        filter(alloc, value)
+    }
+}
+
+/// The rule by which orders are read.
+struct OrderRule;
+
+impl ReadItem for OrderRule {
+    type Item = Column;
+
+    ghost reads = { λ _. order_of };
+
+    fn read(&self, _alloc: Global, value: Value) -> Result<Column, Refusal> {
+        order(value)
+    }
+}
+
+/// The rule by which the names of a projection are read.
+struct NameRule;
+
+impl ReadItem for NameRule {
+    type Item = TextString;
+
+    ghost reads = { λ _. name_of };
+
+    fn read(&self, _alloc: Global, value: Value) -> Result<TextString, Refusal> {
+        name(value)
+    }
+}
+
+/// The filters; none where nothing is given.
+pub(crate) fn read_filters(alloc: Global, given: Option<Value>) -> Result<Filters, Refusal>
+    ensures { Reads (optional [] filters_of (option_map view given)) result }
+{
+    match given {
+        Some(Value::Array(filters)) => read_each(alloc, &FilterRule, filters),
+        Some(_) => Err(Refusal::Request),
+        None => Ok(Filters::new(alloc)),
+    }
+}
+
+/// The orders; none where nothing is given.
+pub(crate) fn read_orders(alloc: Global, given: Option<Value>) -> Result<Columns, Refusal>
+    ensures { Reads (optional [] orders_of (option_map view given)) result }
+{
+    match given {
+        Some(Value::Array(orders)) => read_each(alloc, &OrderRule, orders),
+        Some(_) => Err(Refusal::Request),
+        None => Ok(Columns::new(alloc)),
+    }
+}
+
+/// What is given of each result; whole entities where nothing is given.
+pub(crate) fn read_select(alloc: Global, given: Option<Value>) -> Result<Select, Refusal>
+    ensures { Reads (optional select.Entities select_of (option_map view given)) result }
+{
+    match given {
+        Some(value) => selection(alloc, value),
+        None => Ok(Select::Entities),
+    }
+}
+
+fn selection(alloc: Global, value: Value) -> Result<Select, Refusal>
+    ensures { Reads (select_of (view value)) result }
+{
+    match value {
+        Value::String(text) => named_selection(text.as_str()),
+        Value::Array(names) => {
+            if names.is_empty() {
+                return Err(Refusal::Request);
+            }
+            Ok(Select::Projection(read_each(alloc, &NameRule, names)?))
+        }
+        _ => Err(Refusal::Request),
+    }
+}
+
+fn named_selection(name: &str) -> Result<Select, Refusal>
+    ensures { Reads (select_of (string name.now)) result }
+{
+    match name {
+        "entities" => Ok(Select::Entities),
+        "keys" => Ok(Select::Keys),
+        _ => Err(Refusal::Request),
     }
 }
 
