@@ -1,2 +1,4 @@
+pub mod Chains
 pub mod MembersLemmas
 pub mod QueriesLemmas
+pub mod QueryChain
