@@ -1,12 +1,13 @@
 -- Members that are read one after another: what a chain of readers answers.
-use Rattle.std.proofs.Common.{◌≡◌, ℕ, Option, Result, Ok, Err, refl, sym, ap, subst, ◌∙◌}
+use Rattle.std.proofs.Common.{◌≡◌, ℕ, Option, Result, Ok, Err, IfOk, refl, sym, ap, subst, ◌∙◌}
 use Rattle.serde_json.specs.Data.{Data}
+use Rattle.ds_json.specs.declared.call.Call.{Call}
 use Rattle.ds_json.specs.declared.call.Field.{Field}
 use Rattle.ds_json.specs.declared.call.RequestRefused.{RequestRefused}
 use Rattle.ds_json.specs.declared.call.RequestRefused.TheVariants as refused
 use Rattle.ds_json.specs.declared.refusal.Refusal.{Refusal}
 use Rattle.ds_json.specs.Reading.{and_then, Reads}
-use Rattle.ds_json.specs.Requests.{at_field, ReadsLine}
+use Rattle.ds_json.specs.Requests.{at_field, IsLawfulCall, ReadsLine}
 
 -- where the first is read, the answer is that of the rest
 pub then_ok : {A B : Type 0} (X : Result A RequestRefused) (f : A → Result B RequestRefused) (x : A) (r : Result B RequestRefused) → X ≡ Ok x → ReadsLine (f x) r → ReadsLine (and_then X f) r
@@ -29,3 +30,13 @@ pub taken_err : {A : Type 0} (client : ℕ) (field : Field) (f : Option Data →
     → given ≡ member → Reads (f given) read → ((g : Result A Refusal) → Reads g read → ReadsLine (at_field client field g) (Err e)) → ReadsLine (at_field client field (f member)) (Err e)
 taken_err client field f given member read e is reads told =
     let P : Option Data → Type 0 = λ d. ReadsLine (at_field client field (f d)) (Err e) in subst P is (told (f given) reads)
+
+-- a call is lawful where each that the rest may give is
+pub lawful_then : {A : Type 0} (X : Result A RequestRefused) (f : A → Result Call RequestRefused) → ((x : A) → IfOk (f x) IsLawfulCall) → IfOk (and_then X f) IsLawfulCall
+lawful_then (Ok x) f rest = rest x
+lawful_then (Err e) f rest = tt
+
+-- what is read is lawful where each call that the definition gives is
+pub lawful_read : (given read : Result Call RequestRefused) → ReadsLine given read → IfOk given IsLawfulCall → IfOk read IsLawfulCall
+lawful_read given (Ok call) is lawful = let P : Result Call RequestRefused → Type 0 = λ r. IfOk r IsLawfulCall in subst P is lawful
+lawful_read given (Err e) is lawful = tt

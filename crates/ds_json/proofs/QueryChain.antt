@@ -1,6 +1,6 @@
 -- The chain of a query's members, a member at a time: what is left to read after each, and that the whole answers what is
 -- left once the members before were read.
-use Rattle.std.proofs.Common.{◌≡◌, ℕ, List, [], Bool, false, Option, None, Result, Ok, Err, codes}
+use Rattle.std.proofs.Common.{◌≡◌, ℕ, List, [], Bool, false, Option, None, Result, Ok, Err, IfOk, codes}
 use Rattle.serde_json.specs.Data.{Members}
 use Rattle.ds_base.specs.declared.results.Column.{Column}
 use Rattle.ds_base.specs.Keys.{KeyParts}
@@ -13,8 +13,8 @@ use Rattle.ds_json.specs.declared.call.Field.TheVariants as field
 use Rattle.ds_json.specs.declared.call.RequestRefused.{RequestRefused}
 use Rattle.ds_json.specs.Reading.{and_then, member_of, optional}
 use Rattle.ds_json.specs.Queries.{namespace_of, kind_of, ancestor_of, filters_of, orders_of, select_of, offset_of, limit_of, cursor_text_of, flag_of}
-use Rattle.ds_json.specs.Requests.{at_field, query_call_of, ReadsLine}
-use Rattle.ds_json.proofs.Chains.{then_ok}
+use Rattle.ds_json.specs.Requests.{at_field, query_call_of, IsLawfulCall, ReadsLine}
+use Rattle.ds_json.proofs.Chains.{then_ok, lawful_then}
 
 module _ (client : ℕ) (ms : Members) where
   abbrev pub namespace_at : Result (List ℕ) RequestRefused
@@ -115,3 +115,19 @@ module _ (client : ℕ) (ms : Members) where
 
   pub through_cursor : {namespace : List ℕ} {kind : Option (List ℕ)} {ancestor : Option KeyParts} {filters : List Filter} {orders : List Column} {selected : Select} {offset : ℕ} {limit : Option ℕ} {start : Option (List ℕ)} {end : Option (List ℕ)} {cursor : Bool} (r : Result Call RequestRefused) → namespace_at ≡ Ok namespace → kind_at ≡ Ok kind → ancestor_at ≡ Ok ancestor → filters_at ≡ Ok filters → orders_at ≡ Ok orders → select_at ≡ Ok selected → offset_at ≡ Ok offset → limit_at ≡ Ok limit → start_at ≡ Ok start → end_at ≡ Ok end → cursor_at ≡ Ok cursor → ReadsLine (after_cursor namespace kind ancestor filters orders selected offset limit start end cursor) r → ReadsLine (query_call_of client ms) r
   through_cursor {namespace} {kind} {ancestor} {filters} {orders} {selected} {offset} {limit} {start} {end} {cursor} r h0 h1 h2 h3 h4 h5 h6 h7 h8 h9 h10 rest = through_end r h0 h1 h2 h3 h4 h5 h6 h7 h8 h9 (then_ok cursor_at (after_cursor namespace kind ancestor filters orders selected offset limit start end) cursor r h10 rest)
+
+-- whatever query is read is lawful
+pub query_is_lawful : (client : ℕ) (ms : Members) → IfOk (query_call_of client ms) IsLawfulCall
+query_is_lawful client ms =
+    lawful_then (namespace_at client ms) (after_namespace client ms) (λ namespace.
+    (lawful_then (kind_at client ms) (after_kind client ms namespace) (λ kind.
+    (lawful_then (ancestor_at client ms) (after_ancestor client ms namespace kind) (λ ancestor.
+    (lawful_then (filters_at client ms) (after_filters client ms namespace kind ancestor) (λ filters.
+    (lawful_then (orders_at client ms) (after_orders client ms namespace kind ancestor filters) (λ orders.
+    (lawful_then (select_at client ms) (after_select client ms namespace kind ancestor filters orders) (λ selected.
+    (lawful_then (offset_at client ms) (after_offset client ms namespace kind ancestor filters orders selected) (λ offset.
+    (lawful_then (limit_at client ms) (after_limit client ms namespace kind ancestor filters orders selected offset) (λ limit.
+    (lawful_then (start_at client ms) (after_start client ms namespace kind ancestor filters orders selected offset limit) (λ start.
+    (lawful_then (end_at client ms) (after_end client ms namespace kind ancestor filters orders selected offset limit start) (λ end.
+    (lawful_then (cursor_at client ms) (after_cursor client ms namespace kind ancestor filters orders selected offset limit start end) (λ cursor.
+    tt)))))))))))))))))))))

@@ -12,9 +12,11 @@ mod query;
 mod read;
 pub mod refusal;
 pub mod reply;
+pub mod request;
 mod scalars;
 mod told;
 
 pub use call::{Call, Field, Request, RequestRefused};
 pub use refusal::Refusal;
 pub use reply::{Body, Reply, WriteAt};
+pub use request::{MAX_LINE_BYTES, read_request};

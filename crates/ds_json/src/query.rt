@@ -1,8 +1,8 @@
 //! Reading a query.
-ghost use Rattle.std.specs.Prelude.{◌≡◌, codes, option_map};
+ghost use Rattle.std.specs.Prelude.{◌≡◌, codes, option_map, IfOk};
 ghost use Rattle.serde_json.specs.View.{view, members_view};
 ghost use Rattle.ds_json.specs.Reading.{member_of};
-ghost use Rattle.ds_json.specs.Requests.{query_call_of, ReadsLine};
+ghost use Rattle.ds_json.specs.Requests.{query_call_of, IsLawfulCall, ReadsLine};
 
 use crate::call::{Call, Field, RequestRefused};
 use crate::members::{Members, take_member};
@@ -87,6 +87,13 @@ pub(crate) fn read_query(
     client: u32,
     members: Members,
 ) -> Result<Call, RequestRefused>
+    ensures reads { ReadsLine (query_call_of client (members_view members.entries)) result }
+    ensures lawful { IfOk result IsLawfulCall }
+{
+    read_query_members(alloc, client, members)
+}
+
+fn read_query_members(alloc: Global, client: u32, members: Members) -> Result<Call, RequestRefused>
     ensures { ReadsLine (query_call_of client (members_view members.entries)) result }
 {
     let given = query_members(members);

@@ -1,5 +1,5 @@
 //! Telling what is wrong with a member.
-ghost use Rattle.std.specs.Prelude.{Result};
+ghost use Rattle.std.specs.Prelude.{◌≡◌, Result};
 ghost use Rattle.ds_json.specs.declared.refusal.Refusal.{Refusal};
 ghost use Rattle.ds_json.specs.Reading.{Reads};
 ghost use Rattle.ds_json.specs.Requests.{at_field, ReadsLine};
@@ -13,7 +13,8 @@ pub(crate) fn at_field<T>(
     field: Field,
     read: Result<T, Refusal>,
 ) -> Result<T, RequestRefused>
-    ensures { (given : Result T Refusal) → Reads given read
+    ensures value { result ≡ at_field client field read }
+    ensures reads { (given : Result T Refusal) → Reads given read
         → ReadsLine (at_field client field given) result }
 {
     match read {
