@@ -3,6 +3,10 @@ pub mod Each
 pub mod Entities
 pub mod Escapes
 pub mod Keys
+pub mod MembersLemmas
+pub mod QueriesLemmas
+pub mod QueryChain
+pub mod ReadChains
 pub mod Selection
 pub mod Symbols
 pub mod Values

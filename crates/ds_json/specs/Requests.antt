@@ -31,6 +31,15 @@ at_field client field (Err refusal.Key) = Err (refused.BadKey client field)
 at_field client field (Err refusal.Value) = Err (refused.BadValue client field)
 at_field client field (Err refusal.NoMemory) = Err refused.NoMemory
 
+-- a reader's answer is what its definition gives; want of memory alone is free
+abbrev pub ReadsLine : {A : Type 0} → Result A RequestRefused → Result A RequestRefused → Type 0
+ReadsLine given (Ok x) = given ≡ Ok x
+ReadsLine given (Err refused.BadJson) = given ≡ Err refused.BadJson
+ReadsLine given (Err (refused.BadRequest client field)) = given ≡ Err (refused.BadRequest client field)
+ReadsLine given (Err (refused.BadKey client field)) = given ≡ Err (refused.BadKey client field)
+ReadsLine given (Err (refused.BadValue client field)) = given ≡ Err (refused.BadValue client field)
+ReadsLine given (Err refused.NoMemory) = ⊤
+
 -- the client is an integer from 0 to 15; an absent one is 0
 abbrev pub client_of : Option Data → Result ℕ Refusal
 client_of = optional 0 (λ d. or_refuse refusal.Request (up_to 15 d))

@@ -6,9 +6,15 @@
 #![tactic(auto)]
 
 pub mod call;
+mod members;
+mod queries;
+mod query;
 mod read;
 pub mod refusal;
 pub mod reply;
+pub mod request;
+mod scalars;
+mod told;
 mod write;
 #[cfg(test)]
 mod write_tests;
@@ -16,4 +22,5 @@ mod write_tests;
 pub use call::{Call, Field, Request, RequestRefused};
 pub use refusal::Refusal;
 pub use reply::{Body, Reply, WriteAt};
+pub use request::{MAX_LINE_BYTES, read_request};
 pub use write::{reply_room, write_reply, write_reply_to, write_reply_within};

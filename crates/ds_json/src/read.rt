@@ -1,5 +1,5 @@
 //! What is read of a line's JSON value, part by part.
-mod each;
-mod entities;
-mod keys;
-mod values;
+pub(crate) mod each;
+pub(crate) mod entities;
+pub(crate) mod keys;
+pub(crate) mod values;
