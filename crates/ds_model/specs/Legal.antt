@@ -47,38 +47,41 @@ abbrev pub written_commit : WriteAt → List ℕ
 written_commit (at.Commit n) = n ∷ []
 written_commit (at.Place p) = []
 
+abbrev pub acknowledged_in : Body → List ℕ
+acknowledged_in (body.Put key at) = written_commit at
+acknowledged_in _ = []
+
 -- the commit that a reply acknowledges
 abbrev pub acknowledged : Reply → List ℕ
-acknowledged r = of_body r.body where
-  of_body : Body → List ℕ
-  of_body (body.Put key at) = written_commit at
-  of_body _ = []
+acknowledged r = acknowledged_in r.body
 
 -- the ids that a reply tells as drawn; no operation draws yet
 abbrev pub drawn : Reply → List ℕ
 drawn r = []
 
+abbrev pub counter_id : Ident → List ℕ
+counter_id (Id n) = cond (nat_le first_id n) (n ∷ []) []
+counter_id (Name x) = []
+
 abbrev pub counter_ids : List Elem → List ℕ
-counter_ids [] = []
-counter_ids (e ∷ es) = of_ident e.ident ++ counter_ids es where
-  of_ident : Ident → List ℕ
-  of_ident (Id n) = cond (nat_le first_id n) (n ∷ []) []
-  of_ident (Name x) = []
+counter_ids = flat_map (λ e. counter_id e.ident)
+
+abbrev pub accepted_in : Body → List ℕ
+accepted_in (body.Put key at) = counter_ids key.elems
+accepted_in _ = []
 
 -- the accepted ids of a written key that are drawn from the counter
 abbrev pub accepted : Reply → List ℕ
-accepted r = of_body r.body where
-  of_body : Body → List ℕ
-  of_body (body.Put key at) = counter_ids key.elems
-  of_body _ = []
+accepted r = accepted_in r.body
+
+abbrev pub printed_next_in : Body → List ℕ
+printed_next_in (body.IdNotIssued id next) = next ∷ []
+printed_next_in (body.IdsExhausted next) = next ∷ []
+printed_next_in _ = []
 
 -- the id counters that a reply prints
 abbrev pub printed_next : Reply → List ℕ
-printed_next r = of_body r.body where
-  of_body : Body → List ℕ
-  of_body (body.IdNotIssued id next) = next ∷ []
-  of_body (body.IdsExhausted next) = next ∷ []
-  of_body _ = []
+printed_next r = printed_next_in r.body
 
 -- the drawn ids are those from the first one up to a bound, each once; accepted ids are below it, printed counters not above
 pub record IdsDrawn (replies : List Reply) : Type 0 where

@@ -1,4 +1,0 @@
-pub mod KindResults
-pub mod OneShard
-pub mod Sorted
-pub mod Steps
