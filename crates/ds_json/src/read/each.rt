@@ -45,7 +45,8 @@ pub(crate) fn read_rest<R: ReadItem>(
     mut read: Vec<R::Item>,
     rest: IntoIter<Value>,
 ) -> Result<Sequence<R::Item>, Refusal>
-    ensures { Reads (and_then (each_of (R.reads rule.now) (items_view (into_iter_items rest))) (λ xs. Ok (read.items ++ xs))) result }
+    ensures { Reads (and_then (each_of (R.reads rule.now) (items_view (into_iter_items rest)))
+        (λ xs. Ok (read.items ++ xs))) result }
 {
     for item in rest {
         let item = rule.read(alloc, item)?;

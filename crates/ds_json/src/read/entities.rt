@@ -25,7 +25,8 @@ pub(crate) fn read_entity(
     key: Option<Value>,
     properties: Option<Value>,
 ) -> Result<(Key, bool, Properties), Refusal>
-    ensures read { Reads (entity_of (option_map view key) (option_map view properties)) (result_map_both (λ e. record { key = e.0; incomplete = e.1; properties = e.2 }) (λ e. e) result) }
+    ensures read { Reads (entity_of (option_map view key) (option_map view properties))
+        (result_map_both (λ e. record { key = e.0; incomplete = e.1; properties = e.2 }) (λ e. e) result) }
     ensures ascending { IfOk result (λ e. IsTrue (names_ascend e.2)) }
     ensures few { IfOk result (λ e. length e.2 < 2 ^ 32) }
 {
@@ -80,7 +81,8 @@ fn read_each_member(alloc: Global, members: Map<String, Value>) -> Result<Proper
 /// Reads a member of an object as a property; none where its array of values is empty.
 fn read_member(alloc: Global, name: String, value: Value) -> Result<Option<Property>, Refusal>
     ensures { Reads (cond (not (is_name (string_bytes name)) || is_reserved (string_bytes name)) (Err refused.Value)
-        (and_then (property_values_of (view value)) (λ p. Ok (with_property (string_bytes name) p [])))) (result_map_both option_to_list (λ e. e) result) }
+        (and_then (property_values_of (view value)) (λ p. Ok (with_property (string_bytes name) p []))))
+        (result_map_both option_to_list (λ e. e) result) }
 {
     if !is_name(name.as_str().as_bytes()) || is_reserved(name.as_str().as_bytes()) {
         return Err(Refusal::Value);

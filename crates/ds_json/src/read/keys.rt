@@ -122,7 +122,8 @@ fn read_from(alloc: Global, first: Value, rest: IntoIter<Value>) -> Result<Key, 
 
 /// Reads a key in the default namespace from its first element.
 fn read_default(alloc: Global, first: Value, rest: IntoIter<Value>) -> Result<Key, Refusal>
-    ensures { Reads (or_refuse refused.Key (option_and_then (lawful_key []) (elems_of (item (view first) (items_view (into_iter_items rest)))))) result }
+    ensures { Reads (or_refuse refused.Key (option_and_then (lawful_key [])
+        (elems_of (item (view first) (items_view (into_iter_items rest)))))) result }
 {
     let Some(elem) = read_elem(first) else {
         return Err(Refusal::Key);
@@ -141,7 +142,8 @@ fn read_path(
     begun: Vec<Elem>,
     rest: IntoIter<Value>,
 ) -> Result<Key, Refusal>
-    ensures { Reads (or_refuse refused.Key (option_and_then (λ es. lawful_key namespace (begun.items ++ es)) (elems_of (items_view (into_iter_items rest))))) result }
+    ensures { Reads (or_refuse refused.Key (option_and_then (λ es. lawful_key namespace (begun.items ++ es))
+        (elems_of (items_view (into_iter_items rest))))) result }
 {
     let path = read_rest(alloc, &ElemRule, begun, rest)?;
     match Key::within(namespace, path) {
