@@ -12,6 +12,30 @@ use std::alloc::Global;
 use std::process::Abort;
 use std::test::Fail;
 
+const PUT: &str = r#"{"client":0,"commit":1,"key":[["Task","a"]],"line":1,"ok":"put"}"#;
+
+const PUT_IN_NAMESPACE: &str =
+    r#"{"client":0,"key":["x",["Task",12]],"line":1,"ok":"put","place":3}"#;
+
+const SETTLE: &str = r#"{"applied":[1],"client":0,"line":2,"ok":"settle","place":1}"#;
+
+const PROJECTION: &str =
+    r#"{"client":0,"line":3,"ok":"query","place":4,"results":[{"key":[["Task","a"]],"properties":{"b":{"bytes":"/w=="},"n":-7}}]}"#;
+
+const ESCAPES: &str =
+    r#"{"applied":[1],"client":0,"line":3,"ok":"query","results":[{"key":[["Task","a"]],"properties":{"s":{"unindexed":"\"\\\n\u0001é"}}}]}"#;
+
+const VALUES: &str =
+    r#"{"applied":[1],"client":0,"line":3,"ok":"query","results":[{"key":[["Task","a"]],"properties":{"n":[5,{"date":-1},{"bytes":"AQL/"}]}}]}"#;
+
+const BAD_VALUE: &str = r#"{"client":0,"error":5,"field":"entity","line":1,"name":"BadValue"}"#;
+
+const EXPIRED: &str =
+    r#"{"applied":3,"client":0,"error":23,"line":9,"name":"Expired","place":1,"snapshot":1}"#;
+
+const MISSING_INDEX: &str =
+    r#"{"client":0,"constraint":{"property":"b","value":2},"error":17,"line":5,"name":"MissingIndex","suggestion":{"ancestor":false,"kind":"T","properties":[["a","asc"],["b","asc"],["c","asc"]]}}"#;
+
 fn check(
     rt: &impl Abort,
     alloc: Global,
@@ -75,7 +99,7 @@ fn one_property(
     Ok(Properties::from(vec![in alloc; property]?))
 }
 
-/// The reply of a query with one entity of one property.
+// The reply of a query with one entity of one property.
 fn found(alloc: Global, key: Key, name: &str, indexed: bool, values: Values) -> Result<Body, Fail> {
     let properties = one_property(alloc, name, indexed, values)?;
     let entity = Entity::new(key, properties)?;
@@ -93,26 +117,21 @@ fn found(alloc: Global, key: Key, name: &str, indexed: bool, values: Values) -> 
 }
 
 fn projection(alloc: Global) -> Result<Body, Fail> {
-    let names = Names::from(vec![in alloc;
-        text(alloc, "n")?,
-        text(alloc, "b")?,
-        text(alloc, "k")?,
-    ]?);
-    let values = vec![in alloc;
-        IndexValue::Num(-7),
-        IndexValue::Bytes(bytes(alloc, &[255])?),
-        IndexValue::Bytes(bytes(alloc, b"x")?),
-    ]?;
+    let first = text(alloc, "n")?;
+    let second = text(alloc, "b")?;
+    let value = bytes(alloc, &[255])?;
+    let values = vec![in alloc; IndexValue::Num(-7), IndexValue::Bytes(value)]?;
+    let names = vec![in alloc; first, second]?;
     let item = Item {
         key: task_a(alloc)?,
         entity: None,
         projected: IndexValues::from(values),
     };
     Ok(Body::Query {
-        select: Select::Projection(names),
+        select: Select::Projection(Names::from(names)),
         results: Results::from(vec![in alloc; item]?),
         seen: Seen::Place(4),
-        cursor: Some(text(alloc, "c")?),
+        cursor: None,
     })
 }
 
@@ -123,99 +142,79 @@ fn column(alloc: Global, name: &str) -> Result<Column, Fail> {
     })
 }
 
+fn suggestion(alloc: Global) -> Result<IndexDef, Fail> {
+    let first = column(alloc, "a")?;
+    let second = column(alloc, "b")?;
+    let third = column(alloc, "c")?;
+    let columns = vec![in alloc; first, second, third]?;
+    Ok(IndexDef {
+        kind: text(alloc, "T")?,
+        ancestor: false,
+        columns: Columns::from(columns),
+    })
+}
+
 fn missing_index(alloc: Global) -> Result<Body, Fail> {
-    let columns = vec![in alloc;
-        column(alloc, "a")?,
-        column(alloc, "b")?,
-        column(alloc, "c")?,
-    ]?;
+    let suggestion = suggestion(alloc)?;
+    let property = text(alloc, "b")?;
+    let value = IndexValue::Num(2);
     Ok(Body::MissingIndex {
-        constraint: Constraint::Equal(Pair {
-            property: text(alloc, "b")?,
-            value: IndexValue::Num(2),
-        }),
-        suggestion: IndexDef {
-            kind: text(alloc, "T")?,
-            ancestor: false,
-            columns: Columns::from(columns),
-        },
+        constraint: Constraint::Equal(Pair { property, value }),
+        suggestion,
     })
 }
 
 #[test]
-fn successes(rt: HostRuntime) -> Result<(), Fail> {
+fn puts(rt: HostRuntime) -> Result<(), Fail> {
     let alloc = rt.alloc();
     let put = Body::Put {
         key: task_a(alloc)?,
         at: WriteAt::Commit(1),
     };
-    check(
-        &rt,
-        alloc,
-        1,
-        put,
-        r#"{"client":0,"commit":1,"key":[["Task","a"]],"line":1,"ok":"put"}"#,
-    )?;
+    check(&rt, alloc, 1, put, PUT)?;
     let put = Body::Put {
         key: task(alloc, "x", Ident::Id(12))?,
         at: WriteAt::Place(3),
     };
-    check(
-        &rt,
-        alloc,
-        1,
-        put,
-        r#"{"client":0,"key":["x",["Task",12]],"line":1,"ok":"put","place":3}"#,
-    )?;
+    check(&rt, alloc, 1, put, PUT_IN_NAMESPACE)
+}
+
+#[test]
+fn queries(rt: HostRuntime) -> Result<(), Fail> {
+    let alloc = rt.alloc();
     let settle = Body::Settle {
         place: 1,
         applied: counts(alloc)?,
     };
-    check(
-        &rt,
-        alloc,
-        2,
-        settle,
-        r#"{"applied":[1],"client":0,"line":2,"ok":"settle","place":1}"#,
-    )?;
+    check(&rt, alloc, 2, settle, SETTLE)?;
+    check(&rt, alloc, 3, projection(alloc)?, PROJECTION)
+}
+
+#[test]
+fn escapes(rt: HostRuntime) -> Result<(), Fail> {
+    let alloc = rt.alloc();
+    let escaped = text(alloc, "\"\\\n\u{1}é")?;
+    let values = Values::from(vec![in alloc; Value::Str(escaped)]?);
     check(
         &rt,
         alloc,
         3,
-        projection(alloc)?,
-        r#"{"client":0,"cursor":"c","line":3,"ok":"query","place":4,"results":[{"key":[["Task","a"]],"properties":{"b":{"bytes":"/w=="},"k":"x","n":-7}}]}"#,
+        found(alloc, task_a(alloc)?, "s", false, values)?,
+        ESCAPES,
     )
 }
 
 #[test]
 fn values(rt: HostRuntime) -> Result<(), Fail> {
     let alloc = rt.alloc();
-    let escaped = Value::Str(text(alloc, "\"\\\n\u{1}é")?);
-    let one = Values::from(vec![in alloc; escaped]?);
-    let body = found(alloc, task_a(alloc)?, "s", false, one)?;
+    let bytes = bytes(alloc, &[1, 2, 255])?;
+    let values = Values::from(vec![in alloc; Value::Int(5), Value::Date(-1), Value::Bytes(bytes)]?);
     check(
         &rt,
         alloc,
         3,
-        body,
-        "{\"applied\":[1],\"client\":0,\"line\":3,\"ok\":\"query\",\"results\":[{\"key\":[[\"Task\",\"a\"]],\"properties\":{\"s\":{\"unindexed\":\"\\\"\\\\\\n\\u0001é\"}}}]}",
-    )?;
-    let several = Values::from(vec![in alloc;
-        Value::Int(5),
-        Value::Date(-1),
-        Value::Rating(9),
-        Value::Bool(true),
-        Value::Null,
-        Value::Bytes(bytes(alloc, &[1, 2, 255])?),
-        Value::Key(task_a(alloc)?),
-    ]?);
-    let body = found(alloc, task_a(alloc)?, "n", true, several)?;
-    check(
-        &rt,
-        alloc,
-        3,
-        body,
-        r#"{"applied":[1],"client":0,"line":3,"ok":"query","results":[{"key":[["Task","a"]],"properties":{"n":[5,{"date":-1},{"rating":9},true,null,{"bytes":"AQL/"},{"key":[["Task","a"]]}]}}]}"#,
+        found(alloc, task_a(alloc)?, "n", true, values)?,
+        VALUES,
     )
 }
 
@@ -225,30 +224,12 @@ fn refusals(rt: HostRuntime) -> Result<(), Fail> {
     let bad_value = Body::BadValue {
         field: Field::Entity,
     };
-    check(
-        &rt,
-        alloc,
-        1,
-        bad_value,
-        r#"{"client":0,"error":5,"field":"entity","line":1,"name":"BadValue"}"#,
-    )?;
+    check(&rt, alloc, 1, bad_value, BAD_VALUE)?;
     let expired = Body::Expired {
         applied: 3,
         place: 1,
         snapshot: 1,
     };
-    check(
-        &rt,
-        alloc,
-        9,
-        expired,
-        r#"{"applied":3,"client":0,"error":23,"line":9,"name":"Expired","place":1,"snapshot":1}"#,
-    )?;
-    check(
-        &rt,
-        alloc,
-        5,
-        missing_index(alloc)?,
-        r#"{"client":0,"constraint":{"property":"b","value":2},"error":17,"line":5,"name":"MissingIndex","suggestion":{"ancestor":false,"kind":"T","properties":[["a","asc"],["b","asc"],["c","asc"]]}}"#,
-    )
+    check(&rt, alloc, 9, expired, EXPIRED)?;
+    check(&rt, alloc, 5, missing_index(alloc)?, MISSING_INDEX)
 }
