@@ -1,5 +1,6 @@
 //! Replies and their lines.
-ghost use Rattle.std.specs.Prelude.{◌≡◌, length, IfOk};
+ghost use Rattle.std.specs.Prelude.{◌≡◌, length, IfOk, IsTrue};
+ghost use Rattle.ds_base.specs.Entities.{names_ascend};
 
 use crate::{Body, Field, Reply, WriteAt, reply_room, write_reply};
 use ds_base::{
@@ -89,7 +90,8 @@ fn one_property(
     indexed: bool,
     values: Values,
 ) -> Result<Properties, Fail>
-    ensures { IfOk result (λ ps. length ps ≡ 1) }
+    ensures ascending { IfOk result (λ ps. IsTrue (names_ascend ps)) }
+    ensures one { IfOk result (λ ps. length ps ≡ 1) }
 {
     let property = Property {
         name: text(alloc, name)?,
