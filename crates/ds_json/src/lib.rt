@@ -14,6 +14,8 @@ pub mod refusal;
 pub mod reply;
 pub mod request;
 mod scalars;
+#[cfg(test)]
+mod tests;
 mod told;
 
 pub use call::{Call, Field, Request, RequestRefused};
