@@ -8,7 +8,7 @@ ghost use Rattle.ds_json.specs.Reading.{Reads, and_then, optional};
 ghost use Rattle.ds_json.specs.Queries.{namespace_of, name_of, kind_of, ancestor_of, op_of, operands_of, filter_of, filters_of, direction_of, order_of, orders_of, select_of, offset_of, limit_of, cursor_text_of, flag_of};
 
 use crate::read::each::{ReadItem, read_each};
-use crate::read::keys::read_key;
+use crate::read::keys::{read_key, take_two};
 use crate::read::values::read_value;
 use crate::refusal::Refusal;
 use crate::scalars::{flag, text, up_to};
@@ -70,8 +70,8 @@ pub(crate) fn read_ancestor(alloc: Global, given: Option<Value>) -> Result<Optio
     }
 }
 
-/// The three values of an array of three.
-fn three(mut values: Vec<Value>) -> Option<(Value, Value, Value)>
+/// The three items of a list that has three.
+fn take_three(mut values: Vec<Value>) -> Option<(Value, Value, Value)>
     ensures { MatchOption result (length values.items ≢ 3)
         (λ t. values.items ≡ t.0 ∷ t.1 ∷ t.2 ∷ []) }
 {
@@ -82,18 +82,6 @@ fn three(mut values: Vec<Value>) -> Option<(Value, Value, Value)>
     let middle = values.pop()?;
     let first = values.pop()?;
     Some((first, middle, last))
-}
-
-/// The two values of an array of two.
-fn two(mut values: Vec<Value>) -> Option<(Value, Value)>
-    ensures { MatchOption result (length values.items ≢ 2) (λ t. values.items ≡ t.0 ∷ t.1 ∷ []) }
-{
-    if values.len() != 2 {
-        return None;
-    }
-    let last = values.pop()?;
-    let first = values.pop()?;
-    Some((first, last))
 }
 
 /// The operator of this name.
@@ -164,7 +152,7 @@ fn filter(alloc: Global, value: Value) -> Result<Filter, Refusal>
     ensures { Reads (filter_of (view value)) result }
 {
     match value {
-        Value::Array(parts) => match three(parts) {
+        Value::Array(parts) => match take_three(parts) {
             Some((property, op, operand)) => filter_of_parts(alloc, property, op, operand),
             None => Err(Refusal::Request),
         },
@@ -200,7 +188,7 @@ fn order(value: Value) -> Result<Column, Refusal>
     ensures { Reads (order_of (view value)) result }
 {
     match value {
-        Value::Array(parts) => match two(parts) {
+        Value::Array(parts) => match take_two(parts) {
             Some((property, direction)) => order_of_parts(property, direction),
             None => Err(Refusal::Request),
         },

@@ -34,7 +34,8 @@ pub fn read_request(alloc: Global, line: &[u8]) -> Result<Request, RequestRefuse
     ensures ok { IfOk result (λ r. request_of line.now ≡ Ok r) }
     ensures lawful { IfOk result (λ r. IsLawfulCall r.call) }
     ensures client { IfOk result (λ r. r.client < 16) }
-    ensures refused { IfErr result (λ e. e ≢ RequestRefused.NoMemory → request_of line.now ≡ Err e) }
+    ensures refused { IfErr result (λ e. e ≢ RequestRefused.NoMemory
+        → request_of line.now ≡ Err e) }
 {
     match parse(alloc, line) {
         Ok(parsed) => read_data(alloc, parsed),
@@ -63,9 +64,19 @@ fn read_data(alloc: Global, parsed: Option<Value>) -> Result<Request, RequestRef
     ensures client { IfOk result (λ r. r.client < 16) }
 {
     match parsed {
+        Some(value) => read_value(alloc, value),
         None => Err(RequestRefused::BadJson),
-        Some(Value::Object(members)) => read_object(alloc, members),
-        Some(_) => Err(RequestRefused::BadRequest {
+    }
+}
+
+fn read_value(alloc: Global, value: Value) -> Result<Request, RequestRefused>
+    ensures reads { ReadsLine (data_request_of (Some (view value))) result }
+    ensures lawful { IfOk result (λ r. IsLawfulCall r.call) }
+    ensures client { IfOk result (λ r. r.client < 16) }
+{
+    match value {
+        Value::Object(members) => read_object(alloc, members),
+        _ => Err(RequestRefused::BadRequest {
             client: 0,
             field: Field::Line,
         }),
@@ -137,7 +148,8 @@ fn read_put(alloc: Global, client: u32, mut members: Members) -> Result<Call, Re
 /// What a put writes: the key, whether it is incomplete, and the properties.
 fn read_put_parts(alloc: Global, entity: Option<Value>) -> Result<(Key, bool, Properties), Refusal>
     ensures reads { Reads (put_of (option_map view entity))
-        (result_map_both (λ e. record { key = e.0; incomplete = e.1; properties = e.2 }) (λ e. e) result) }
+        (result_map_both (λ e. record { key = e.0; incomplete = e.1; properties = e.2 })
+        (λ e. e) result) }
     ensures ascending { IfOk result (λ e. IsTrue (names_ascend e.2)) }
     ensures few { IfOk result (λ e. length e.2 < 2 ^ 32) }
 {
@@ -149,7 +161,8 @@ fn read_put_parts(alloc: Global, entity: Option<Value>) -> Result<(Key, bool, Pr
 
 fn read_entity_value(alloc: Global, value: Value) -> Result<(Key, bool, Properties), Refusal>
     ensures reads { Reads (put_of (Some (view value)))
-        (result_map_both (λ e. record { key = e.0; incomplete = e.1; properties = e.2 }) (λ e. e) result) }
+        (result_map_both (λ e. record { key = e.0; incomplete = e.1; properties = e.2 })
+        (λ e. e) result) }
     ensures ascending { IfOk result (λ e. IsTrue (names_ascend e.2)) }
     ensures few { IfOk result (λ e. length e.2 < 2 ^ 32) }
 {
@@ -164,7 +177,8 @@ fn read_entity_members(
     mut members: Members,
 ) -> Result<(Key, bool, Properties), Refusal>
     ensures reads { Reads (put_of (Some (object (members_view members.entries))))
-        (result_map_both (λ e. record { key = e.0; incomplete = e.1; properties = e.2 }) (λ e. e) result) }
+        (result_map_both (λ e. record { key = e.0; incomplete = e.1; properties = e.2 })
+        (λ e. e) result) }
     ensures ascending { IfOk result (λ e. IsTrue (names_ascend e.2)) }
     ensures few { IfOk result (λ e. length e.2 < 2 ^ 32) }
 {

@@ -188,7 +188,7 @@ fn read_parts(parts: Vec<Value>) -> Option<Elem>
 }
 
 /// The two items of a list that has two.
-fn take_two(mut parts: Vec<Value>) -> Option<(Value, Value)>
+pub(crate) fn take_two(mut parts: Vec<Value>) -> Option<(Value, Value)>
     ensures some { IfSome result (λ p. parts.items ≡ p.0 ∷ p.1 ∷ []) }
     ensures two { IsSome result ↔ (length parts.items ≡ 2) }
 {
