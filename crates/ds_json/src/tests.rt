@@ -46,17 +46,21 @@ const CASES: &str = r#"100|{
 1|{"op":"put","entity":{"key":[["A",1]],"properties":{"a":{"unindexed":[1,{"text":"x"}]}}}}
 2|{"op":"\u0071uery","filters":[["a","in",[1,"b"]],["a","<",null]],"orders":[["a","asc"]],"select":["b"]}"#;
 
+fn parts_of(call: &Call) -> u64 {
+    match call {
+        Call::Put { properties, .. } => properties.len() as u64,
+        Call::Query { filters, .. } => filters.len() as u64,
+        Call::Settle => 0,
+    }
+}
+
 /// What is told of a line, as `CASES` writes it.
 fn told(alloc: Global, line: &[u8]) -> u64 {
     if line.len() > MAX_LINE_BYTES {
         return 200;
     }
     match read_request(alloc, line) {
-        Ok(request) => match request.call {
-            Call::Put { properties, .. } => properties.len() as u64,
-            Call::Query { filters, .. } => filters.len() as u64,
-            Call::Settle => 0,
-        },
+        Ok(request) => parts_of(&request.call),
         Err(RequestRefused::BadJson) => 100,
         Err(RequestRefused::BadRequest { field, .. }) => 300 + field as u64,
         Err(RequestRefused::BadKey { field, .. }) => 400 + field as u64,
