@@ -1,5 +1,5 @@
 //! A word that only rises, and the calls that look at it and draw numbers from it.
-ghost use Rattle.std.specs.Prelude.{◌≡◌, ◌+◌, ◌^◌, ◌<◌, ◌≤◌, ◌++◌, length, All, IsTrue, MatchBool};
+ghost use Rattle.std.specs.Prelude.{◌≡◌, ◌≢◌, ◌+◌, ◌^◌, ◌<◌, ◌≤◌, ◌++◌, length, All, IsTrue, MatchBool};
 ghost use Rattle.ds_draw.specs.Draws.{numbers, draws_of, HasEachOnce};
 
 use crate::rule::{BothSeats, Draw, EachOnce, Known, Look, Start};
@@ -60,13 +60,14 @@ impl Word {
         unreachable!()
     }
 
-    // One exchange, and whether it found the word at `at`, so that the seat drew. Else it was a look.
+    // One exchange, and whether it found the word at `at`, so that the seat drew. Else it was a look, and the counter is
+    // the other number that it found.
     fn try_draw(&self, seat: &mut Seat, at: u64, count: u64) -> bool
         requires word { seat.old.word ≡ self.now.name }
         requires some { 0 < count }
         requires limit { at + count < 2 ^ 63 }
         ensures word { seat.new.word ≡ seat.old.word }
-        ensures draws { MatchBool result (seat.new.draws ≡ seat.old.draws ++ numbers at (at + count)) (seat.new.draws ≡ seat.old.draws) }
+        ensures draws { MatchBool result (seat.new.draws ≡ seat.old.draws ++ numbers at (at + count)) ((seat.new.draws ≡ seat.old.draws) × (seat.new.counter ≢ at)) }
         ensures counter { IsTrue result → (seat.new.counter ≡ at + count) × (seat.old.counter ≤ at) }
         ensures risen { seat.old.counter ≤ seat.new.counter }
     {
