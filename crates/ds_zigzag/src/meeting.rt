@@ -1,0 +1,60 @@
+//! How a target is brought to a scan.
+ghost use Rattle.std.specs.Prelude.{◌≡◌, ℕ, ◌+◌, ◌≤◌, List, option_copied, None, IfOk, OnErr, OnOk};
+ghost use Rattle.std.specs.List.Sorted.{IsStrictlySortedBy};
+ghost use Rattle.ds_base.specs.KeyOrder.{bytes_cmp};
+ghost use Rattle.ds_zigzag.specs.Spans.{count_from};
+ghost use Rattle.ds_zigzag.specs.Meetings.{first_above, Meets, met_at};
+
+use crate::scan::Scan;
+use ds_io::Steps;
+use std::alloc::AllocError;
+use std::sync::ledger::Ledger;
+
+/// What a scan that is sought at the target has there.
+pub enum Meeting {
+    /// No string from the target on.
+    Nothing,
+    /// The target itself.
+    Same,
+    /// A string above the target, which is the target now.
+    Greater,
+}
+
+/// The target is the first of all strings above `after`: that string and a zero byte. Without an `after` it is the empty
+/// string, the first of all.
+pub fn aim(target: &mut Vec<u8>, after: Option<&[u8]>) -> Result<(), AllocError>
+    ensures { OnOk result (target.new.items ≡ first_above (option_copied after.entry)) }
+{
+    target.clear();
+    if let Some(after) = after {
+        target.extend_from_slice(after)?;
+        target.push(0)?;
+    }
+    Ok(())
+}
+
+/// Seeks the target at a scan; a greater string that the scan gives becomes the target.
+pub fn meet<S: Scan, L: Ledger>(
+    target: &mut Vec<u8>,
+    scan: &mut S,
+    steps: &mut Steps<L>,
+) -> Result<Meeting, AllocError>
+    ensures meets { IfOk result (λ m. Meets m target.old.items target.new.items (S.strings scan.old)) }
+    ensures strings_ascend { IsStrictlySortedBy bytes_cmp (S.strings scan.old) }
+    ensures same_strings { S.strings scan.new ≡ S.strings scan.old }
+    ensures same_passed { S.passed scan.new ≡ S.passed scan.old }
+
+    ensures steps_when_done { IfOk result (λ m. steps.new ≤ steps.old + 1 + count_from target.old.items (met_at m target.new.items) (S.passed scan.old)) }
+    ensures steps_when_refused { OnErr result (steps.new ≤ steps.old + 1 + count_from target.old.items None (S.passed scan.old)) }
+    ensures steps_stay_counted { steps.old ≤ steps.new }
+{
+    let Some(found) = scan.seek(target.as_slice(), steps)? else {
+        return Ok(Meeting::Nothing);
+    };
+    if found == target.as_slice() {
+        return Ok(Meeting::Same);
+    }
+    target.clear();
+    target.extend_from_slice(found)?;
+    Ok(Meeting::Greater)
+}
