@@ -1,5 +1,5 @@
 -- The entities of a kind, as a loop over the map's values collects them.
-use Rattle.std.proofs.Common.{◌≡◌, ℕ, suc, ◌-◌, ◌+◌, List, [], ◌∷◌, ◌++◌, length, refl, ap, sym, ◌∙◌, subst, Bool, true, false, cond, map, arith, Option, Some, None}
+use Rattle.std.proofs.Common.{◌≡◌, ℕ, suc, ◌-◌, List, [], ◌∷◌, ◌++◌, length, refl, ap, sym, ◌∙◌, subst, Bool, true, false, cond, map, arith, Some, None}
 use Rattle.std.proofs.lemmas.Bool.{ne_eqb}
 use Rattle.std.proofs.lemmas.List.Elements.{filter-append}
 use Rattle.std.proofs.lemmas.List.{map-append}
@@ -10,7 +10,6 @@ use Rattle.ds_base.specs.Keys.{KeyParts, same_bytes}
 use Rattle.ds_base.specs.Entities.{EntityParts}
 use Rattle.ds_base.specs.declared.key.Elem.{Elem}
 use Rattle.ds_base.specs.declared.results.Item.{Item}
-use Rattle.ds_log.specs.After.{after}
 use Rattle.ds_model.specs.Results.{kind_of, is_of_kind, whole_item, kind_results, sorted_by_key}
 use Rattle.ds_single.specs.State.{keyed}
 use Rattle.ds_single.proofs.Sorted.{sorted_by_key-filter}

@@ -1,16 +1,15 @@
 -- With one shard and one write per commit, the shard's list has one entry per commit, in the order of the commits; and a
 -- longer journal has a longer list.
-use Rattle.std.proofs.Common.{◌≡◌, ℕ, zero, suc, ◌+◌, ◌-◌, ◌<◌, ◌≤◌, List, [], ◌∷◌, ◌++◌, length, take, refl, ap, sym, ◌∙◌, subst, Bool, true, false, cond, map, arith, length-append, append_assoc}
-use Rattle.std.specs.Prelude.{filter, flat_map, fold, All, ◌==◌, ⊤, max}
+use Rattle.std.proofs.Common.{◌≡◌, ℕ, zero, suc, ◌+◌, ◌≤◌, List, [], ◌∷◌, ◌++◌, length, take, refl, ap, sym, ◌∙◌, true, cond, map, arith, length-append, append_assoc}
+use Rattle.std.specs.Prelude.{filter, fold, All, ◌==◌, ⊤}
 use Rattle.std.proofs.Math.Nat.{mod-one}
 use Rattle.std.proofs.lemmas.Bool.{eq-eqb}
-use Rattle.std.proofs.lemmas.Grind.{flat_map-append}
 use Rattle.std.proofs.lemmas.List.{take-append-le}
-use Rattle.std.proofs.lemmas.List.Elements.{All-head, All-cons, filter-append}
+use Rattle.std.proofs.lemmas.List.Elements.{All-head}
 use Rattle.std.specs.Ordering.{is_eq}
 use Rattle.std.specs.Cmp.{tied_itself}
 use Rattle.ds_base.specs.Keys.{KeyParts}
-use Rattle.ds_base.specs.KeyOrder.{key_cmp, same_key}
+use Rattle.ds_base.specs.KeyOrder.{same_key}
 use Rattle.ds_base.specs.KeyOrderLaws.{key_cmp-total}
 use Rattle.ds_log.specs.declared.Commit.{Commit}
 use Rattle.ds_log.specs.declared.Entry.{Entry}

@@ -1,7 +1,6 @@
 -- One reply of the single session, as the model says it, over every longer journal.
-use Rattle.std.proofs.Common.{◌≡◌, ℕ, zero, suc, ◌+◌, ◌-◌, ◌<◌, ◌≤◌, List, [], ◌∷◌, ◌++◌, length, take, refl, ap, sym, ◌∙◌, subst, Bool, true, false, cond, map, arith, length-append, append_assoc, Option, Some, None}
-use Rattle.std.specs.Prelude.{All, slice_get, max, nat_le, not, ◌==◌, is_some, is_none, ◌&&◌, fold, ⊤}
-use Rattle.std.proofs.lemmas.Bool.{and_from, le-leb, leb-false, cases_Bool, true≢false, eqb-true, not-true}
+use Rattle.std.proofs.Common.{◌≡◌, ℕ, ◌+◌, ◌-◌, ◌≤◌, List, [], ◌∷◌, ◌++◌, length, take, refl, ap, sym, ◌∙◌, subst, Bool, true, false, cond, arith, length-append, Option, Some, None}
+use Rattle.std.specs.Prelude.{All, slice_get, max, nat_le, ◌&&◌, fold}
 use Rattle.std.proofs.Math.Seq.{take-length}
 use Rattle.std.proofs.lemmas.List.{take-append-le}
 use Rattle.ds_base.specs.declared.key.Ident.{Ident}
@@ -9,25 +8,16 @@ use Rattle.ds_base.specs.declared.key.Ident.TheVariants.{Id, Name}
 use Rattle.ds_base.specs.declared.key.Elem.{Elem}
 use Rattle.ds_base.specs.declared.entity.Property.{Property}
 use Rattle.ds_base.specs.declared.results.Item.{Item}
-use Rattle.ds_base.specs.declared.results.Column.{Column}
 use Rattle.ds_base.specs.Keys.{KeyParts}
-use Rattle.ds_base.specs.Entities.{EntityParts}
-use Rattle.ds_query.specs.declared.query.Select.{Select}
-use Rattle.ds_query.specs.declared.query.Select.TheVariants as select
-use Rattle.ds_json.specs.declared.call.Call.{Call}
-use Rattle.ds_json.specs.declared.call.Call.TheVariants as call
-use Rattle.ds_json.specs.declared.call.Field.{Field}
 use Rattle.ds_log.specs.declared.Commit.{Commit}
 use Rattle.ds_log.specs.declared.Entry.{Entry}
 use Rattle.ds_log.specs.declared.Write.TheVariants.{Put}
 use Rattle.ds_log.specs.After.{after}
 use Rattle.ds_log.specs.Logs.{shard_list, writes_of, entry_writes}
-use Rattle.ds_model.specs.Answers.{World, PutAnswers, SettleAnswers, KindAnswers, CountsWithin, first_unissued, unissued, or_else}
-use Rattle.ds_model.specs.Built.{unbuilt_member, unless, is_empty, is_entities}
+use Rattle.ds_model.specs.Answers.{PutAnswers, SettleAnswers, KindAnswers, first_unissued, unissued, or_else}
 use Rattle.ds_model.specs.Results.{kind_results}
-use Rattle.ds_model.specs.Sessions.{Session, first_id, saw_place, saw_counts, saw_next, next_above}
+use Rattle.ds_model.specs.Sessions.{first_id, saw_place, saw_counts, saw_next, next_above}
 use Rattle.ds_model.specs.Legal.{counter_id, counter_ids}
-use Rattle.ds_model.specs.Views.{global_view}
 use Rattle.ds_single.specs.State.{SingleParts, session_of, world, HasOneWrite, applied_writes}
 use Rattle.ds_single.proofs.OneShard.{OneWriteEach, OneWriteEach-All, take-shard_list, length-shard_list, length-whole_shard_list, last_commit-shard_list, writes-entries_from}
 

@@ -1,5 +1,5 @@
 -- The state of a server for one client.
-use Rattle.std.specs.Prelude.{◌≡◌, ℕ, ◌+◌, ◌≤◌, List, [], ◌∷◌, ◌++◌, Option, Some, None, length, take, map, All}
+use Rattle.std.specs.Prelude.{◌≡◌, ℕ, ◌+◌, ◌≤◌, List, [], ◌∷◌, ◌++◌, Some, None, length, take, map, All}
 use Rattle.ds_base.specs.Keys.{KeyParts}
 use Rattle.ds_base.specs.Entities.{EntityParts}
 use Rattle.ds_log.specs.declared.Commit.{Commit}

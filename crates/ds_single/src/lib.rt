@@ -1,13 +1,19 @@
 //! The plain engine for one client in one thread: a journal, and the entities that are applied from it.
 //!
 //! Its contracts are the definitions of `ds_model` themselves: a commit is appended to the journal, an apply takes over the next
-//! one, and a query of a kind sees applied writes alone. `specs/State` says what contracts see of it. `proofs/` has what the
-//! server above needs too: that with one shard and one write per commit the shard's list is the journal's, also of every longer
-//! journal (`OneShard`), and what a put, a settle and a query are in the model (`Steps`).
+//! one, and a query of a kind sees applied writes alone. Begin with `answer`: it gives the reply to one line, and its clause
+//! `Answered` says that the reply is the model's over every journal that begins with the new one, so that a reply given early
+//! stays legal. `specs/State` says what contracts see of the state, `specs/Answered` what a reply tells. In `proofs/`: with one
+//! shard and one write per commit the shard's list is the journal's (`OneShard`); what a put, a settle and a query are in the
+//! model (`Steps`), in a reply (`CallReplies`), and of a line (`LineReplies`).
 #![tactic(auto)]
 
+mod answer;
+mod ask;
+mod say;
 pub mod state;
 #[cfg(test)]
 mod tests;
 
+pub use say::no_memory_room;
 pub use state::Single;

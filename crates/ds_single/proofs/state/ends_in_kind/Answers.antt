@@ -1,4 +1,4 @@
-use Rattle.std.proofs.Common.{◌≡◌, sym, ◌∙◌, ap, length, List, ℕ}
+use Rattle.std.proofs.Common.{sym, ◌∙◌, ap, length}
 use Rattle.std.specs.Prelude.{◌==◌}
 use Rattle.ds_base.specs.Keys.{same_bytes}
 use Rattle.ds_single.proofs.KindResults.{kind_of-last, kind_of-none, empty_same}

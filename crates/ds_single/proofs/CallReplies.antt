@@ -1,0 +1,218 @@
+-- The reply to a request, from what the state became and what was written.
+use Rattle.std.proofs.Common.{◌≡◌, ℕ, zero, suc, ◌+◌, ◌≤◌, inl, inr, List, [], ◌∷◌, ◌++◌, length, refl, ap, sym, ◌∙◌, subst, Bool, true, false, arith, Option, Some, None}
+use Rattle.std.proofs.lemmas.Bool.{eqb-true}
+use Rattle.std.specs.Prelude.{All, max, Result, Ok, not, ◌==◌, is_none}
+use Rattle.ds_base.specs.declared.entity.Property.{Property}
+use Rattle.ds_base.specs.declared.results.Item.{Item}
+use Rattle.ds_base.specs.declared.results.Column.{Column}
+use Rattle.ds_base.specs.declared.results.Seen.TheVariants as seen
+use Rattle.ds_base.specs.Keys.{KeyParts}
+use Rattle.ds_base.specs.Entities.{EntityParts, entity_refusal}
+use Rattle.ds_query.specs.declared.query.Filter.{Filter}
+use Rattle.ds_query.specs.declared.query.Select.{Select}
+use Rattle.ds_query.specs.declared.query.Select.TheVariants as select
+use Rattle.ds_json.specs.declared.call.Call.{Call}
+use Rattle.ds_json.specs.declared.call.Call.TheVariants as call
+use Rattle.ds_json.specs.declared.call.Field.{Field}
+use Rattle.ds_json.specs.declared.call.Field.TheVariants as field
+use Rattle.ds_json.specs.declared.call.Request.{Request}
+use Rattle.ds_json.specs.declared.reply.WriteAt.TheVariants as at
+use Rattle.ds_json.specs.declared.reply.Body.{Body}
+use Rattle.ds_json.specs.declared.reply.Body.TheVariants as body
+use Rattle.ds_json.specs.declared.reply.Reply.{Reply}
+use Rattle.ds_log.specs.declared.Commit.{Commit}
+use Rattle.ds_log.specs.After.{after}
+use Rattle.ds_model.specs.Answers.{World, BodyAnswers, AskedAnswers, RequestAnswers, refusal_of, put_refusal, first_unissued}
+use Rattle.ds_model.specs.Built.{unbuilt_member, unless, is_empty, is_entities}
+use Rattle.ds_model.specs.Results.{kind_results}
+use Rattle.ds_model.specs.Sessions.{Session, first_id}
+use Rattle.ds_single.specs.State.{SingleParts, session_of, world, IsSingle, applied_writes, put_into}
+use Rattle.ds_single.specs.Answered.{Says, Tells, CallAnswered, IsQuiet, no_memory_reply, kind_query}
+use Rattle.ds_single.proofs.Steps.{put_answers, kind_answers, settle_answers, counter_ids-none}
+
+-- what is said of a request is said of its line, and where nothing was seen it may be that there was no memory
+pub said : (w : World) (s after : Session) (line : Result Request (ℕ × Body)) (b : Body) → AskedAnswers w s line b after → after ≡ s → BodyAnswers w s line b after
+said w s after line body.NoMemory answers same = same
+said w s after line _ answers same = answers
+
+nothing : (P : ℕ → Type 0) → All P []
+nothing P = λ k d within. absurd (omega arith)
+
+-- a reply that changes nothing in the journal and tells no number
+pub quiet_tells : (s t : SingleParts) (reply : Reply) → t.journal ≡ s.journal → IsQuiet reply.body → Tells s t reply
+quiet_tells s t reply same quiet = record {
+  added = [];
+  journal = same ∙ sym (append_nil s.journal);
+  acknowledges = quiet.acknowledges;
+  accepts = quiet.accepts;
+  prints = subst (λ ns. All (λ next. next ≤ first_id) ns) (sym quiet.prints) (nothing (λ next. next ≤ first_id));
+} where
+  append_nil : (cs : List Commit) → cs ++ [] ≡ cs
+  append_nil [] = refl
+  append_nil (c ∷ cs) = ap (λ ds. c ∷ ds) (append_nil cs)
+
+pub no_memory_quiet : IsQuiet body.NoMemory
+no_memory_quiet = record { acknowledges = refl; accepts = refl; prints = refl }
+
+-- want of memory, where nothing that the client has seen was changed
+pub unsaid : (s t : SingleParts) (number : ℕ) (c : Call) (reply : Reply) → reply ≡ no_memory_reply number → t.journal ≡ s.journal → session_of t ≡ session_of s → CallAnswered s t number c reply
+unsaid s t number c reply is same seen = subst (λ r. CallAnswered s t number c r) (sym is) answered where
+  answered : CallAnswered s t number c (no_memory_reply number)
+  answered = record {
+    numbered = refl;
+    addressed = refl;
+    said = λ more. seen;
+    told = quiet_tells s t (no_memory_reply number) same no_memory_quiet;
+  }
+
+-- a refusal that the session before decides
+pub refused : (s : SingleParts) (number : ℕ) (c : Call) (b : Body) (reply : Reply) → Says number b reply → refusal_of (session_of s) c ≡ Some b → IsQuiet b → CallAnswered s s number c reply
+refused s number c b reply (inr is) decided quiet = unsaid s s number c reply is refl refl
+refused s number c b reply (inl is) decided quiet = subst (λ r. CallAnswered s s number c r) (sym is) answered where
+  answered : CallAnswered s s number c (record { client = 0; line = number; body = b })
+  answered = record {
+    numbered = refl;
+    addressed = refl;
+    said = λ more. said (world (s.journal ++ more)) (session_of s) (session_of s) (Ok (record { client = 0; call = c })) b
+        (subst (λ o. RequestAnswers (world (s.journal ++ more)) (record { client = 0; call = c }) (session_of s) o b (session_of s)) (sym decided) (refl, refl)) refl;
+    told = quiet_tells s s (record { client = 0; line = number; body = b }) refl quiet;
+  }
+
+put_unrefused : (s : SingleParts) (e : EntityParts) → entity_refusal e.key e.properties ≡ None → refusal_of (session_of s) (call.Put e.key false e.properties) ≡ None
+put_unrefused s e fine = ap put_refusal fine
+
+-- an id that only the server gives, and none was ever given
+pub not_issued : (s : SingleParts) (number id : ℕ) (e : EntityParts) (reply : Reply) → Says number (body.IdNotIssued id first_id) reply → entity_refusal e.key e.properties ≡ None → first_unissued first_id e.key.elems ≡ Some id → CallAnswered s s number (call.Put e.key false e.properties) reply
+not_issued s number id e reply (inr is) fine first = unsaid s s number (call.Put e.key false e.properties) reply is refl refl
+not_issued s number id e reply (inl is) fine first = subst (λ r. CallAnswered s s number (call.Put e.key false e.properties) r) (sym is) answered where
+  answered : CallAnswered s s number (call.Put e.key false e.properties) (record { client = 0; line = number; body = body.IdNotIssued id first_id })
+  answered = record {
+    numbered = refl;
+    addressed = refl;
+    said = λ more.
+        subst (λ o. RequestAnswers (world (s.journal ++ more)) (record { client = 0; call = call.Put e.key false e.properties }) (session_of s) o (body.IdNotIssued id first_id) (session_of s)) (sym (put_unrefused s e fine))
+        (record { shown = omega arith; first = first }, refl);
+    told = record {
+      added = [];
+      journal = sym (append_nil s.journal);
+      acknowledges = refl;
+      accepts = refl;
+      prints = λ k d within. one k d within;
+    };
+  } where
+    append_nil : (cs : List Commit) → cs ++ [] ≡ cs
+    append_nil [] = refl
+    append_nil (c ∷ cs) = ap (λ ds. c ∷ ds) (append_nil cs)
+
+    one : All (λ next. next ≤ first_id) (first_id ∷ [])
+    one zero d within = omega arith
+    one (suc k) d within = absurd (omega arith)
+
+-- a put that was committed
+pub put_said : (s t : SingleParts) (entries : List (KeyParts × EntityParts)) (number n : ℕ) (e : EntityParts) (key : KeyParts) → IsSingle s.journal entries s.applied s.place s.count → key ≡ e.key → n ≡ length s.journal + 1 → entity_refusal e.key e.properties ≡ None → first_unissued first_id e.key.elems ≡ None → t ≡ put_into s e →
+    CallAnswered s t number (call.Put e.key false e.properties) (record { client = 0; line = number; body = body.Put key (at.Commit n) })
+put_said s t entries number n e key kept same_key same_n fine none same_t =
+    subst (λ u. CallAnswered s u number (call.Put e.key false e.properties) (record { client = 0; line = number; body = body.Put key (at.Commit n) })) (sym same_t)
+    (subst (λ r. CallAnswered s (put_into s e) number (call.Put e.key false e.properties) r)
+    (sym (λ i. record { client = 0; line = number; body = body.Put (same_key i) (at.Commit (same_n i)) })) answered) where
+      answered : CallAnswered s (put_into s e) number (call.Put e.key false e.properties) (record { client = 0; line = number; body = body.Put e.key (at.Commit (length s.journal + 1)) })
+      answered = record {
+        numbered = refl;
+        addressed = refl;
+        said = λ more.
+            let answers = put_answers s e.key e.properties more kept.place_within none in
+            subst (λ o. RequestAnswers (world ((put_into s e).journal ++ more)) (record { client = 0; call = call.Put e.key false e.properties }) (session_of s) o (body.Put e.key (at.Commit (length s.journal + 1))) (session_of (put_into s e))) (sym (put_unrefused s e fine))
+            (refl, refl, answers.0, answers.1);
+        told = record { added = _; journal = refl; acknowledges = refl; accepts = counter_ids-none e.key.elems none; prints = nothing (λ next. next ≤ first_id) };
+      }
+
+-- how many commits were applied before doesn't matter to a reply
+from_before : (s u t : SingleParts) (number : ℕ) (c : Call) (reply : Reply) → u.journal ≡ s.journal → u.place ≡ s.place → u.count ≡ s.count → CallAnswered u t number c reply → CallAnswered s t number c reply
+from_before s u t number c reply journal place count a =
+    subst (λ v. CallAnswered v t number c reply) (λ i. record { journal = journal i; applied = s.applied; place = place i; count = count i }) (record {
+      numbered = a.numbered;
+      addressed = a.addressed;
+      said = a.said;
+      told = record { added = a.told.added; journal = a.told.journal; acknowledges = a.told.acknowledges; accepts = a.told.accepts; prints = a.told.prints };
+    })
+
+-- a settle, from the state `u` after all commits are applied
+pub settle_said : (s u t : SingleParts) (entries : List (KeyParts × EntityParts)) (number place : ℕ) (counts : List ℕ) → IsSingle u.journal entries u.applied u.place u.count → u.journal ≡ s.journal → u.place ≡ s.place → u.count ≡ s.count → u.applied ≡ length s.journal → place ≡ length u.journal → counts ≡ place ∷ [] → t ≡ record u { place = place; count = place } →
+    CallAnswered s t number call.Settle (record { client = 0; line = number; body = body.Settle place counts })
+settle_said s u t entries number place counts kept same_journal same_seen same_count all same_place same_counts same_t =
+    from_before s u t number call.Settle (record { client = 0; line = number; body = body.Settle place counts }) same_journal same_seen same_count
+    (subst (λ v. CallAnswered u v number call.Settle (record { client = 0; line = number; body = body.Settle place counts })) (sym (same_t ∙ applied_all))
+    (subst (λ r. CallAnswered u settled number call.Settle r)
+    (sym ((ap (λ cs. record { client = 0; line = number; body = body.Settle place cs }) same_counts) ∙ (ap (λ m. record { client = 0; line = number; body = body.Settle m (m ∷ []) }) same_place))) answered)) where
+      settled : SingleParts
+      settled = record { journal = u.journal; applied = length u.journal; place = length u.journal; count = length u.journal }
+
+      applied_all : record u { place = place; count = place } ≡ settled
+      applied_all = λ i. record { journal = u.journal; applied = (all ∙ ap (λ (cs : List Commit). length cs) (sym same_journal)) i; place = same_place i; count = same_place i }
+
+      answered : CallAnswered u settled number call.Settle (record { client = 0; line = number; body = body.Settle (length u.journal) (length u.journal ∷ []) })
+      answered = record {
+        numbered = refl;
+        addressed = refl;
+        said = λ more. settle_answers u more kept.one_write_each kept.place_within kept.count_within kept.applied_within;
+        told = quiet_tells u settled (record { client = 0; line = number; body = body.Settle (length u.journal) (length u.journal ∷ []) }) refl (record { acknowledges = refl; accepts = refl; prints = refl });
+      }
+
+-- a query of a kind
+pub query_said : (s t : SingleParts) (entries : List (KeyParts × EntityParts)) (number : ℕ) (kind : List ℕ) (results : List Item) (counts : List ℕ) (place count : ℕ) → IsSingle s.journal entries s.applied s.place s.count → counts ≡ count ∷ [] → count ≡ s.applied → results ≡ kind_results [] kind (after (applied_writes s)) → t ≡ record s { place = place; count = count } → place ≡ max s.place count →
+    CallAnswered s t number (kind_query kind) (record { client = 0; line = number; body = body.Query select.Entities results (seen.Counts counts) None })
+query_said s t entries number kind results counts place count kept same_counts same_count exact same_t same_place =
+    subst (λ r. CallAnswered s t number (kind_query kind) r)
+    (sym (ap (λ cs. record { client = 0; line = number; body = body.Query select.Entities results (seen.Counts cs) None }) (same_counts ∙ ap (λ n. n ∷ []) same_count)))
+    (subst (λ u. CallAnswered s u number (kind_query kind) (record { client = 0; line = number; body = body.Query select.Entities results (seen.Counts (s.applied ∷ [])) None })) (sym (same_t ∙ ap (λ n. record s { place = place; count = n }) same_count)) answered) where
+      shown : SingleParts
+      shown = record s { place = place; count = s.applied }
+
+      answered : CallAnswered s shown number (kind_query kind) (record { client = 0; line = number; body = body.Query select.Entities results (seen.Counts (s.applied ∷ [])) None })
+      answered = record {
+        numbered = refl;
+        addressed = refl;
+        said = λ more. let answers = kind_answers s kind more results place kept.one_write_each kept.count_within kept.applied_within (same_place ∙ ap (λ n. max s.place n) same_count) exact in (refl, refl, answers.0, answers.1);
+        told = quiet_tells s shown (record { client = 0; line = number; body = body.Query select.Entities results (seen.Counts (s.applied ∷ [])) None }) refl (record { acknowledges = refl; accepts = refl; prints = refl });
+      }
+
+-- ---- what the rules on unbuilt members leave of a query
+
+unless-none : (b : Bool) (f : Field) (later : Option Field) → unless b f later ≡ None → (b ≡ true) × (later ≡ None)
+unless-none true f later none = (refl, none)
+unless-none false f later none = cc
+
+empty : {A : Type 0} (xs : List A) → is_empty xs ≡ true → xs ≡ []
+empty [] is = refl
+empty (x ∷ xs) is = cc
+
+none_of : {A : Type 0} (o : Option A) → is_none o ≡ true → o ≡ None
+none_of None is = refl
+none_of (Some x) is = cc
+
+entities : (s : Select) → is_entities s ≡ true → s ≡ select.Entities
+entities select.Entities is = refl
+entities select.Keys is = cc
+entities (select.Projection names) is = cc
+
+not_true : (b : Bool) → not b ≡ true → b ≡ false
+not_true true is = cc
+not_true false is = refl
+
+pub put_built : (key : KeyParts) (incomplete : Bool) (ps : List Property) → unbuilt_member (call.Put key incomplete ps) ≡ None → incomplete ≡ false
+put_built key incomplete ps none = not_true incomplete (unless-none (not incomplete) _ None none).0
+
+pub query_built : (namespace : List ℕ) (kind : List ℕ) (ancestor : Option KeyParts) (filters : List Filter) (orders : List Column) (selected : Select) (offset : ℕ) (limit : Option ℕ) (start end : Option (List ℕ)) (cursor : Bool) → unbuilt_member (call.Query namespace (Some kind) ancestor filters orders selected offset limit start end cursor) ≡ None → call.Query namespace (Some kind) ancestor filters orders selected offset limit start end cursor ≡ kind_query kind
+query_built namespace kind ancestor filters orders selected offset limit start end cursor none =
+    let a = unless-none (is_empty namespace) field.Namespace _ none in
+    let b = unless-none true field.Kind _ a.1 in
+    let c = unless-none (is_none ancestor) field.Ancestor _ b.1 in
+    let d = unless-none (is_empty filters) field.Filters _ c.1 in
+    let e = unless-none (is_empty orders) field.Orders _ d.1 in
+    let f = unless-none (is_entities selected) field.Select _ e.1 in
+    let g = unless-none (offset == 0) field.Offset _ f.1 in
+    let h = unless-none (is_none limit) field.Limit _ g.1 in
+    let i = unless-none (is_none start) field.Start _ h.1 in
+    let j = unless-none (is_none end) field.End _ i.1 in
+    let k = unless-none (not cursor) field.Cursor None j.1 in
+    λ t. call.Query (empty namespace a.0 t) (Some kind) (none_of ancestor c.0 t) (empty filters d.0 t) (empty orders e.0 t) (entities selected f.0 t) (eqb-true offset 0 g.0 t) (none_of limit h.0 t) (none_of start i.0 t) (none_of end j.0 t) (not_true cursor k.0 t)

@@ -1,0 +1,54 @@
+-- One line's reply in a single session.
+use Rattle.std.specs.Prelude.{◌≡◌, ℕ, ◌+◌, ◌≤◌, ◌⊎◌, List, [], ◌++◌, false, Some, None, Ok, length, All}
+use Rattle.ds_query.specs.declared.query.Select.TheVariants as select
+use Rattle.ds_json.specs.declared.call.Call.TheVariants as call
+use Rattle.ds_json.specs.declared.call.Call.{Call}
+use Rattle.ds_json.specs.declared.reply.Body.{Body}
+use Rattle.ds_json.specs.declared.reply.Body.TheVariants as body
+use Rattle.ds_json.specs.declared.reply.Reply.{Reply}
+use Rattle.ds_log.specs.declared.Commit.{Commit}
+use Rattle.ds_model.specs.Answers.{Answers, BodyAnswers, client_of}
+use Rattle.ds_model.specs.Legal.{numbers_from, acknowledged, accepted, printed_next, acknowledged_in, accepted_in, printed_next_in}
+use Rattle.ds_model.specs.Lines.{Line}
+use Rattle.ds_model.specs.Sessions.{first_id}
+use Rattle.ds_single.specs.State.{SingleParts, session_of, world}
+
+-- the reply of want of memory
+abbrev pub no_memory_reply : ℕ → Reply
+no_memory_reply number = record { client = 0; line = number; body = body.NoMemory }
+
+-- the reply says this, or that there was no memory
+abbrev pub Says : ℕ → Body → Reply → Type 0
+Says number b reply = (reply ≡ record { client = 0; line = number; body = b }) ⊎ (reply ≡ no_memory_reply number)
+
+-- what the journal gained, and what the reply tells of it: the new commits are acknowledged, and no id of the counter is
+-- accepted, since none was ever issued
+pub record Tells (old new : SingleParts) (reply : Reply) : Type 0 where
+  pub added : List Commit
+  pub journal : new.journal ≡ old.journal ++ added
+  pub acknowledges : acknowledged reply ≡ numbers_from (length old.journal + 1) (length added)
+  pub accepts : accepted reply ≡ []
+  pub prints : All (λ next. next ≤ first_id) (printed_next reply)
+
+-- the reply to a request of client 0, over every journal that begins with the new one
+pub record CallAnswered (old new : SingleParts) (number : ℕ) (c : Call) (reply : Reply) : Type 0 where
+  pub numbered : reply.line ≡ number
+  pub addressed : reply.client ≡ 0
+  pub said : (more : List Commit) → BodyAnswers (world (new.journal ++ more)) (session_of old) (Ok (record { client = 0; call = c })) reply.body (session_of new)
+  pub told : Tells old new reply
+
+-- the reply to a line, over every journal that begins with the new one; while client 0 alone is served, each line is its
+pub record Answered (old new : SingleParts) (line : Line) (reply : Reply) : Type 0 where
+  pub own : client_of line.bytes ≡ 0
+  pub answers : (more : List Commit) → Answers (world (new.journal ++ more)) (session_of old) line reply (session_of new)
+  pub told : Tells old new reply
+
+-- what a reply says acknowledges nothing, accepts no id and prints no id counter
+pub record IsQuiet (b : Body) : Type 0 where
+  pub acknowledges : acknowledged_in b ≡ []
+  pub accepts : accepted_in b ≡ []
+  pub prints : printed_next_in b ≡ []
+
+-- the query of a kind and nothing else
+abbrev pub kind_query : List ℕ → Call
+kind_query kind = call.Query [] (Some kind) None [] [] select.Entities 0 None None None false
