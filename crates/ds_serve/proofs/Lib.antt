@@ -1,0 +1,3 @@
+pub mod InputLines
+pub mod Pieces
+pub mod RoundRuns
