@@ -1,0 +1,75 @@
+//! The program: the real input, output and files, and the top call of `ds_serve`, where the main theorem stands.
+//!
+//! It passes on the words of the command line, and ends with the number of the run's status, which it also names on standard
+//! error.
+#![tactic(auto)]
+
+use ds_io::{NoGate, StdFiles, StdSink, StdSource};
+use ds_serve::{Status, serve};
+use std::alloc::AllocError;
+use std::env;
+use std::io::Write;
+use std::process::ExitCode;
+
+fn main(rt: HostRuntime) -> ExitCode {
+    let Ok(words) = words(&rt) else {
+        return end(&rt, Status::NoMemory);
+    };
+    let mut files = StdFiles::new(&rt);
+    let mut input = StdSource::new(rt.stdin());
+    let mut output = StdSink::new(rt.stdout());
+    let run = serve(
+        &rt,
+        rt.alloc(),
+        words.as_slice(),
+        &mut files,
+        &mut input,
+        &mut output,
+        &NoGate,
+    );
+    end(&rt, run.status)
+}
+
+/// The words behind the program's name. An error is want of memory.
+fn words(rt: &HostRuntime) -> Result<Vec<String>, AllocError> {
+    let mut words = Vec::new(rt.alloc());
+    let Ok(all) = env::args(rt) else {
+        return Err(AllocError);
+    };
+    for word in all.skip(1) {
+        words.push(word)?;
+    }
+    Ok(words)
+}
+
+/// Tells on standard error how the run ended, unless all went well, and gives the number of its status.
+fn end(rt: &HostRuntime, status: Status) -> ExitCode {
+    let mut errors = rt.stderr();
+    let told = match status {
+        Status::Done => Ok(()),
+        Status::Usage => writeln!(errors, "usage"),
+        Status::IndexFile { line } => writeln!(errors, "index file: line {line}"),
+        Status::ReadFault => writeln!(errors, "read fault"),
+        Status::WriteFault => writeln!(errors, "write fault"),
+        Status::FileFault => writeln!(errors, "file fault"),
+        Status::NoMemory => writeln!(errors, "no memory"),
+        Status::InputLimit => writeln!(errors, "input limit"),
+    };
+    // Where standard error is closed, the number alone tells it.
+    let _ = told;
+    ExitCode::from(exit_number(status))
+}
+
+/// The number that the program ends with.
+fn exit_number(status: Status) -> u8 {
+    match status {
+        Status::Done => 0,
+        Status::Usage => 1,
+        Status::IndexFile { .. } => 2,
+        Status::ReadFault => 3,
+        Status::WriteFault => 4,
+        Status::FileFault => 5,
+        Status::NoMemory => 6,
+        Status::InputLimit => 7,
+    }
+}
