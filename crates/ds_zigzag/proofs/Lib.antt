@@ -1,11 +1,11 @@
 pub mod CommonLaws
 pub mod Counts
-pub mod Encounters
 pub mod First
 pub mod Listings
 pub mod Order
 pub mod Progress
 pub mod Rounds
+pub mod Seeks
 pub mod SpanLaws
 pub mod Turns
 pub mod Walks

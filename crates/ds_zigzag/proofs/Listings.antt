@@ -10,7 +10,7 @@ use Rattle.ds_base.specs.KeyOrder.{bytes_cmp}
 use Rattle.ds_zigzag.specs.Spans.{is_below, is_from, is_within, count_from}
 use Rattle.ds_zigzag.specs.Listings.{seen_of, unseen_of, is_next, IsInOrder}
 use Rattle.ds_zigzag.proofs.Counts.{count_by-cons, weight}
-use Rattle.ds_zigzag.proofs.Encounters.{both_true}
+use Rattle.ds_zigzag.proofs.Seeks.{both_true}
 use Rattle.ds_zigzag.proofs.Order.{not_false, was_false, below_back, below_below, upto_below, upto_upto}
 
 -- the order by recursion

@@ -11,7 +11,7 @@ use Rattle.std.proofs.lemmas.List.MinMax.{ranks_by}
 use Rattle.ds_base.specs.KeyOrder.{bytes_cmp}
 use Rattle.ds_base.specs.KeyOrderLaws.{bytes_cmp-same}
 use Rattle.ds_zigzag.specs.Spans.{is_below, is_from, is_above}
-use Rattle.ds_zigzag.specs.Meetings.{first_above}
+use Rattle.ds_zigzag.specs.Targets.{first_above}
 
 -- a test that isn't false is true
 pub true_unless : (b : Bool) → (b ≡ false → ⊥) → b ≡ true

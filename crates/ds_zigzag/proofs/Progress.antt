@@ -1,4 +1,4 @@
--- How far a leap has come: the target, the scans that stand there, and the steps taken.
+-- How far the leapfrog has come: the target, the scans that stand there, and the steps taken.
 use Rattle.std.proofs.Common.{◌≡◌, ◌≢◌, ℕ, ◌+◌, ◌-◌, ◌*◌, ◌<◌, ◌≤◌, Bool, true, false, cond, List, [], length, get_or, refl, sym, ◌∙◌, ap, subst, ◌⊎◌, inl, inr, zero-add, arith}
 use Rattle.std.specs.Prelude.{◌&&◌, not, Option, Some, None, Contains, find, count_by}
 use Rattle.std.specs.List.Sorted.{IsStrictlySortedBy}
@@ -6,9 +6,9 @@ use Rattle.std.proofs.Math.Nat.{mul-le-mul_left}
 use Rattle.ds_base.specs.KeyOrder.{bytes_cmp}
 use Rattle.ds_zigzag.specs.Spans.{is_below, is_from, is_above, is_within, count_from, count_between}
 use Rattle.ds_zigzag.specs.CommonStrings.{IsCommon, IsNextCommon, HasNoNextCommon, least_count, total_count}
-use Rattle.ds_zigzag.specs.Meetings.{first_above}
+use Rattle.ds_zigzag.specs.Targets.{first_above}
 use Rattle.ds_zigzag.proofs.Counts.{count_by-le, count_by-lt, count_by-both, sums, sums-le, sums-more, sums-sum_by, least_at, get_or-default}
-use Rattle.ds_zigzag.proofs.Encounters.{first_true, second_true, both_true}
+use Rattle.ds_zigzag.proofs.Seeks.{first_true, second_true, both_true}
 use Rattle.ds_zigzag.proofs.First.{found_in, found_passes, found_is_least, none_passes}
 use Rattle.ds_zigzag.proofs.Order.{not_both, false_unless, not_true, not_false, was_false, not_below_itself, below_back, below_upto, upto_below, upto_upto, below_below, above-is_from}
 use Rattle.ds_zigzag.proofs.Rounds.{stands, stands-start, stands-again, stands-turn, stands-sought, stands-others, stands-alone, stands-all, lag, lag-start, lag-end, lag-turn, lag-sought, lag-others}
@@ -306,7 +306,7 @@ module _ (after : Option (List ℕ)) (strings passed : List (List (List ℕ))) (
         let within = p.turn_within in
         omega arith
 
--- ---- a leap ends
+-- ---- the leapfrog ends
 
 -- what is left to do: strings above the target, and scans that may agree on it
 pub left : List (List (List ℕ)) → List ℕ → ℕ → ℕ

@@ -4,8 +4,8 @@ ghost use Rattle.std.specs.Borrow.{sem};
 ghost use Rattle.std.specs.Io.BufRead.{Rests};
 ghost use Rattle.ds_zigzag.specs.CommonStrings.{IsNextCommon, HasNoNextCommon, least_count, total_count};
 
-use crate::meeting::{Meeting, aim, meet};
 use crate::scan::Scan;
+use crate::target::{Sought, seek_target, start_above};
 use ds_io::Steps;
 use std::alloc::{AllocError, Global};
 use std::marker::Model;
@@ -79,7 +79,7 @@ impl Join {
             steps.new ≤ steps.old + self.old * (n + 2) + p) }
         ensures steps_stay_counted { steps.old ≤ steps.new }
     {
-        if leap(&mut self.target, scans, after, steps)? {
+        if leapfrog(&mut self.target, scans, after, steps)? {
             Ok(Some(self.target.as_slice()))
         } else {
             Ok(None)
@@ -87,28 +87,28 @@ impl Join {
     }
 }
 
-/// Goes round the scans and seeks the target at each, which rises to what they give, until a whole turn found it at all
-/// of them; `false` where one of them has no string from there on, and so none is common.
+/// The leapfrog join: goes round the scans and seeks the target at each, which rises to what they give, until a whole turn
+/// found it at all of them; `false` where one of them has no string from there on, and so none is common.
 ///
 /// The greatest string found is all that is kept: a scan whose turn comes again stands below it, for otherwise all have
 /// agreed. So no string is sought twice at one scan, and the scan with the fewest strings bounds the turns.
-fn leap<S: Scan, L: Ledger>(
+fn leapfrog<S: Scan, L: Ledger>(
     target: &mut Vec<u8>,
     scans: &mut [S],
     after: Option<&[u8]>,
     steps: &mut Steps<L>,
 ) -> Result<bool, AllocError>
     requires { 0 < length scans.old }
-    ensures next_common { IfOk result (λ met. IsTrue met → IsNextCommon (option_copied after.entry) (map S.strings scans.old) target.new.items) }
-    ensures none_is_left { IfOk result (λ met. IsFalse met → HasNoNextCommon (option_copied after.entry) (map S.strings scans.old)) }
+    ensures next_common { IfOk result (λ common. IsTrue common → IsNextCommon (option_copied after.entry) (map S.strings scans.old) target.new.items) }
+    ensures none_is_left { IfOk result (λ common. IsFalse common → HasNoNextCommon (option_copied after.entry) (map S.strings scans.old)) }
     ensures same_strings { map S.strings scans.new ≡ map S.strings scans.old }
     ensures same_passed { map S.passed scans.new ≡ map S.passed scans.old }
 
-    ensures steps_with_answer { IfOk result (λ met. IsTrue met →
+    ensures steps_with_answer { IfOk result (λ common. IsTrue common →
         let n = least_count (option_copied after.entry) (Some target.new.items) (map S.strings scans.old) in
         let p = total_count (option_copied after.entry) (Some target.new.items) (map S.passed scans.old) in
         steps.new ≤ steps.old + length scans.old * (n + 1) + p) }
-    ensures steps_with_none { IfOk result (λ met. IsFalse met →
+    ensures steps_with_none { IfOk result (λ common. IsFalse common →
         let n = least_count (option_copied after.entry) None (map S.strings scans.old) in
         let p = total_count (option_copied after.entry) None (map S.passed scans.old) in
         steps.new ≤ steps.old + length scans.old * (n + 2) + p) }
@@ -118,15 +118,15 @@ fn leap<S: Scan, L: Ledger>(
         steps.new ≤ steps.old + length scans.old * (n + 2) + p) }
     ensures steps_stay_counted { steps.old ≤ steps.new }
 {
-    aim(target, after)?;
+    start_above(target, after)?;
     let mut turn = 0;
     let mut agreed = 0;
     while agreed < scans.len() {
         let at = wrapped(turn, scans.len());
-        match meet(target, &mut scans[at], steps)? {
-            Meeting::Nothing => return Ok(false),
-            Meeting::Same => agreed += 1,
-            Meeting::Greater => agreed = 1,
+        match seek_target(target, &mut scans[at], steps)? {
+            Sought::Nothing => return Ok(false),
+            Sought::Same => agreed += 1,
+            Sought::Greater => agreed = 1,
         }
         turn = at + 1;
     }

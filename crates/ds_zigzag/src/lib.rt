@@ -11,8 +11,8 @@
 #![tactic(auto)]
 
 mod join;
-mod meeting;
 mod scan;
+mod target;
 #[cfg(test)]
 mod tests;
 

@@ -229,3 +229,11 @@ fn counts_steps(rt: HostRuntime) -> Result<(), Fail> {
     }
     Ok(())
 }
+
+#[test]
+fn gives_all_of_one_scan(rt: HostRuntime) -> Result<(), Fail> {
+    let (all, taken) = joined::<Brand>(Blank::new(1), rt.alloc(), ["a -b c"].as_slice())?;
+    assert_eq!(rt; all.bytes(), b"a c ".as_slice());
+    assert_eq!(rt; taken, 4);
+    Ok(())
+}

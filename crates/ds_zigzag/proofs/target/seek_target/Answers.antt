@@ -1,8 +1,8 @@
 use Rattle.std.proofs.Common.{rules, ◌≡◌, ◌+◌, ◌≤◌, option_copied, Some, None, sym, ◌∙◌, ap, arith}
 use Rattle.std.specs.Prelude.{find}
 use Rattle.ds_zigzag.specs.Spans.{is_from, count_from}
-use Rattle.ds_zigzag.proofs.Encounters.{greater, count_from-le}
-use Rattle.ds_zigzag.proofs.meeting.meet.Goals as goal
+use Rattle.ds_zigzag.proofs.Seeks.{greater, count_from-le}
+use Rattle.ds_zigzag.proofs.target.seek_target.Goals as goal
 
 pub returns-in_err-extend_from_slice-clause-steps_when_refused : goal.returns-in_err-extend_from_slice-clause-steps_when_refused
 returns-in_err-extend_from_slice-clause-steps_when_refused g c =
@@ -11,8 +11,8 @@ returns-in_err-extend_from_slice-clause-steps_when_refused g c =
     let taken : c.seek.new.steps ≤ c.args.steps.now + 1 + count_from c.args.target.now.items None (g.S.Scan.passed c.args.scan.now) = omega arith in
     search rules
 
-pub returns-clause-meets : goal.returns-clause-meets
-returns-clause-meets g c =
+pub returns-clause-sought : goal.returns-clause-sought
+returns-clause-sought g c =
     let first : Some c.in-Some.found.now ≡ find (is_from c.args.target.now.items) (g.S.Scan.strings c.args.scan.now) =
     ap option_copied (sym c.in-Some.is) ∙ (rw c.as_slice.ensures.value at c.in_ok-found.ensures.finds_the_first) in
     greater c.args.target.now.items c.in-Some.found.now _ (g.S.Scan.strings c.args.scan.now) first

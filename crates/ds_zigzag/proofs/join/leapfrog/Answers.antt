@@ -3,56 +3,56 @@ use Rattle.std.proofs.Math.Seq.{map-set_same}
 use Rattle.std.proofs.lemmas.List.{length-map}
 use Rattle.ds_zigzag.proofs.Progress.{started, found_common, with_answer}
 use Rattle.ds_zigzag.proofs.Turns.{at_turn, turn_same, turn_greater, turn_nothing, turn_without, smaller_same, smaller_greater}
-use Rattle.ds_zigzag.proofs.join.leap.Goals as goal
-use Rattle.ds_zigzag.proofs.join.leap.Goals.{in-Same, in-Greater}
+use Rattle.ds_zigzag.proofs.join.leapfrog.Goals as goal
+use Rattle.ds_zigzag.proofs.join.leapfrog.Goals.{in-Same, in-Greater}
 
 pub loop-agreed-init : goal.loop-agreed-init
 loop-agreed-init g c =
     let as_many = length-map c.args.scans.now g.S.Scan.passed ∙ sym (length-map c.args.scans.now g.S.Scan.strings) in
     record {
-      progress = rw c.in_ok-aim.ensures (started (option_copied c.args.after) (map g.S.Scan.strings c.args.scans.now) (map g.S.Scan.passed c.args.scans.now) c.args.steps.now as_many);
+      progress = rw c.in_ok-start_above.ensures (started (option_copied c.args.after) (map g.S.Scan.strings c.args.scans.now) (map g.S.Scan.passed c.args.scans.now) c.args.steps.now as_many);
       same_strings = search rules;
       same_passed = search rules;
     }
 
-pub returns-in_err-meet-clause-same_strings : goal.returns-in_err-meet-clause-same_strings
-returns-in_err-meet-clause-same_strings g c =
-    map-set_same g.S.Scan.strings c.loop-agreed.scans c.wrapped-at.result c.meet.new.scan c.index-scans-at.result c.meet.ensures.same_strings ∙ c.loop-agreed.invariant.same_strings
+pub returns-in_err-seek_target-clause-same_strings : goal.returns-in_err-seek_target-clause-same_strings
+returns-in_err-seek_target-clause-same_strings g c =
+    map-set_same g.S.Scan.strings c.loop-agreed.scans c.wrapped-at.result c.seek_target.new.scan c.index-scans-at.result c.seek_target.ensures.same_strings ∙ c.loop-agreed.invariant.same_strings
 
-pub returns-in_err-meet-clause-same_passed : goal.returns-in_err-meet-clause-same_passed
-returns-in_err-meet-clause-same_passed g c =
-    map-set_same g.S.Scan.passed c.loop-agreed.scans c.wrapped-at.result c.meet.new.scan c.index-scans-at.result c.meet.ensures.same_passed ∙ c.loop-agreed.invariant.same_passed
+pub returns-in_err-seek_target-clause-same_passed : goal.returns-in_err-seek_target-clause-same_passed
+returns-in_err-seek_target-clause-same_passed g c =
+    map-set_same g.S.Scan.passed c.loop-agreed.scans c.wrapped-at.result c.seek_target.new.scan c.index-scans-at.result c.seek_target.ensures.same_passed ∙ c.loop-agreed.invariant.same_passed
 
 pub returns-in-Nothing-clause-same_strings : goal.returns-in-Nothing-clause-same_strings
 returns-in-Nothing-clause-same_strings g c =
-    map-set_same g.S.Scan.strings c.loop-agreed.scans c.wrapped-at.result c.meet.new.scan c.index-scans-at.result c.meet.ensures.same_strings ∙ c.loop-agreed.invariant.same_strings
+    map-set_same g.S.Scan.strings c.loop-agreed.scans c.wrapped-at.result c.seek_target.new.scan c.index-scans-at.result c.seek_target.ensures.same_strings ∙ c.loop-agreed.invariant.same_strings
 
 pub returns-in-Nothing-clause-same_passed : goal.returns-in-Nothing-clause-same_passed
 returns-in-Nothing-clause-same_passed g c =
-    map-set_same g.S.Scan.passed c.loop-agreed.scans c.wrapped-at.result c.meet.new.scan c.index-scans-at.result c.meet.ensures.same_passed ∙ c.loop-agreed.invariant.same_passed
+    map-set_same g.S.Scan.passed c.loop-agreed.scans c.wrapped-at.result c.seek_target.new.scan c.index-scans-at.result c.seek_target.ensures.same_passed ∙ c.loop-agreed.invariant.same_passed
 
-pub returns-in_err-meet-clause-steps_when_refused : goal.returns-in_err-meet-clause-steps_when_refused
-returns-in_err-meet-clause-steps_when_refused g c =
+pub returns-in_err-seek_target-clause-steps_when_refused : goal.returns-in_err-seek_target-clause-steps_when_refused
+returns-in_err-seek_target-clause-steps_when_refused g c =
     let t = at_turn g.S.Scan.strings g.S.Scan.passed c.loop-agreed.scans c.args.scans.now (option_copied c.args.after) c.loop-agreed.target.items c.loop-agreed.turn c.loop-agreed.agreed c.args.steps.now c.loop-agreed.steps c.wrapped-at.result c.index-scans-at.result c.loop-agreed.invariant.same_strings c.loop-agreed.invariant.same_passed c.loop-agreed.invariant.progress c.loop-agreed-test.true c.wrapped-at.ensures.within c.wrapped-at.ensures.same c.wrapped-at.ensures.again in
-    let bound = rw length-map at (turn_without t c.meet.new.steps c.in_err-meet.ensures.steps_when_refused) in
+    let bound = rw length-map at (turn_without t c.seek_target.new.steps c.in_err-seek_target.ensures.steps_when_refused) in
     search rules
 
 pub returns-in-Nothing-clause-none_is_left : goal.returns-in-Nothing-clause-none_is_left
 returns-in-Nothing-clause-none_is_left g c _ =
     let t = at_turn g.S.Scan.strings g.S.Scan.passed c.loop-agreed.scans c.args.scans.now (option_copied c.args.after) c.loop-agreed.target.items c.loop-agreed.turn c.loop-agreed.agreed c.args.steps.now c.loop-agreed.steps c.wrapped-at.result c.index-scans-at.result c.loop-agreed.invariant.same_strings c.loop-agreed.invariant.same_passed c.loop-agreed.invariant.progress c.loop-agreed-test.true c.wrapped-at.ensures.within c.wrapped-at.ensures.same c.wrapped-at.ensures.again in
-    turn_nothing t c.meet.new.target.items (rw c.in-Nothing.is at c.in_ok-meet.ensures.meets)
+    turn_nothing t c.seek_target.new.target.items (rw c.in-Nothing.is at c.in_ok-seek_target.ensures.sought)
 
 pub returns-in-Nothing-clause-steps_with_none : goal.returns-in-Nothing-clause-steps_with_none
 returns-in-Nothing-clause-steps_with_none g c _ =
     let t = at_turn g.S.Scan.strings g.S.Scan.passed c.loop-agreed.scans c.args.scans.now (option_copied c.args.after) c.loop-agreed.target.items c.loop-agreed.turn c.loop-agreed.agreed c.args.steps.now c.loop-agreed.steps c.wrapped-at.result c.index-scans-at.result c.loop-agreed.invariant.same_strings c.loop-agreed.invariant.same_passed c.loop-agreed.invariant.progress c.loop-agreed-test.true c.wrapped-at.ensures.within c.wrapped-at.ensures.same c.wrapped-at.ensures.again in
-    rw length-map at (turn_without t c.meet.new.steps (rw c.in-Nothing.is at c.in_ok-meet.ensures.steps_when_done))
+    rw length-map at (turn_without t c.seek_target.new.steps (rw c.in-Nothing.is at c.in_ok-seek_target.ensures.steps_when_done))
 
 pub loop-agreed-smaller : goal.loop-agreed-smaller
 loop-agreed-smaller g c =
     let t = at_turn g.S.Scan.strings g.S.Scan.passed c.loop-agreed.scans c.args.scans.now (option_copied c.args.after) c.loop-agreed.target.items c.loop-agreed.turn c.loop-agreed.agreed c.args.steps.now c.loop-agreed.steps c.wrapped-at.result c.index-scans-at.result c.loop-agreed.invariant.same_strings c.loop-agreed.invariant.same_passed c.loop-agreed.invariant.progress c.loop-agreed-test.true c.wrapped-at.ensures.within c.wrapped-at.ensures.same c.wrapped-at.ensures.again in
     elim c.match-branch-3.branch [
-      | in-Same w ↦ smaller_same t c.meet.new.target.items c.match-branch-3.agreed (rw w.in-Same.is at c.in_ok-meet.ensures.meets) w.agreed-is
-      | in-Greater w ↦ smaller_greater t c.meet.new.target.items c.match-branch-3.agreed (rw w.in-Greater.is at c.in_ok-meet.ensures.meets) w.agreed-is
+      | in-Same w ↦ smaller_same t c.seek_target.new.target.items c.match-branch-3.agreed (rw w.in-Same.is at c.in_ok-seek_target.ensures.sought) w.agreed-is
+      | in-Greater w ↦ smaller_greater t c.seek_target.new.target.items c.match-branch-3.agreed (rw w.in-Greater.is at c.in_ok-seek_target.ensures.sought) w.agreed-is
     ]
 
 pub loop-agreed-preserved : goal.loop-agreed-preserved
@@ -60,11 +60,11 @@ loop-agreed-preserved g c =
     let t = at_turn g.S.Scan.strings g.S.Scan.passed c.loop-agreed.scans c.args.scans.now (option_copied c.args.after) c.loop-agreed.target.items c.loop-agreed.turn c.loop-agreed.agreed c.args.steps.now c.loop-agreed.steps c.wrapped-at.result c.index-scans-at.result c.loop-agreed.invariant.same_strings c.loop-agreed.invariant.same_passed c.loop-agreed.invariant.progress c.loop-agreed-test.true c.wrapped-at.ensures.within c.wrapped-at.ensures.same c.wrapped-at.ensures.again in
     record {
       progress = elim c.match-branch-3.branch [
-        | in-Same w ↦ turn_same t c.meet.new.target.items c.meet.new.steps c.match-branch-3.agreed c.meet.ensures.strings_ascend (rw w.in-Same.is at c.in_ok-meet.ensures.meets) (rw w.in-Same.is at c.in_ok-meet.ensures.steps_when_done) c.meet.ensures.steps_stay_counted w.agreed-is
-        | in-Greater w ↦ turn_greater t c.meet.new.target.items c.meet.new.steps c.match-branch-3.agreed c.meet.ensures.strings_ascend (rw w.in-Greater.is at c.in_ok-meet.ensures.meets) (rw w.in-Greater.is at c.in_ok-meet.ensures.steps_when_done) c.meet.ensures.steps_stay_counted w.agreed-is
+        | in-Same w ↦ turn_same t c.seek_target.new.target.items c.seek_target.new.steps c.match-branch-3.agreed c.seek_target.ensures.strings_ascend (rw w.in-Same.is at c.in_ok-seek_target.ensures.sought) (rw w.in-Same.is at c.in_ok-seek_target.ensures.steps_when_done) c.seek_target.ensures.steps_stay_counted w.agreed-is
+        | in-Greater w ↦ turn_greater t c.seek_target.new.target.items c.seek_target.new.steps c.match-branch-3.agreed c.seek_target.ensures.strings_ascend (rw w.in-Greater.is at c.in_ok-seek_target.ensures.sought) (rw w.in-Greater.is at c.in_ok-seek_target.ensures.steps_when_done) c.seek_target.ensures.steps_stay_counted w.agreed-is
       ];
-      same_strings = map-set_same g.S.Scan.strings c.loop-agreed.scans c.wrapped-at.result c.meet.new.scan c.index-scans-at.result c.meet.ensures.same_strings ∙ c.loop-agreed.invariant.same_strings;
-      same_passed = map-set_same g.S.Scan.passed c.loop-agreed.scans c.wrapped-at.result c.meet.new.scan c.index-scans-at.result c.meet.ensures.same_passed ∙ c.loop-agreed.invariant.same_passed;
+      same_strings = map-set_same g.S.Scan.strings c.loop-agreed.scans c.wrapped-at.result c.seek_target.new.scan c.index-scans-at.result c.seek_target.ensures.same_strings ∙ c.loop-agreed.invariant.same_strings;
+      same_passed = map-set_same g.S.Scan.passed c.loop-agreed.scans c.wrapped-at.result c.seek_target.new.scan c.index-scans-at.result c.seek_target.ensures.same_passed ∙ c.loop-agreed.invariant.same_passed;
     }
 
 pub returns-clause-next_common : goal.returns-clause-next_common

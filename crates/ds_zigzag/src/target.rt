@@ -3,7 +3,7 @@ ghost use Rattle.std.specs.Prelude.{◌≡◌, ℕ, ◌+◌, ◌≤◌, List, op
 ghost use Rattle.std.specs.List.Sorted.{IsStrictlySortedBy};
 ghost use Rattle.ds_base.specs.KeyOrder.{bytes_cmp};
 ghost use Rattle.ds_zigzag.specs.Spans.{count_from};
-ghost use Rattle.ds_zigzag.specs.Meetings.{first_above, Meets, met_at};
+ghost use Rattle.ds_zigzag.specs.Targets.{first_above, IsSought, sought_at};
 
 use crate::scan::Scan;
 use ds_io::Steps;
@@ -11,7 +11,7 @@ use std::alloc::AllocError;
 use std::sync::ledger::Ledger;
 
 /// What a scan that is sought at the target has there.
-pub enum Meeting {
+pub enum Sought {
     /// No string from the target on.
     Nothing,
     /// The target itself.
@@ -22,7 +22,7 @@ pub enum Meeting {
 
 /// The target is the first of all strings above `after`: that string and a zero byte. Without an `after` it is the empty
 /// string, the first of all.
-pub fn aim(target: &mut Vec<u8>, after: Option<&[u8]>) -> Result<(), AllocError>
+pub fn start_above(target: &mut Vec<u8>, after: Option<&[u8]>) -> Result<(), AllocError>
     ensures { OnOk result (target.new.items ≡ first_above (option_copied after.entry)) }
 {
     target.clear();
@@ -34,27 +34,27 @@ pub fn aim(target: &mut Vec<u8>, after: Option<&[u8]>) -> Result<(), AllocError>
 }
 
 /// Seeks the target at a scan; a greater string that the scan gives becomes the target.
-pub fn meet<S: Scan, L: Ledger>(
+pub fn seek_target<S: Scan, L: Ledger>(
     target: &mut Vec<u8>,
     scan: &mut S,
     steps: &mut Steps<L>,
-) -> Result<Meeting, AllocError>
-    ensures meets { IfOk result (λ m. Meets m target.old.items target.new.items (S.strings scan.old)) }
+) -> Result<Sought, AllocError>
+    ensures sought { IfOk result (λ m. IsSought m target.old.items target.new.items (S.strings scan.old)) }
     ensures strings_ascend { IsStrictlySortedBy bytes_cmp (S.strings scan.old) }
     ensures same_strings { S.strings scan.new ≡ S.strings scan.old }
     ensures same_passed { S.passed scan.new ≡ S.passed scan.old }
 
-    ensures steps_when_done { IfOk result (λ m. steps.new ≤ steps.old + 1 + count_from target.old.items (met_at m target.new.items) (S.passed scan.old)) }
+    ensures steps_when_done { IfOk result (λ m. steps.new ≤ steps.old + 1 + count_from target.old.items (sought_at m target.new.items) (S.passed scan.old)) }
     ensures steps_when_refused { OnErr result (steps.new ≤ steps.old + 1 + count_from target.old.items None (S.passed scan.old)) }
     ensures steps_stay_counted { steps.old ≤ steps.new }
 {
     let Some(found) = scan.seek(target.as_slice(), steps)? else {
-        return Ok(Meeting::Nothing);
+        return Ok(Sought::Nothing);
     };
     if found == target.as_slice() {
-        return Ok(Meeting::Same);
+        return Ok(Sought::Same);
     }
     target.clear();
     target.extend_from_slice(found)?;
-    Ok(Meeting::Greater)
+    Ok(Sought::Greater)
 }

@@ -1,6 +1,6 @@
 use Rattle.std.proofs.Common.{◌≡◌, option_copied, map}
 use Rattle.ds_zigzag.proofs.Progress.{Progress, left}
-use Rattle.ds_zigzag.proofs.join.leap.Given as goal
+use Rattle.ds_zigzag.proofs.join.leapfrog.Given as goal
 
 abbrev pub invariant-loop-agreed : goal.invariant-loop-agreed
 invariant-loop-agreed g l = record {
