@@ -79,7 +79,7 @@ impl<O: Drop, T: Absorb<Step<O>> + Drop, V, P: Protocol<T, V>> Copies<O, T, V, P
         Ok(reader)
     }
 
-    /// Waits for the readers, and drops both copies. No reader enters any more.
+    /// Waits for the readers, and drops both copies. No reader enters any more. It gives nothing, so it ensures nothing.
     pub fn end<R: Wait>(self, rt: &R) {
         let Copies { writer } = self;
         drop(writer.take(rt));

@@ -103,6 +103,9 @@ impl<O: Drop, S: Absorb<O> + Drop> Writer<O, S> {
     }
 
     /// Ends the hub: no reader enters any more. It waits for the readers that read. Pending operations are dropped.
+    ///
+    /// It ensures nothing, since it uses the writer up and gives nothing of which to speak. What a store needs to know at the
+    /// end, that each reader's list begins the published one, `confirm` says of the writer before.
     pub fn end<Rt: Threads + Wait + Sync>(self, rt: &Rt) {
         let Writer {
             copies,
