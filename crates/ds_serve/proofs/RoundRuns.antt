@@ -2,8 +2,9 @@
 use Rattle.std.proofs.Common.{◌≡◌, ◌⊎◌, inl, inr, ℕ, zero, suc, ◌+◌, ◌-◌, ◌<◌, ◌≤◌, List, [], ◌∷◌, ◌++◌, length, refl, ap, sym, ◌∙◌, subst, cond, arith, Option, Some, None, length-append, append_assoc, map, take, drop, get_or, add-one, ◌^◌}
 use Rattle.std.specs.Prelude.{flat_map, filter, min, All, IfSome, IsPermutation, ◌==◌, replicate}
 use Rattle.std.proofs.Math.Seq.{take-suc, drop-cons}
-use Rattle.std.proofs.lemmas.List.{map-append}
-use Rattle.std.proofs.lemmas.List.Elements.{All-push, All-append, All-head, All-tail}
+use Rattle.std.proofs.lemmas.List.{map-append, append-nil}
+use Rattle.std.proofs.lemmas.Grind.{flat_map-append}
+use Rattle.std.proofs.lemmas.List.Elements.{All-nil, All-push, All-append, All-head, All-tail}
 use Rattle.std.proofs.lemmas.List.Sorted.{IsPermutation-refl}
 use Rattle.std.proofs.lemmas.Bool.{ne_eqb}
 use Rattle.ds_json.specs.declared.reply.Reply.{Reply}
@@ -33,18 +34,11 @@ steps-push w s t u (l ∷ lines) (r ∷ replies) line reply (next, first, steps)
     (next, first, steps-push w next t u lines replies line reply steps answers)
 
 texts-push : (replies : List Reply) (reply : Reply) → replies_text (replies ++ reply ∷ []) ≡ replies_text replies ++ reply_text reply
-texts-push [] reply = append_nil (reply_text reply) where
-  append_nil : (bs : List ℕ) → bs ++ [] ≡ bs
-  append_nil [] = refl
-  append_nil (b ∷ bs) = ap (λ cs. b ∷ cs) (append_nil bs)
+texts-push [] reply = append-nil (reply_text reply)
 texts-push (r ∷ replies) reply = ap (λ bs. reply_text r ++ bs) (texts-push replies reply) ∙ sym (append_assoc (reply_text r) (replies_text replies) (reply_text reply))
 
 collected-push : (f : Reply → List ℕ) (replies : List Reply) (reply : Reply) → flat_map f (replies ++ reply ∷ []) ≡ flat_map f replies ++ f reply
-collected-push f [] reply = append_nil (f reply) where
-  append_nil : (ns : List ℕ) → ns ++ [] ≡ ns
-  append_nil [] = refl
-  append_nil (n ∷ ns) = ap (λ ms. n ∷ ms) (append_nil ns)
-collected-push f (r ∷ replies) reply = ap (λ ns. f r ++ ns) (collected-push f replies reply) ∙ sym (append_assoc (f r) (flat_map f replies) (f reply))
+collected-push f replies reply = flat_map-append f replies (reply ∷ []) ∙ ap (λ ns. flat_map f replies ++ ns) (append-nil (f reply))
 
 numbers-append : (first m n : ℕ) → numbers_from first m ++ numbers_from (first + m) n ≡ numbers_from first (m + n)
 numbers-append first zero n =
@@ -63,15 +57,12 @@ ran-none s = record {
   added = [];
   steps = λ more. refl;
   printed = refl;
-  journal = sym (append_nil s.journal);
+  journal = sym (append-nil s.journal);
   acknowledges = refl;
   accepts = refl;
-  prints = λ i d within. absurd (omega arith);
-  own = λ i d within. absurd (omega arith);
-} where
-  append_nil : (cs : List Commit) → cs ++ [] ≡ cs
-  append_nil [] = refl
-  append_nil (c ∷ cs) = ap (λ ds. c ∷ ds) (append_nil cs)
+  prints = All-nil (λ next. next ≤ first_id);
+  own = All-nil (λ (line : Line). client_of line.bytes ≡ 0);
+}
 
 pub ran-push : (s t u : SingleParts) (lines : List Line) (line : Line) (text : List ℕ) (reply : Reply) → Ran s t lines text → Answered t u line reply → Ran s u (lines ++ line ∷ []) (text ++ reply_text reply)
 ran-push s t u lines line text reply ran answered = record {
@@ -131,14 +122,6 @@ idle w round client [] own above = (refl, refl)
 idle w round client (s ∷ sessions) own above =
     ([], [], refl, subst (λ lines. Steps w s lines [] s) (sym (none_other client round own above)) refl, idle w round (client + 1) sessions own (omega arith))
 
-replies_nil : (rs : List Reply) → rs ++ [] ≡ rs
-replies_nil [] = refl
-replies_nil (r ∷ rs) = ap (λ qs. r ∷ qs) (replies_nil rs)
-
-journal_nil : (cs : List Commit) → cs ++ [] ≡ cs
-journal_nil [] = refl
-journal_nil (c ∷ cs) = ap (λ ds. c ∷ ds) (journal_nil cs)
-
 none_drawn : (rs : List Reply) → flat_map drawn rs ≡ []
 none_drawn [] = refl
 none_drawn (r ∷ rs) = none_drawn rs
@@ -157,7 +140,7 @@ legal new lines text ran = record {
     ran.replies,
     [],
     session_of new ∷ others,
-    sym (replies_nil ran.replies),
+    sym (append-nil ran.replies),
     subst (λ sessions. RoundSteps (world new.journal) lines 0 sessions ran.replies (session_of new ∷ others)) (sym first_meeting) round,
     refl,
   );
@@ -166,17 +149,17 @@ legal new lines text ran = record {
     bound = first_id;
     from_first = omega arith;
     each_once = subst (λ ns. IsPermutation ns []) (sym (none_drawn ran.replies)) (IsPermutation-refl []);
-    accepted_below = subst (All (λ id. id < first_id)) (sym ran.accepts) (λ i d within. absurd (omega arith));
+    accepted_below = subst (All (λ id. id < first_id)) (sym ran.accepts) (All-nil (λ id. id < first_id));
     printed_within = ran.prints;
   };
 } where
   own_steps : Steps (world new.journal) (session_of first_state) (filter (λ line. client_of line.bytes == 0) lines) ran.replies (session_of new)
   own_steps =
       subst (λ ls. Steps (world new.journal) (session_of first_state) ls ran.replies (session_of new)) (sym (all_own lines ran.own))
-      (subst (λ cs. Steps (world cs) (session_of first_state) lines ran.replies (session_of new)) (journal_nil new.journal) (ran.steps []))
+      (subst (λ cs. Steps (world cs) (session_of first_state) lines ran.replies (session_of new)) (append-nil new.journal) (ran.steps []))
 
   round : RoundSteps (world new.journal) lines 0 (session_of first_state ∷ others) ran.replies (session_of new ∷ others)
-  round = (ran.replies, [], sym (replies_nil ran.replies), own_steps, idle (world new.journal) lines 1 others ran.own (omega arith))
+  round = (ran.replies, [], sym (append-nil ran.replies), own_steps, idle (world new.journal) lines 1 others ran.own (omega arith))
 
 -- ---- a run
 
@@ -188,8 +171,8 @@ legal_none = record {
     bound = first_id;
     from_first = omega arith;
     each_once = IsPermutation-refl [];
-    accepted_below = λ i d within. absurd (omega arith);
-    printed_within = λ i d within. absurd (omega arith);
+    accepted_below = All-nil (λ id. id < first_id);
+    printed_within = All-nil (λ next. next ≤ first_id);
   };
 }
 

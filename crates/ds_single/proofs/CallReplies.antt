@@ -1,6 +1,8 @@
 -- The reply to a request, from what the state became and what was written.
-use Rattle.std.proofs.Common.{◌≡◌, ℕ, zero, suc, ◌+◌, ◌≤◌, inl, inr, List, [], ◌∷◌, ◌++◌, length, refl, ap, sym, ◌∙◌, subst, Bool, true, false, arith, Option, Some, None}
+use Rattle.std.proofs.Common.{◌≡◌, ℕ, ◌+◌, ◌≤◌, inl, inr, List, [], ◌∷◌, ◌++◌, length, refl, ap, sym, ◌∙◌, subst, Bool, true, false, arith, Option, Some, None}
 use Rattle.std.proofs.lemmas.Bool.{eqb-true}
+use Rattle.std.proofs.lemmas.List.{append-nil}
+use Rattle.std.proofs.lemmas.List.Elements.{All-cons, All-nil}
 use Rattle.std.specs.Prelude.{All, max, Result, Ok, not, ◌==◌, is_none}
 use Rattle.ds_base.specs.declared.entity.Property.{Property}
 use Rattle.ds_base.specs.declared.results.Item.{Item}
@@ -35,21 +37,15 @@ pub said : (w : World) (s after : Session) (line : Result Request (ℕ × Body))
 said w s after line body.NoMemory answers same = same
 said w s after line _ answers same = answers
 
-nothing : (P : ℕ → Type 0) → All P []
-nothing P = λ k d within. absurd (omega arith)
-
 -- a reply that changes nothing in the journal and tells no number
 pub quiet_tells : (s t : SingleParts) (reply : Reply) → t.journal ≡ s.journal → IsQuiet reply.body → Tells s t reply
 quiet_tells s t reply same quiet = record {
   added = [];
-  journal = same ∙ sym (append_nil s.journal);
+  journal = same ∙ sym (append-nil s.journal);
   acknowledges = quiet.acknowledges;
   accepts = quiet.accepts;
-  prints = subst (λ ns. All (λ next. next ≤ first_id) ns) (sym quiet.prints) (nothing (λ next. next ≤ first_id));
-} where
-  append_nil : (cs : List Commit) → cs ++ [] ≡ cs
-  append_nil [] = refl
-  append_nil (c ∷ cs) = ap (λ ds. c ∷ ds) (append_nil cs)
+  prints = subst (λ ns. All (λ next. next ≤ first_id) ns) (sym quiet.prints) (All-nil (λ next. next ≤ first_id));
+}
 
 pub no_memory_quiet : IsQuiet body.NoMemory
 no_memory_quiet = record { acknowledges = refl; accepts = refl; prints = refl }
@@ -94,19 +90,12 @@ not_issued s number id e reply (inl is) fine first = subst (λ r. CallAnswered s
         (record { shown = omega arith; first = first }, refl);
     told = record {
       added = [];
-      journal = sym (append_nil s.journal);
+      journal = sym (append-nil s.journal);
       acknowledges = refl;
       accepts = refl;
-      prints = λ k d within. one k d within;
+      prints = All-cons (λ next. next ≤ first_id) first_id [] (omega arith) (All-nil (λ next. next ≤ first_id));
     };
-  } where
-    append_nil : (cs : List Commit) → cs ++ [] ≡ cs
-    append_nil [] = refl
-    append_nil (c ∷ cs) = ap (λ ds. c ∷ ds) (append_nil cs)
-
-    one : All (λ next. next ≤ first_id) (first_id ∷ [])
-    one zero d within = omega arith
-    one (suc k) d within = absurd (omega arith)
+  }
 
 -- a put that was committed
 pub put_said : (s t : SingleParts) (entries : List (KeyParts × EntityParts)) (number n : ℕ) (e : EntityParts) (key : KeyParts) → IsSingle s.journal entries s.applied s.place s.count → key ≡ e.key → n ≡ length s.journal + 1 → entity_refusal e.key e.properties ≡ None → first_unissued first_id e.key.elems ≡ None → t ≡ put_into s e →
@@ -123,7 +112,7 @@ put_said s t entries number n e key kept same_key same_n fine none same_t =
             let answers = put_answers s e.key e.properties more kept.place_within none in
             subst (λ o. RequestAnswers (world ((put_into s e).journal ++ more)) (record { client = 0; call = call.Put e.key false e.properties }) (session_of s) o (body.Put e.key (at.Commit (length s.journal + 1))) (session_of (put_into s e))) (sym (put_unrefused s e fine))
             (refl, refl, answers.0, answers.1);
-        told = record { added = _; journal = refl; acknowledges = refl; accepts = counter_ids-none e.key.elems none; prints = nothing (λ next. next ≤ first_id) };
+        told = record { added = _; journal = refl; acknowledges = refl; accepts = counter_ids-none e.key.elems none; prints = All-nil (λ next. next ≤ first_id) };
       }
 
 -- how many commits were applied before doesn't matter to a reply

@@ -2,7 +2,7 @@
 use Rattle.std.proofs.Common.{◌≡◌, ℕ, suc, ◌-◌, List, [], ◌∷◌, ◌++◌, length, refl, ap, sym, ◌∙◌, subst, Bool, true, false, cond, map, arith, Some, None}
 use Rattle.std.proofs.lemmas.Bool.{ne_eqb}
 use Rattle.std.proofs.lemmas.List.Elements.{filter-append}
-use Rattle.std.proofs.lemmas.List.{map-append}
+use Rattle.std.proofs.lemmas.List.{map-append, append-nil}
 use Rattle.std.specs.Prelude.{filter, slice_get, ◌==◌}
 use Rattle.std.specs.Map.Iter.{deref}
 use denote.Bor.{Bor}
@@ -30,10 +30,7 @@ items_of-kept p xs x items so_far kept =
 
 pub items_of-passed : (p : EntityParts → Bool) (xs : List (Bor EntityParts)) (x : Bor EntityParts) (items : List Item) → items ≡ items_of p xs → p x.now ≡ false → items ≡ items_of p (xs ++ x ∷ [])
 items_of-passed p xs x items so_far passed =
-    so_far ∙ sym (items_of-push p xs x ∙ ap (λ b. items_of p xs ++ map whole_item (cond b (x.now ∷ []) [])) passed ∙ append_nil (items_of p xs)) where
-      append_nil : (is : List Item) → is ++ [] ≡ is
-      append_nil [] = refl
-      append_nil (i ∷ is) = ap (λ js. i ∷ js) (append_nil is)
+    so_far ∙ sym (items_of-push p xs x ∙ ap (λ b. items_of p xs ++ map whole_item (cond b (x.now ∷ []) [])) passed ∙ append-nil (items_of p xs))
 
 values-keyed : (es : List EntityParts) → map (λ (x : KeyParts × EntityParts). x.1) (map keyed es) ≡ es
 values-keyed [] = refl

@@ -5,7 +5,7 @@ use Rattle.std.specs.Prelude.{filter, fold, All, ◌==◌, ⊤}
 use Rattle.std.proofs.Math.Nat.{mod-one}
 use Rattle.std.proofs.lemmas.Bool.{eq-eqb}
 use Rattle.std.proofs.lemmas.List.{take-append-le}
-use Rattle.std.proofs.lemmas.List.Elements.{All-head}
+use Rattle.std.proofs.lemmas.List.Elements.{All-head, All-tail}
 use Rattle.std.specs.Ordering.{is_eq}
 use Rattle.std.specs.Cmp.{tied_itself}
 use Rattle.ds_base.specs.Keys.{KeyParts}
@@ -24,12 +24,9 @@ abbrev pub OneWriteEach : List Commit → Type 0
 OneWriteEach [] = ⊤
 OneWriteEach (c ∷ cs) = HasOneWrite c × OneWriteEach cs
 
-All-tail : (c : Commit) (cs : List Commit) → All HasOneWrite (c ∷ cs) → All HasOneWrite cs
-All-tail c cs all = λ k d within. all (suc k) d (omega arith)
-
 pub OneWriteEach-All : (cs : List Commit) → All HasOneWrite cs → OneWriteEach cs
 OneWriteEach-All [] all = tt
-OneWriteEach-All (c ∷ cs) all = (All-head HasOneWrite c cs all, OneWriteEach-All cs (All-tail c cs all))
+OneWriteEach-All (c ∷ cs) all = (All-head HasOneWrite c cs all, OneWriteEach-All cs (All-tail HasOneWrite c cs all))
 
 same_key-itself : (k : KeyParts) → same_key k k ≡ true
 same_key-itself k = ap is_eq (tied_itself key_cmp-total k)

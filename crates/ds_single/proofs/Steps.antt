@@ -2,7 +2,7 @@
 use Rattle.std.proofs.Common.{◌≡◌, ℕ, ◌+◌, ◌-◌, ◌≤◌, List, [], ◌∷◌, ◌++◌, length, take, refl, ap, sym, ◌∙◌, subst, Bool, true, false, cond, arith, length-append, Option, Some, None}
 use Rattle.std.specs.Prelude.{All, slice_get, max, nat_le, ◌&&◌, fold}
 use Rattle.std.proofs.Math.Seq.{take-length}
-use Rattle.std.proofs.lemmas.List.{take-append-le}
+use Rattle.std.proofs.lemmas.List.{take-append-le, append-nil}
 use Rattle.ds_base.specs.declared.key.Ident.{Ident}
 use Rattle.ds_base.specs.declared.key.Ident.TheVariants.{Id, Name}
 use Rattle.ds_base.specs.declared.key.Elem.{Elem}
@@ -89,11 +89,8 @@ put_answers s key ps more within none = (
 
 counted : (a : ℕ) (cs ds : List Commit) → OneWriteEach cs → a ≤ length cs → after (entry_writes (take a (shard_list 1 (cs ++ ds) 0) ++ [])) ≡ after (writes_of (take a cs))
 counted a cs ds ones within =
-    ap (λ (es : List Entry). after (entry_writes es)) (append_nil (take a (shard_list 1 (cs ++ ds) 0)) ∙ take-shard_list a cs ds ones within)
-    ∙ ap after (writes-entries_from 1 a cs ones) where
-      append_nil : (es : List Entry) → es ++ [] ≡ es
-      append_nil [] = refl
-      append_nil (e ∷ es) = ap (λ fs. e ∷ fs) (append_nil es)
+    ap (λ (es : List Entry). after (entry_writes es)) (append-nil (take a (shard_list 1 (cs ++ ds) 0)) ∙ take-shard_list a cs ds ones within)
+    ∙ ap after (writes-entries_from 1 a cs ones)
 
 saw_all : (s : SingleParts) (a place : ℕ) (ds : List Commit) → OneWriteEach s.journal → s.count ≤ a → a ≤ length s.journal → place ≡ max s.place a →
     session_of (record s { place = place; count = a }) ≡ saw_counts (shard_list 1 (s.journal ++ ds) 0 ∷ []) (a ∷ []) (session_of s)
