@@ -6,4 +6,6 @@ pub mod KeyHash
 pub mod KeyOrder
 pub mod KeyOrderLaws
 pub mod Keys
+pub mod LimitLaws
+pub mod Limits
 pub mod Values

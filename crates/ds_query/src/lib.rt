@@ -5,11 +5,13 @@
 #![tactic(auto)]
 
 pub mod branch;
+pub mod field;
 pub mod query;
 pub mod refusal;
 pub mod row;
 
 pub use branch::{Bound, Branch, Branches, Normal, Pair, Pairs, Range, Window};
+pub use field::Field;
 pub use query::{Filter, Filters, Op, Query, Select};
 pub use refusal::{Constraint, QueryRefused, Reason};
 pub use row::{Place, Row, RowList, RowLists};
