@@ -58,13 +58,14 @@ Outcome old read (Err refused.InputLimit) new = GivesNone old read false × (new
 Outcome old read (Err refused.NoMemory) new = (new.stage ≡ stage.Failed) × (new.taken < most_input_bytes)
 
 -- One call: the bytes that it read, which its source had in front of what it has left, and of which there are none where a
--- round stood in the buffer or the input had ended; and what its answer says of them. Where it met the end nothing is left.
+-- round stood in the buffer, the input had ended, or an earlier call was refused; and what its answer says of them. Where it met the end nothing is left.
 pub record ReadsRound (old new : ReaderParts) (left_old left_new : Option (List ℕ)) (result : Result (Option Round) RoundRefused) : Type 0 where
   pub read : List ℕ
   pub told : left_old ≡ option_map (λ rest. read ++ rest) left_new
   pub counted : new.taken ≡ old.taken + length read
   pub at_once : (read ≡ []) ⊎ GivesNone old [] false
   pub past_the_end : old.stage ≡ stage.Ended → (read ≡ []) × (result ≡ Ok None)
+  pub past_a_refusal : old.stage ≡ stage.Failed → read ≡ []
   pub to_the_end : old.stage ≡ stage.Reading → new.stage ≡ stage.Ended → IfSome left_new (λ rest. rest ≡ [])
   pub outcome : Outcome old read result new
 

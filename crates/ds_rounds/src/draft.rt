@@ -2,7 +2,7 @@
 ghost use Rattle.std.specs.Prelude.{◌≡◌, ℕ, ◌+◌, ◌^◌, ◌-◌, ◌<◌, ◌≤◌, ◌==◌, ◌&&◌, [], ◌∷◌, ◌++◌, List, Bool, true, false, length, take, position, IfOk, OnOk, OnErr};
 ghost use Rattle.ds_base.specs.Limits.{most_line_bytes};
 ghost use Rattle.ds_rounds.specs.Lines.{Content, content_of, is_blank};
-ghost use Rattle.ds_rounds.specs.Rounds.{NumberedLine, numbered, rounds_from};
+ghost use Rattle.ds_rounds.specs.Rounds.{is_full};
 ghost use Rattle.ds_rounds.specs.Drafts.{EndsInput, EndsLine, IsLine, IsOpen, IsSame, Leaves, so_far};
 
 use crate::lines::{Lines, Span};
@@ -104,7 +104,15 @@ impl Draft {
             return Ok(true);
         }
         self.add_line()?;
-        Ok(self.bytes.len() >= MAX_ROUND_BYTES || self.spans.len() >= MAX_ROUND_LINES)
+        Ok(self.is_full())
+    }
+
+    /// Whether the round takes no further line.
+    fn is_full(&self) -> bool
+        requires { self.now.kept ≡ [] }
+        ensures { result ≡ is_full (so_far self.now) }
+    {
+        self.spans.len() >= MAX_ROUND_LINES || self.bytes.len() >= MAX_ROUND_BYTES
     }
 
     /// Ends the line that is being read with the input, where an empty one is no line.

@@ -67,7 +67,6 @@ impl Rounds {
 
         ensures past_the_limit { self.old.taken ≡ most_input_bytes → result ≡ Err RoundRefused.InputLimit }
         ensures past_a_refusal { self.old.stage ≡ Stage.Failed → IsErr result }
-        ensures nothing_read { self.old.stage ≡ Stage.Failed → I.left input.new ≡ I.left input.old }
     {
         match self.stage {
             Stage::Reading => self.read_round(input),
