@@ -1,2 +1,3 @@
-pub mod LineLaws
 pub mod DraftLaws
+pub mod LineLaws
+pub mod SpanLaws

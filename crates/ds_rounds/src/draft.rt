@@ -80,7 +80,7 @@ impl Draft {
         ensures err { OnErr result (self.old.byte_room < length piece.now) }
     {
         let kept = self.bytes.len() - self.start;
-        let most = piece.len().min(MAX_LINE_BYTES + 1 - kept);
+        let most = (MAX_LINE_BYTES + 1 - kept).min(piece.len());
         self.bytes.extend_from_slice(&piece[..most])?;
         self.blank = self.blank && is_blank(piece);
         Ok(())
@@ -126,7 +126,8 @@ impl Draft {
             self.drop_line();
             return Ok(());
         }
-        self.add_line()
+        self.add_line()?;
+        Ok(())
     }
 
     /// The line that is being read is the next one.
@@ -160,7 +161,6 @@ impl Draft {
 
     /// The round of its lines.
     pub fn into_round(self) -> Round
-        requires { self.kept ≡ [] }
         ensures first { result.first ≡ self.first }
         ensures lines { result.lines ≡ self.lines }
     {
