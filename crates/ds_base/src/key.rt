@@ -55,6 +55,7 @@ impl Model for Key {
 
 impl Key {
     ghost use Rattle.std.specs.Prelude.{[], IsOk};
+    ghost use Rattle.ds_base.specs.Limits.{greatest_id};
     ghost use Rattle.ds_base.specs.Keys.{KeyParts, is_key, is_path, is_namespace, is_writable, root_of, renumbered};
     ghost use Rattle.ds_base.specs.KeyOrder.{is_ancestor};
 
@@ -137,7 +138,7 @@ impl Key {
     pub fn renumber(&mut self, id: u64)
         requires ends_in_id { IsTrue (ends_in_id self.old.elems) }
         requires positive { 1 ≤ id }
-        requires bounded { id ≤ MAX_ID }
+        requires bounded { id ≤ greatest_id }
         ensures { self.new ≡ renumbered self.old id }
     {
         set_last_id(&mut self.path, id);
@@ -158,7 +159,7 @@ pub fn is_name(name: &[u8]) -> bool
 pub fn is_reserved(name: &[u8]) -> bool
     ensures { result ≡ is_reserved name.now }
 {
-    name.len() >= 4 && name.starts_with(b"__") && name[name.len() - 2..].starts_with(b"__")
+    name.len() >= 4 && name.starts_with(b"__") && name.ends_with(b"__")
 }
 
 /// Whether a namespace has at most 100 bytes, each an ASCII letter, a digit, `.`, `_` or `-`.

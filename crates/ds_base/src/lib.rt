@@ -16,8 +16,6 @@ mod key_order;
 pub mod limits;
 pub mod results;
 pub mod sequence;
-#[cfg(test)]
-mod tests;
 pub mod text;
 pub mod value;
 

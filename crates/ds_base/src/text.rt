@@ -71,17 +71,6 @@ impl ByteString {
     {
         self.bytes.extend_from_slice(piece)
     }
-
-    /// Makes room for `bytes` more: after it so many bytes are appended without memory. The bytes stay as they are.
-    /// `Buffer` tells contracts how much room there is.
-    pub fn make_room(&mut self, bytes: u64) -> Result<(), AllocError>
-        ensures { self.new ≡ self.old }
-    {
-        if bytes > usize::MAX as u64 {
-            return Err(AllocError);
-        }
-        self.bytes.reserve(bytes as usize)
-    }
 }
 
 /// A text: bytes that are UTF-8.
