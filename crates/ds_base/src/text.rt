@@ -1,5 +1,5 @@
 //! Byte strings and texts.
-ghost use Rattle.std.specs.Prelude.{◌≡◌, ◌↔◌, IsTrue, [], refl, IsUtf8, ◌++◌, OnOk, OnErr, IfOk, List, ℕ, nat_eq, Some};
+ghost use Rattle.std.specs.Prelude.{◌≡◌, ◌↔◌, IsTrue, [], refl, IsUtf8, ◌++◌, OnOk, OnErr, IfOk, List, ℕ, nat_eq, fold, Some};
 ghost use Rattle.std.specs.String.{string_bytes};
 ghost use Rattle.std.specs.Cmp.Lexicographic.{slice_cmp, pointwise, nat_list_cmp_total, nat_list_eq_equiv, texts_ties, texts_po, bytes_decides};
 ghost use Rattle.std.specs.Cmp.{partial_equiv_from_equiv};
@@ -187,7 +187,10 @@ impl Hash for TextString {
 
     ghost respects_eq = { (fed.same_Alike fed.str bytes_decides).fed };
 
-    fn hash<H: Hasher>(&self, state: &mut H) {
+    /// Feeds the bytes, and then a byte that no text has.
+    fn hash<H: Hasher>(&self, state: &mut H)
+        ensures { state.new ≡ fold H.write state.old (fed.str self.now) }
+    {
         self.text().hash(state);
     }
 }
