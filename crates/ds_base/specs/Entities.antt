@@ -1,5 +1,6 @@
 -- The size of an entity, and why one is refused.
-use Rattle.std.specs.Prelude.{ℕ, ◌+◌, ◌^◌, min, Bool, true, false, ◌&&◌, ◌||◌, not, ◌==◌, nat_lt, List, [], ◌∷◌, length, sum_by, Option, Some, None, position, cond, ◌≡◌, ◌<◌, IsTrue}
+use Rattle.std.specs.Prelude.{ℕ, ◌+◌, ◌^◌, min, Bool, true, false, ◌&&◌, ◌||◌, not, ◌==◌, nat_lt, List, [], ◌∷◌, length, sum_by}
+use Rattle.std.specs.Prelude.{Option, Some, None, position, cond, ◌≡◌, ◌<◌, IsTrue}
 use Rattle.std.specs.List.{list_any}
 use Rattle.ds_base.specs.Limits.{most_name_bytes, greatest_rating, greatest_entity_size, greatest_told}
 use Rattle.ds_base.specs.declared.key.Ident.{Ident}

@@ -44,7 +44,9 @@ columns_cmp =
 columns_cmp-total : IsTotalOrder columns_cmp
 columns_cmp-total =
     then_total (on_total class_of nat_cmp_total)
-    (then_total (on_total number_of int_cmp_total) (then_total (on_total truth_of bool_cmp_total) (then_total (on_total bytes_of nat_list_cmp_total) (on_total key_of key_cmp-total))))
+    (then_total (on_total number_of int_cmp_total)
+    (then_total (on_total truth_of bool_cmp_total)
+    (then_total (on_total bytes_of nat_list_cmp_total) (on_total key_of key_cmp-total))))
 
 columns_cmp-index_value_cmp : (v w : IndexValue) → columns_cmp v w ≡ index_value_cmp v w
 unfolding number_of truth_of bytes_of key_of no_key

@@ -5,7 +5,7 @@ use Rattle.std.specs.Bool.{Decides}
 use Rattle.std.specs.Cmp.{IsTotalOrder, on_total, then_total, nat_cmp_total}
 use Rattle.std.specs.Cmp.Lexicographic.{slice_cmp, lists_total, nat_list_cmp_total}
 use Rattle.std.specs.declared.cmp.Ordering.{Ordering}
-use Rattle.std.specs.declared.cmp.Ordering.TheVariants.{Less, Equal, Greater}
+use Rattle.std.specs.declared.cmp.Ordering.TheVariants.{Equal}
 use Rattle.std.specs.Ordering.{nat_cmp, on, then_cmp, eq_by_cmp}
 use Rattle.std.specs.FinMap.{IsAntisymmetric, nat_cmp-IsAntisymmetric, slice_cmp-IsAntisymmetric}
 use Rattle.ds_base.specs.declared.key.Ident.{Ident}
@@ -48,7 +48,8 @@ elem_cmp-total = then_total (on_total (λ (e : Elem). e.kind) nat_list_cmp_total
 
 pub key_cmp-total : IsTotalOrder key_cmp
 key_cmp-total =
-    then_total (on_total (λ (k : KeyParts). k.namespace) nat_list_cmp_total) (on_total (λ (k : KeyParts). k.elems) (lists_total elem_cmp-total))
+    then_total (on_total (λ (k : KeyParts). k.namespace) nat_list_cmp_total)
+    (on_total (λ (k : KeyParts). k.elems) (lists_total elem_cmp-total))
 
 pub bytes_cmp-same : IsAntisymmetric bytes_cmp
 bytes_cmp-same = slice_cmp-IsAntisymmetric nat_cmp-IsAntisymmetric
@@ -67,7 +68,10 @@ elem_cmp-same x y e =
 pub key_cmp-same : IsAntisymmetric key_cmp
 key_cmp-same x y e =
     let both = both_Equal (bytes_cmp x.namespace y.namespace) (slice_cmp elem_cmp x.elems y.elems) e in
-    λ i. record { namespace = bytes_cmp-same x.namespace y.namespace both.0 i; elems = slice_cmp-IsAntisymmetric elem_cmp-same x.elems y.elems both.1 i }
+    λ i. record {
+      namespace = bytes_cmp-same x.namespace y.namespace both.0 i;
+      elems = slice_cmp-IsAntisymmetric elem_cmp-same x.elems y.elems both.1 i;
+    }
 
 pub ident_cmp-Equal : (x y : Ident) → (ident_cmp x y ≡ Equal) ↔ (x ≡ y)
 ident_cmp-Equal = Equal-same ident_cmp-total ident_cmp-same

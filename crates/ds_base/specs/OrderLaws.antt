@@ -29,7 +29,8 @@ pub Equal-same : {K : Type 0} {R : K → K → Ordering} → IsTotalOrder R → 
 Equal-same {R = R} o same x y = (same x y, λ e. subst (λ z. R x z ≡ Equal) e (tied_itself o x))
 
 -- so its test of equality decides whether two values are equal
-pub eq_by_cmp-decides : {K : Type 0} {R : K → K → Ordering} → IsTotalOrder R → IsAntisymmetric R → (x y : K) → Decides (eq_by_cmp R x y) (x ≡ y)
+pub eq_by_cmp-decides : {K : Type 0} {R : K → K → Ordering} → IsTotalOrder R → IsAntisymmetric R → (x y : K)
+    → Decides (eq_by_cmp R x y) (x ≡ y)
 eq_by_cmp-decides {R = R} o same x y =
     let tied = Equal-same o same x y in
     let test = Equal-is (R x y) in

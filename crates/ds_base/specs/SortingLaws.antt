@@ -1,10 +1,12 @@
 -- The laws of putting in order, for any total order: the result is sorted and has the items that were given; where only equal
 -- items tie, no other list is and has. Then the same of std's `insert_key`, for distinct keys.
 use Rattle.std.specs.Prelude.{⊤, filter, fold, sum_by, Bool, ◌||◌}
-use Rattle.std.proofs.Common.{◌≡◌, ℕ, zero, suc, ◌+◌, ◌<◌, ◌≤◌, List, [], ◌∷◌, ◌++◌, length, get_or, true, false, cond, refl, sym, ap, subst, ◌∙◌, append-nil, arith}
+use Rattle.std.proofs.Common.{◌≡◌, ℕ, zero, suc, ◌+◌, ◌<◌, List, [], ◌∷◌, ◌++◌, length, get_or, true, false, cond, refl, sym, ap}
+use Rattle.std.proofs.Common.{subst, ◌∙◌, append-nil, arith}
 use Rattle.std.proofs.lemmas.Bool.{true≢false}
 use Rattle.std.proofs.lemmas.List.Sums.{fold-append, sum_by-cons}
-use Rattle.std.proofs.lemmas.List.Sorted.{IsPermutation-refl, IsPermutation-cons, IsPermutation-sym, IsPermutation-trans, IsPermutation-middle, IsPermutation-append_right, sum_by-IsPermutation}
+use Rattle.std.proofs.lemmas.List.Sorted.{IsPermutation-refl, IsPermutation-cons, IsPermutation-sym, IsPermutation-trans}
+use Rattle.std.proofs.lemmas.List.Sorted.{IsPermutation-middle, IsPermutation-append_right, sum_by-IsPermutation}
 use Rattle.std.specs.Cmp.{IsTotalOrder, upto, alike_right, tied_itself}
 use Rattle.std.specs.FinMap.{IsAntisymmetric}
 use Rattle.std.specs.List.{AllByRecursion, list_any}
@@ -50,7 +52,8 @@ module _ {X : Type 0} {R : X → X → Ordering} (o : IsTotalOrder R) where
 
   -- ---- sorted, in either form
 
-  adjacent : (xs : List X) → Ascends R xs → (k j : ℕ) (d : X) → j ≡ suc k → j < length xs → is_lt (R (get_or xs j d) (get_or xs k d)) ≡ false
+  adjacent : (xs : List X) → Ascends R xs → (k j : ℕ) (d : X) → j ≡ suc k → j < length xs
+      → is_lt (R (get_or xs j d) (get_or xs k d)) ≡ false
   adjacent [] up k j d next within = absurd (omega arith)
   adjacent (x ∷ xs) up k zero d next within = absurd (omega arith)
   adjacent (x ∷ []) up k (suc j) d next within = absurd (omega arith)
@@ -80,7 +83,8 @@ module _ {X : Type 0} {R : X → X → Ordering} (o : IsTotalOrder R) where
   pub NoneBefore-insert_by : (x y : X) (ys : List X) → is_gt (R x y) ≡ false → NoneBefore R x ys → NoneBefore R x (insert_by R ys y)
   NoneBefore-insert_by x y [] below rest = (below, tt)
   NoneBefore-insert_by x y (z ∷ zs) below rest = placed (NoneBefore-insert_by x y zs below rest.1) (R y z) where
-    placed : NoneBefore R x (insert_by R zs y) → (r : Ordering) → NoneBefore R x (match_ordering r (y ∷ z ∷ zs) (y ∷ z ∷ zs) (z ∷ insert_by R zs y))
+    placed : NoneBefore R x (insert_by R zs y) → (r : Ordering)
+        → NoneBefore R x (match_ordering r (y ∷ z ∷ zs) (y ∷ z ∷ zs) (z ∷ insert_by R zs y))
     placed later Less = (below, rest)
     placed later Equal = (below, rest)
     placed later Greater = (rest.0, later)
@@ -91,7 +95,8 @@ module _ {X : Type 0} {R : X → X → Ordering} (o : IsTotalOrder R) where
     front : is_gt (R x y) ≡ false → Ascends R (x ∷ y ∷ ys)
     front below = ((below, NoneBefore-earlier x y ys below up.0), up)
 
-    placed : Ascends R (insert_by R ys x) → (r : Ordering) → R x y ≡ r → Ascends R (match_ordering r (x ∷ y ∷ ys) (x ∷ y ∷ ys) (y ∷ insert_by R ys x))
+    placed : Ascends R (insert_by R ys x) → (r : Ordering) → R x y ≡ r
+        → Ascends R (match_ordering r (x ∷ y ∷ ys) (x ∷ y ∷ ys) (y ∷ insert_by R ys x))
     placed later Less is = front (ap is_gt is)
     placed later Equal is = front (ap is_gt is)
     placed later Greater is = (NoneBefore-insert_by y x ys (ap is_gt (Less-turned x y is)) up.0, later)
@@ -128,7 +133,8 @@ module _ {X : Type 0} {R : X → X → Ordering} (o : IsTotalOrder R) where
     kept later true = (first.0, later)
     kept later false = later
 
-  filter-insert_by : (p : X → Bool) (ys : List X) (x : X) → Ascends R ys → filter p (insert_by R ys x) ≡ cond (p x) (insert_by R (filter p ys) x) (filter p ys)
+  filter-insert_by : (p : X → Bool) (ys : List X) (x : X) → Ascends R ys
+      → filter p (insert_by R ys x) ≡ cond (p x) (insert_by R (filter p ys) x) (filter p ys)
   filter-insert_by p [] x up = refl
   filter-insert_by p (y ∷ ys) x up = placed (filter-insert_by p ys x up.1) (R x y) refl where
     front : is_gt (R x y) ≡ false → filter p (x ∷ y ∷ ys) ≡ cond (p x) (insert_by R (filter p (y ∷ ys)) x) (filter p (y ∷ ys))
@@ -136,25 +142,37 @@ module _ {X : Type 0} {R : X → X → Ordering} (o : IsTotalOrder R) where
         let first : NoneBefore R x (y ∷ ys) = (below, NoneBefore-earlier x y ys below up.0) in
         ap (λ zs. cond (p x) zs (filter p (y ∷ ys))) (sym (insert_by-front (filter p (y ∷ ys)) x (NoneBefore-filter p x (y ∷ ys) first)))
 
-    behind : (kept here : Bool) → R x y ≡ Greater → cond kept (y ∷ cond here (insert_by R (filter p ys) x) (filter p ys)) (cond here (insert_by R (filter p ys) x) (filter p ys)) ≡ cond here (insert_by R (cond kept (y ∷ filter p ys) (filter p ys)) x) (cond kept (y ∷ filter p ys) (filter p ys))
+    behind : (kept here : Bool) → R x y ≡ Greater
+        → cond kept (y ∷ cond here (insert_by R (filter p ys) x) (filter p ys)) (cond here (insert_by R (filter p ys) x) (filter p ys))
+        ≡ cond here (insert_by R (cond kept (y ∷ filter p ys) (filter p ys)) x) (cond kept (y ∷ filter p ys) (filter p ys))
     behind true true is = sym (ap (λ r. match_ordering r (x ∷ y ∷ filter p ys) (x ∷ y ∷ filter p ys) (y ∷ insert_by R (filter p ys) x)) is)
     behind true false is = refl
     behind false true is = refl
     behind false false is = refl
 
-    placed : filter p (insert_by R ys x) ≡ cond (p x) (insert_by R (filter p ys) x) (filter p ys) → (r : Ordering) → R x y ≡ r → filter p (match_ordering r (x ∷ y ∷ ys) (x ∷ y ∷ ys) (y ∷ insert_by R ys x)) ≡ cond (p x) (insert_by R (filter p (y ∷ ys)) x) (filter p (y ∷ ys))
+    placed : filter p (insert_by R ys x) ≡ cond (p x) (insert_by R (filter p ys) x) (filter p ys) → (r : Ordering) → R x y ≡ r
+        → filter p (match_ordering r (x ∷ y ∷ ys) (x ∷ y ∷ ys) (y ∷ insert_by R ys x))
+        ≡ cond (p x) (insert_by R (filter p (y ∷ ys)) x) (filter p (y ∷ ys))
     placed later Less is = front (ap is_gt is)
     placed later Equal is = front (ap is_gt is)
     placed later Greater is = ap (λ zs. cond (p y) (y ∷ zs) zs) later ∙ behind (p y) (p x) is
 
-  filter-fold : (p : X → Bool) (done xs : List X) → Ascends R done → fold (insert_by R) (filter p done) (filter p xs) ≡ filter p (fold (insert_by R) done xs)
+  filter-fold : (p : X → Bool) (done xs : List X) → Ascends R done
+      → fold (insert_by R) (filter p done) (filter p xs) ≡ filter p (fold (insert_by R) done xs)
   filter-fold p done [] up = refl
   filter-fold p done (x ∷ xs) up = kept (filter-fold p (insert_by R done x) xs (Ascends-insert_by done x up)) (p x) refl where
-    kept : fold (insert_by R) (filter p (insert_by R done x)) (filter p xs) ≡ filter p (fold (insert_by R) (insert_by R done x) xs) → (b : Bool) → p x ≡ b → fold (insert_by R) (filter p done) (cond b (x ∷ filter p xs) (filter p xs)) ≡ filter p (fold (insert_by R) (insert_by R done x) xs)
+    kept : fold (insert_by R) (filter p (insert_by R done x)) (filter p xs) ≡ filter p (fold (insert_by R) (insert_by R done x) xs)
+        → (b : Bool) → p x ≡ b
+        → fold (insert_by R) (filter p done) (cond b (x ∷ filter p xs) (filter p xs))
+        ≡ filter p (fold (insert_by R) (insert_by R done x) xs)
     kept later true is =
-        ap (λ zs. fold (insert_by R) zs (filter p xs)) (sym (filter-insert_by p done x up ∙ ap (λ b. cond b (insert_by R (filter p done) x) (filter p done)) is)) ∙ later
+        ap (λ zs. fold (insert_by R) zs (filter p xs))
+        (sym (filter-insert_by p done x up ∙ ap (λ b. cond b (insert_by R (filter p done) x) (filter p done)) is))
+        ∙ later
     kept later false is =
-        ap (λ zs. fold (insert_by R) zs (filter p xs)) (sym (filter-insert_by p done x up ∙ ap (λ b. cond b (insert_by R (filter p done) x) (filter p done)) is)) ∙ later
+        ap (λ zs. fold (insert_by R) zs (filter p xs))
+        (sym (filter-insert_by p done x up ∙ ap (λ b. cond b (insert_by R (filter p done) x) (filter p done)) is))
+        ∙ later
 
   pub sorted_by-filter : (p : X → Bool) (xs : List X) → sorted_by R (filter p xs) ≡ filter p (sorted_by R xs)
   sorted_by-filter p xs = filter-fold p [] xs tt
@@ -168,7 +186,8 @@ module _ {X : Type 0} (R : X → X → Ordering) where
   pub IsPermutation-insert_by : (ys : List X) (x : X) → IsPermutation (x ∷ ys) (insert_by R ys x)
   IsPermutation-insert_by [] x = IsPermutation-refl (x ∷ [])
   IsPermutation-insert_by (y ∷ ys) x = placed (IsPermutation-insert_by ys x) (R x y) where
-    placed : IsPermutation (x ∷ ys) (insert_by R ys x) → (r : Ordering) → IsPermutation (x ∷ y ∷ ys) (match_ordering r (x ∷ y ∷ ys) (x ∷ y ∷ ys) (y ∷ insert_by R ys x))
+    placed : IsPermutation (x ∷ ys) (insert_by R ys x) → (r : Ordering)
+        → IsPermutation (x ∷ y ∷ ys) (match_ordering r (x ∷ y ∷ ys) (x ∷ y ∷ ys) (y ∷ insert_by R ys x))
     placed later Less = IsPermutation-refl (x ∷ y ∷ ys)
     placed later Equal = IsPermutation-refl (x ∷ y ∷ ys)
     placed later Greater =
@@ -213,7 +232,8 @@ module _ {X : Type 0} {R : X → X → Ordering} (o : IsTotalOrder R) (same : Is
   unfolding times
   none_later x y [] before rest = refl
   none_later x y (z ∷ zs) before rest =
-      times-cons x z zs ∙ ap (λ r. cond (is_eq r) 1 0 + times x zs) (Less-later x y z before rest.0) ∙ ap (λ n. 0 + n) (none_later x y zs before rest.1)
+      times-cons x z zs ∙ ap (λ r. cond (is_eq r) 1 0 + times x zs) (Less-later x y z before rest.0)
+          ∙ ap (λ n. 0 + n) (none_later x y zs before rest.1)
 
   none_at : (x y : X) (ys : List X) → R x y ≡ Less → NoneBefore R y ys → times x (y ∷ ys) ≡ 0
   none_at x y ys before rest =
@@ -268,7 +288,8 @@ module _ {K : Type 0} {R : K → K → Ordering} (o : IsTotalOrder R) where
   AllByRecursion-insert_key : (P : K → Type 0) (ks : List K) (k : K) → P k → AllByRecursion P ks → AllByRecursion P (insert_key R ks k)
   AllByRecursion-insert_key P [] k here rest = (here, tt)
   AllByRecursion-insert_key P (l ∷ ls) k here rest = placed (AllByRecursion-insert_key P ls k here rest.1) (R k l) where
-    placed : AllByRecursion P (insert_key R ls k) → (r : Ordering) → AllByRecursion P (match_ordering r (k ∷ l ∷ ls) (l ∷ ls) (l ∷ insert_key R ls k))
+    placed : AllByRecursion P (insert_key R ls k) → (r : Ordering)
+        → AllByRecursion P (match_ordering r (k ∷ l ∷ ls) (l ∷ ls) (l ∷ insert_key R ls k))
     placed later Less = (here, rest)
     placed later Equal = rest
     placed later Greater = (rest.0, later)
@@ -282,13 +303,15 @@ module _ {K : Type 0} {R : K → K → Ordering} (o : IsTotalOrder R) where
   unfolding IsStrictlySortedBy
   IsStrictlySortedBy-insert_key [] k up = (tt, tt)
   IsStrictlySortedBy-insert_key (l ∷ ls) k up = placed (IsStrictlySortedBy-insert_key ls k up.1) (R k l) refl where
-    placed : IsStrictlySortedBy R (insert_key R ls k) → (r : Ordering) → R k l ≡ r → IsStrictlySortedBy R (match_ordering r (k ∷ l ∷ ls) (l ∷ ls) (l ∷ insert_key R ls k))
+    placed : IsStrictlySortedBy R (insert_key R ls k) → (r : Ordering) → R k l ≡ r
+        → IsStrictlySortedBy R (match_ordering r (k ∷ l ∷ ls) (l ∷ ls) (l ∷ insert_key R ls k))
     placed later Less is = ((is, all_after k l ls is up.0), up)
     placed later Equal is = up
     placed later Greater is = (AllByRecursion-insert_key (λ q. R l q ≡ Less) ls k (o.antisymm l k ∙ ap ordering_reverse is) up.0, later)
 
 -- what stands in the list then: what stood there, and the key; of tests that tell tied keys alike
-pub list_any-insert_key : {K : Type 0} (R : K → K → Ordering) (p : K → Bool) → ((x y : K) → R x y ≡ Equal → p x ≡ p y) → (ks : List K) (k : K) → list_any p (insert_key R ks k) ≡ p k || list_any p ks
+pub list_any-insert_key : {K : Type 0} (R : K → K → Ordering) (p : K → Bool) → ((x y : K) → R x y ≡ Equal → p x ≡ p y)
+    → (ks : List K) (k : K) → list_any p (insert_key R ks k) ≡ p k || list_any p ks
 list_any-insert_key R p alike [] k = refl
 list_any-insert_key R p alike (l ∷ ls) k = placed (list_any-insert_key R p alike ls k) (R k l) refl where
   moved : (a b c : Bool) → b || (a || c) ≡ a || (b || c)
@@ -301,7 +324,8 @@ list_any-insert_key R p alike (l ∷ ls) k = placed (list_any-insert_key R p ali
   once true c = refl
   once false c = refl
 
-  placed : list_any p (insert_key R ls k) ≡ p k || list_any p ls → (r : Ordering) → R k l ≡ r → list_any p (match_ordering r (k ∷ l ∷ ls) (l ∷ ls) (l ∷ insert_key R ls k)) ≡ p k || (p l || list_any p ls)
+  placed : list_any p (insert_key R ls k) ≡ p k || list_any p ls → (r : Ordering) → R k l ≡ r
+      → list_any p (match_ordering r (k ∷ l ∷ ls) (l ∷ ls) (l ∷ insert_key R ls k)) ≡ p k || (p l || list_any p ls)
   placed later Less is = refl
   placed later Equal is = once (p l) (list_any p ls) ∙ ap (λ b. b || (p l || list_any p ls)) (sym (alike k l is))
   placed later Greater is = ap (λ b. p l || b) later ∙ moved (p k) (p l) (list_any p ls)

@@ -77,7 +77,10 @@ impl Entity {
         requires ascending { IsTrue (names_ascend properties) }
         requires few { length properties < 2 ^ 32 }
         ensures ok { IfOk result (λ e. e ≡ record { key = key; properties = properties }) }
-        ensures refused { (result_err result ≡ entity_refusal key properties) ⊎ ((result_err result ≡ Some EntityRefused.NoMemory) × (entity_refusal key properties ≡ None)) }
+        ensures refused {
+            (result_err result ≡ entity_refusal key properties)
+            ⊎ ((result_err result ≡ Some EntityRefused.NoMemory) × (entity_refusal key properties ≡ None))
+        }
     {
         if !key.writable() {
             return Err(EntityRefused::BadKey);
@@ -114,7 +117,15 @@ impl Entity {
         &self.properties
     }
 
-    /// Gives the key's last identifier the number `id`; nothing else changes. It takes no memory.
+    /// How many entities share these properties at the moment, this one among them. It takes no memory.
+    pub fn owners(&self) -> usize
+        ensures { 0 < result }
+    {
+        Arc::strong_count(&self.properties)
+    }
+
+    /// Gives the key's last identifier the number `id`; nothing else changes, nor does any other entity. It takes no
+    /// memory.
     pub fn renumber(&mut self, id: u64)
         requires ends_in_id { IsTrue (ends_in_id self.old.key.elems) }
         requires positive { 1 ≤ id }

@@ -2,7 +2,8 @@
 ghost use Rattle.std.specs.Prelude.{◌≡◌, ◌+◌, ◌≤◌, min, position, sum_by};
 ghost use Rattle.std.specs.List.{list_any};
 ghost use Rattle.ds_base.specs.Limits.{greatest_told};
-ghost use Rattle.ds_base.specs.Entities.{is_faulty_value, is_faulty_property, elem_size, key_size, value_size, content_size, property_size, entity_size};
+ghost use Rattle.ds_base.specs.Entities.{is_faulty_value, is_faulty_property, elem_size, key_size, value_size, content_size};
+ghost use Rattle.ds_base.specs.Entities.{property_size, entity_size};
 
 use crate::entity::Property;
 use crate::key::{Elem, Ident, Key, is_name, is_reserved};

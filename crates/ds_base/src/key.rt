@@ -145,7 +145,8 @@ impl Key {
     }
 }
 
-ghost use Rattle.ds_base.specs.Keys.{is_name, is_ident, is_elem, is_path, is_namespace, is_namespace_byte, is_reserved, is_reserved_elem, ends_in_id, with_last_id};
+ghost use Rattle.ds_base.specs.Keys.{is_name, is_ident, is_elem, is_path, is_namespace, is_namespace_byte, is_reserved};
+ghost use Rattle.ds_base.specs.Keys.{is_reserved_elem, ends_in_id, with_last_id};
 ghost use Rattle.std.specs.List.{list_all, list_any};
 
 /// Whether a kind, a key name or a property name has 1 to 1,500 bytes.
