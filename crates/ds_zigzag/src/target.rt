@@ -28,11 +28,13 @@ pub fn start_above(target: &mut Vec<u8>, after: Option<&[u8]>) -> Result<(), All
     ensures below { OnOk result (string_below target.new.items ≡ option_copied after.entry) }
 {
     target.clear();
-    if let Some(after) = after {
-        target.extend_from_slice(after)?;
-        target.push(0)?;
+    match after {
+        Some(after) => {
+            target.extend_from_slice(after)?;
+            above_standing(target, true)
+        }
+        None => above_standing(target, false),
     }
-    Ok(())
 }
 
 /// The target is the first of all strings above the one where it stands, or of all where it stands nowhere.

@@ -45,7 +45,10 @@ impl Walk {
     /// `after`. Refused: there was no memory for its one buffer.
     pub fn begin(alloc: Global, scans: usize, after: Option<&[u8]>) -> Result<Walk, AllocError>
         requires { 0 < scans }
-        ensures { IfOk result (λ walk. (walk.scans ≡ scans) × (walk.last ≡ option_copied after.entry)) }
+        ensures over { IfOk result (λ walk. walk.scans ≡ scans) }
+        ensures stands { IfOk result (λ walk. walk.last ≡ option_copied after.entry) }
+        ensures begins { (start : Option (List ℕ)) (strings passed : List (List (List ℕ))) (now : ℕ) →
+            IsWalked scans start start strings passed now now }
     {
         let mut at = Vec::with_capacity(alloc, FIRST_ROOM)?;
         let mut stands = false;
