@@ -7,3 +7,7 @@
 
 #[cfg(test)]
 mod base;
+#[cfg(test)]
+mod lanes;
+#[cfg(test)]
+mod zigzag;
