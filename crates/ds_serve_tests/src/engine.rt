@@ -1,6 +1,6 @@
-//! Commits, applies and the entities of a kind.
-use crate::state::Single;
+//! The plain engine by itself: commits, applies and the entities of a kind.
 use ds_base::{Elem, Elems, Entity, Ident, Key, Properties, TextString};
+use ds_single::Single;
 use std::alloc::Global;
 use std::test::Fail;
 
