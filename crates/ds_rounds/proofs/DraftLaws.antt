@@ -70,13 +70,14 @@ Leaves-added old new room added true is =
     let more : length new.lines ≡ length old.lines + 1 = ap length added.lines ∙ length-append old.lines (content_of old.kept ∷ []) in (
       record { some = omega (arith, more); within = omega (arith, more, room); between = added.kept },
       omega (arith, more, added.first),
+      omega (arith, added.first),
     )
 Leaves-added old new room added false is =
     let more : length new.lines ≡ length old.lines + 1 = ap length added.lines ∙ length-append old.lines (content_of old.kept ∷ []) in
-    (few (cases_lt (length new.lines) most_round_lines), omega (arith, more, added.first)) where
-  few : (length new.lines < most_round_lines) ⊎ (most_round_lines ≤ length new.lines) → length new.lines < most_round_lines
-  few (inl less) = less
-  few (inr many) = let never : false ≡ true = is ∙ is_full-many new.first new.lines many in absurd (cc)
+    (few (cases_lt (length new.lines) most_round_lines), omega (arith, more, added.first), omega (arith, added.first)) where
+      few : (length new.lines < most_round_lines) ⊎ (most_round_lines ≤ length new.lines) → length new.lines < most_round_lines
+      few (inl less) = less
+      few (inr many) = let never : false ≡ true = is ∙ is_full-many new.first new.lines many in absurd (cc)
 
 IsLine-nothing : (draft : DraftParts) → draft.kept ≡ [] → draft.blank ≡ true → IsLine draft []
 IsLine-nothing draft kept blank = record { unbroken = tt; kept = kept; blank = blank }
@@ -116,10 +117,10 @@ EndsLine-skipped old new line is_line blank none still kept fresh = (
 pub EndsLine-ended : (old new : DraftParts) (line : List ℕ) → IsLine old line → old.blank ≡ true → 0 < length old.lines → new.first ≡ old.first → new.lines ≡ old.lines → EndsLine true old new line
 EndsLine-ended old new line is_line blank some first same =
     λ ended lines.
-        rounds_from-empty_line ended (so_far old) (number_in old) line lines (sym is_line.blank ∙ blank)
-        ∙ round_of-some old.first old.lines (rounds_from ended [] (number_in old + 1) lines) some
-        ∙ ap (λ n. numbered n old.lines ∷ rounds_from ended [] (number_in old + 1) lines) (sym first)
-        ∙ ap (λ ls. numbered new.first ls ∷ rounds_from ended [] (number_in old + 1) lines) (sym same)
+    rounds_from-empty_line ended (so_far old) (number_in old) line lines (sym is_line.blank ∙ blank)
+    ∙ round_of-some old.first old.lines (rounds_from ended [] (number_in old + 1) lines) some
+    ∙ ap (λ n. numbered n old.lines ∷ rounds_from ended [] (number_in old + 1) lines) (sym first)
+    ∙ ap (λ ls. numbered new.first ls ∷ rounds_from ended [] (number_in old + 1) lines) (sym same)
 
 -- ---- the end of the input
 

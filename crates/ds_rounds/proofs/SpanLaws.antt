@@ -51,8 +51,8 @@ contents-push start bytes spans span ok from to =
     map-append (λ s. content_of (spanned bytes s)) spans (span ∷ [])
     ∙ ap (λ lines. lines ++ content_of (spanned bytes span) ∷ []) (sym (contents-front start bytes spans ok))
     ∙ ap (λ line. contents (take start bytes) spans ++ content_of line ∷ []) last where
-  last : spanned bytes span ≡ drop start bytes
-  last = ap (λ k. take (span.to - k) (drop k bytes)) from ∙ ap (λ k. take (k - start) (drop start bytes)) to ∙ take_rest bytes start
+      last : spanned bytes span ≡ drop start bytes
+      last = ap (λ k. take (span.to - k) (drop k bytes)) from ∙ ap (λ k. take (k - start) (drop start bytes)) to ∙ take_rest bytes start
 
 pub length-contents : (bytes : List ℕ) (spans : List Span) → length (contents bytes spans) ≡ length spans
 length-contents bytes [] = refl

@@ -5,6 +5,7 @@ use Rattle.ds_rounds.specs.Lines.{Content, is_blank, lines_in}
 use Rattle.ds_rounds.specs.Rounds.{NumberedLine, numbered, round_of, rounds_from, rounds_in}
 use Rattle.ds_rounds.specs.Spans.{AreWithin}
 use Rattle.ds_rounds.specs.declared.lines.Span.{Span}
+use Rattle.ds_rounds.specs.declared.round.Round.{Round}
 
 -- the number of its first line, or of the line that is being read where it has none; its lines; what is kept of the line that
 -- is being read, and whether that has blanks alone so far; and how many bytes and lines it takes without memory
@@ -65,8 +66,8 @@ pub record IsWhole (draft : DraftParts) : Type 0 where
 
 -- what ending a line leaves: a whole round, or a draft that goes on with the next line
 abbrev pub Leaves : Bool → DraftParts → DraftParts → Type 0
-Leaves true old new = IsWhole new × (number_in new ≤ number_in old + 1)
-Leaves false old new = IsOpen new × (number_in new ≡ number_in old + 1)
+Leaves true old new = IsWhole new × (number_in new ≤ number_in old + 1) × (old.first ≤ new.first)
+Leaves false old new = IsOpen new × (number_in new ≡ number_in old + 1) × (old.first ≤ new.first)
 
 -- the rounds of a draft and the line that has ended are the round that it made, if it made one, and those behind it
 abbrev pub EndsLine : Bool → DraftParts → DraftParts → List ℕ → Type 0
@@ -100,3 +101,9 @@ LeavesRound false draft number bytes = IsOpen draft × (number_in draft ≡ numb
 -- bytes that may want memory: several of them, or one without room for it and its line
 abbrev pub WantsMemory : DraftParts → List ℕ → Type 0
 WantsMemory draft bytes = (1 < length bytes) ⊎ ((0 < length bytes) × ((draft.byte_room < 1) ⊎ (draft.line_room < 1)))
+
+-- the round at the end of the input is that of a draft with at most one line more
+pub record IsLastOf (draft : DraftParts) (round : Round) : Type 0 where
+  pub first : round.first ≡ draft.first
+  pub some : 0 < length round.lines
+  pub within : length round.lines ≤ length draft.lines + 1

@@ -1,5 +1,6 @@
 -- What reading a round does, told of a reader before and after it.
-use Rattle.std.specs.Prelude.{◌≡◌, ◌≢◌, ℕ, ◌+◌, ◌<◌, ◌≤◌, ◌⊎◌, List, [], ◌∷◌, ◌++◌, Bool, true, false, Option, Some, None, option_map, IfSome, Result, Ok, Err, length, ⊤}
+use Rattle.std.specs.Prelude.{◌≡◌, ◌≢◌, ℕ, ◌+◌, ◌<◌, ◌≤◌, ◌⊎◌, List, [], ◌∷◌, ◌++◌, Bool, true, false, Option, Some, None, Result, Ok, Err, length, ⊤}
+use Rattle.std.specs.Io.KnownBytes.{Consumes, IsAtEnd}
 use Rattle.ds_base.specs.Limits.{most_input_bytes, most_round_lines}
 use Rattle.ds_io.specs.Faults.{next_count}
 use Rattle.ds_rounds.specs.Rounds.{NumberedLine, lines_of_round, rounds_in}
@@ -17,11 +18,12 @@ pub record ReaderParts : Type 0 where
   pub taken : ℕ
   pub stage : Stage
 
--- What holds of every reader: it has taken no more than is taken of an input, each line that it has passed has a byte, and
--- nothing is buffered where the limit is reached or where it met the end, which is below the limit.
+-- What holds of every reader: it has taken no more than is taken of an input, the lines that it has passed have a byte each,
+-- and nothing is buffered where the limit is reached or where it met the end, which is below the limit.
 pub record IsReader (reader : ReaderParts) : Type 0 where
   pub within : reader.taken ≤ most_input_bytes
-  pub counted : reader.number + length reader.buffered ≤ reader.taken + 1
+  pub numbered : reader.number ≤ most_input_bytes + 1
+  pub counted : reader.stage ≢ stage.Ended → reader.number + length reader.buffered ≤ reader.taken + 1
   pub at_the_limit : reader.taken ≡ most_input_bytes → reader.buffered ≡ []
   pub before_the_limit : reader.stage ≡ stage.Ended → reader.taken < most_input_bytes
   pub at_the_end : reader.stage ≡ stage.Ended → reader.buffered ≡ []
@@ -43,6 +45,13 @@ abbrev pub Gives : ReaderParts → List ℕ → List NumberedLine → ReaderPart
 Gives old read round new =
     (ended : Bool) (more : List ℕ) → MayFollow new.stage ended more → rounds_in ended old.number (old.buffered ++ (read ++ more)) ≡ round ∷ rounds_in ended new.number (new.buffered ++ more)
 
+-- What a round that is given says: it is the first one, and the number of the next line has risen.
+pub record GivesRound (old : ReaderParts) (read : List ℕ) (round : List NumberedLine) (new : ReaderParts) : Type 0 where
+  pub first : Gives old read round new
+  pub going : new.stage ≢ stage.Failed
+  pub rises : old.number < new.number
+  pub numbered : new.number ≤ most_input_bytes + 1
+
 -- no round stands in what was buffered and read, of an input that has ended with it or goes on
 abbrev pub GivesNone : ReaderParts → List ℕ → Bool → Type 0
 GivesNone old read ended = rounds_in ended old.number (old.buffered ++ read) ≡ []
@@ -51,7 +60,7 @@ GivesNone old read ended = rounds_in ended old.number (old.buffered ++ read) ≡
 -- a round is the first of them; none comes where the input has ended and no line is left; a refusal for the outside or the
 -- limit comes where none of their rounds has ended, and the limit is refused exactly where so many bytes were taken.
 abbrev pub Outcome : ReaderParts → List ℕ → Result (Option Round) RoundRefused → ReaderParts → Type 0
-Outcome old read (Ok (Some round)) new = Gives old read (lines_of_round round) new × (new.stage ≢ stage.Failed)
+Outcome old read (Ok (Some round)) new = GivesRound old read (lines_of_round round) new
 Outcome old read (Ok None) new = GivesNone old read true × (new.stage ≡ stage.Ended) × (new.taken < most_input_bytes)
 Outcome old read (Err refused.ReadFault) new = GivesNone old read false × (new.stage ≡ stage.Failed) × (new.taken < most_input_bytes)
 Outcome old read (Err refused.InputLimit) new = GivesNone old read false × (new.stage ≡ stage.Failed) × (new.taken ≡ most_input_bytes)
@@ -61,12 +70,12 @@ Outcome old read (Err refused.NoMemory) new = (new.stage ≡ stage.Failed) × (n
 -- round stood in the buffer, the input had ended, or an earlier call was refused; and what its answer says of them. Where it met the end nothing is left.
 pub record ReadsRound (old new : ReaderParts) (left_old left_new : Option (List ℕ)) (result : Result (Option Round) RoundRefused) : Type 0 where
   pub read : List ℕ
-  pub told : left_old ≡ option_map (λ rest. read ++ rest) left_new
+  pub told : Consumes left_old left_new read
   pub counted : new.taken ≡ old.taken + length read
   pub at_once : (read ≡ []) ⊎ GivesNone old [] false
   pub past_the_end : old.stage ≡ stage.Ended → (read ≡ []) × (result ≡ Ok None)
   pub past_a_refusal : old.stage ≡ stage.Failed → read ≡ []
-  pub to_the_end : old.stage ≡ stage.Reading → new.stage ≡ stage.Ended → IfSome left_new (λ rest. rest ≡ [])
+  pub to_the_end : old.stage ≡ stage.Reading → new.stage ≡ stage.Ended → IsAtEnd left_new
   pub outcome : Outcome old read result new
 
 -- a source's count of faults after a call: one more exactly where a read failed
@@ -84,7 +93,7 @@ pub record IsRound (round : Round) : Type 0 where
 -- source had in front of what it has left, and gave these rounds; and whatever stands behind the bytes, the rounds of the
 -- whole input are these, and then those of what is buffered and stands behind.
 pub record HasRead (first now : Option (List ℕ)) (bytes : List ℕ) (rounds : List (List NumberedLine)) (reader : ReaderParts) : Type 0 where
-  pub told : first ≡ option_map (λ rest. bytes ++ rest) now
-  pub at_the_end : reader.stage ≡ stage.Ended → IfSome now (λ rest. rest ≡ [])
+  pub told : Consumes first now bytes
+  pub at_the_end : reader.stage ≡ stage.Ended → IsAtEnd now
   pub going : reader.stage ≢ stage.Failed
   pub so_far : (ended : Bool) (more : List ℕ) → MayFollow reader.stage ended more → rounds_in ended 1 (bytes ++ more) ≡ rounds ++ rounds_in ended reader.number (reader.buffered ++ more)

@@ -1,6 +1,8 @@
 -- How the answers of successive calls join to the rounds of the whole input.
-use Rattle.std.specs.Prelude.{◌≡◌, ◌≢◌, ℕ, List, [], ◌∷◌, ◌++◌, Bool, true, false, Option, Some, None, option_map, IfSome, Ok, Err, refl}
+use Rattle.std.specs.Prelude.{◌≡◌, ◌≢◌, ℕ, List, [], ◌∷◌, ◌++◌, Bool, true, false, Option, Some, None, Ok, Err, refl}
+use Rattle.std.specs.Io.KnownBytes.{IsAtEnd}
 use Rattle.std.proofs.Common.{sym, ◌∙◌, ap, subst, append_assoc, append-nil, ⊎_elim}
+use Rattle.ds_io.specs.KnownBytesLaws.{Consumes-none, Consumes-then}
 use Rattle.ds_rounds.specs.Reading.{Gives, GivesNone, HasRead, MayFollow, ReaderParts, ReadsRound, first_reader}
 use Rattle.ds_rounds.specs.Rounds.{NumberedLine, ended_rounds, lines_of_round, rounds_in, rounds_of_input}
 use Rattle.ds_rounds.specs.declared.round.Round.{Round}
@@ -11,20 +13,11 @@ use Rattle.ds_rounds.specs.declared.stage.Stage.TheVariants as stage
 -- before the first call
 pub read_nothing : (left : Option (List ℕ)) → HasRead left left [] [] first_reader
 read_nothing left = record {
-  told = untouched left;
+  told = Consumes-none left;
   at_the_end = λ is. cc;
   going = λ is. cc;
   so_far = λ ended more follows. refl;
-} where
-  untouched : (left : Option (List ℕ)) → left ≡ option_map (λ rest. [] ++ rest) left
-  untouched None = refl
-  untouched (Some rest) = refl
-
--- bytes that were read one after another
-told_more : (first now next : Option (List ℕ)) (bytes read : List ℕ) → first ≡ option_map (λ rest. bytes ++ rest) now → now ≡ option_map (λ rest. read ++ rest) next → first ≡ option_map (λ rest. (bytes ++ read) ++ rest) next
-told_more first now None bytes read so_far told = so_far ∙ ap (option_map (λ rest. bytes ++ rest)) told
-told_more first now (Some left) bytes read so_far told =
-    so_far ∙ ap (option_map (λ rest. bytes ++ rest)) told ∙ ap Some (sym (append_assoc bytes read left))
+}
 
 -- what may stand behind what a reader has taken, by its stage
 follows : (reader : Stage) (ended : Bool) (more : List ℕ) → reader ≢ stage.Failed → (reader ≡ stage.Ended → (ended ≡ true) × (more ≡ [])) → MayFollow reader ended more
@@ -41,13 +34,13 @@ end_stays stage.Failed now going before at_the_end = absurd (going refl)
 -- a call that gave a round
 pub read_round : {first now next : Option (List ℕ)} {bytes : List ℕ} {rounds : List (List NumberedLine)} {old new : ReaderParts} {round : Round} → HasRead first now bytes rounds old → (call : ReadsRound old new now next (Ok (Some round))) → HasRead first next (bytes ++ call.read) (rounds ++ lines_of_round round ∷ []) new
 read_round {first} {now} {next} {bytes} {rounds} {old} {new} {round} before call = record {
-  told = told_more first now next bytes call.read before.told call.told;
-  at_the_end = λ is. end_stays old.stage (IfSome next (λ rest. rest ≡ [])) before.going not_ended (λ reading. call.to_the_end reading is);
-  going = call.outcome.1;
+  told = Consumes-then first now next bytes call.read before.told call.told;
+  at_the_end = λ is. end_stays old.stage (IsAtEnd next) before.going not_ended (λ reading. call.to_the_end reading is);
+  going = call.outcome.going;
   so_far = λ ended more may.
       ap (λ bs. rounds_in ended 1 bs) (append_assoc bytes call.read more)
       ∙ before.so_far ended (call.read ++ more) (follows old.stage ended (call.read ++ more) before.going (λ is. absurd (not_ended is)))
-      ∙ ap (λ rs. rounds ++ rs) (call.outcome.0 ended more may)
+      ∙ ap (λ rs. rounds ++ rs) (call.outcome.first ended more may)
       ∙ sym (append_assoc rounds (lines_of_round round ∷ []) (rounds_in ended new.number (new.buffered ++ more)));
 } where
   not_ended : old.stage ≡ stage.Ended → ⊥

@@ -1,5 +1,6 @@
 //! The bytes that were read and not given yet.
-ghost use Rattle.std.specs.Prelude.{◌≡◌, ◌+◌, ◌<◌, ◌≤◌, ◌==◌, [], ◌++◌, length, take, drop, option_map, IfOk, OnOk, OnErr, IfSome};
+ghost use Rattle.std.specs.Prelude.{◌≡◌, ◌<◌, ◌≤◌, [], length, take, drop, IfOk, OnOk, OnErr};
+ghost use Rattle.std.specs.Io.KnownBytes.{Consumes, IsAtEnd, Keeps};
 ghost use Rattle.ds_io.specs.Faults.{next_count};
 
 use ds_io::{Failed, Source};
@@ -63,12 +64,12 @@ impl Piece {
         requires some { 0 < most }
         requires fits { most ≤ PIECE }
         requires empty { self.old ≡ [] }
-        ensures told { OnOk result (I.left input.old ≡ option_map (λ rest. self.new ++ rest) (I.left input.new)) }
+        ensures told { OnOk result (Consumes (I.left input.old) (I.left input.new) self.new) }
         ensures within { length self.new ≤ most }
-        ensures at_the_end { OnOk result (self.new ≡ [] → IfSome (I.left input.new) (λ rest. rest ≡ [])) }
+        ensures at_the_end { OnOk result (self.new ≡ [] → IsAtEnd (I.left input.new)) }
         ensures no_fault { OnOk result (I.faults input.new ≡ I.faults input.old) }
 
-        ensures untold { OnErr result (I.left input.new ≡ I.left input.old) }
+        ensures untold { OnErr result (Keeps (I.left input.old) (I.left input.new)) }
         ensures none { OnErr result (self.new ≡ []) }
         ensures fault { OnErr result (I.faults input.new ≡ next_count (I.faults input.old)) }
     {
@@ -88,11 +89,11 @@ fn read_at_most<I: Source>(input: &mut I, buffer: &mut [u8], most: usize) -> Res
     requires { most ≤ length buffer.old }
     ensures same_length { length buffer.new ≡ length buffer.old }
     ensures within { IfOk result (λ n. n ≤ most) }
-    ensures told { IfOk result (λ n. I.left input.old ≡ option_map (λ rest. take n buffer.new ++ rest) (I.left input.new)) }
-    ensures at_the_end { IfOk result (λ n. n ≡ 0 → 0 < most → IfSome (I.left input.new) (λ rest. rest ≡ [])) }
+    ensures told { IfOk result (λ n. Consumes (I.left input.old) (I.left input.new) (take n buffer.new)) }
+    ensures at_the_end { IfOk result (λ n. n ≡ 0 → 0 < most → IsAtEnd (I.left input.new)) }
     ensures no_fault { OnOk result (I.faults input.new ≡ I.faults input.old) }
 
-    ensures untold { OnErr result (I.left input.new ≡ I.left input.old) }
+    ensures untold { OnErr result (Keeps (I.left input.old) (I.left input.new)) }
     ensures fault { OnErr result (I.faults input.new ≡ next_count (I.faults input.old)) }
 {
     input.read(&mut buffer[..most])

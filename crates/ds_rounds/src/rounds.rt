@@ -1,8 +1,9 @@
 //! Reading an input round by round.
-ghost use Rattle.std.specs.Prelude.{◌≡◌, ℕ, ◌+◌, ◌^◌, ◌<◌, ◌≤◌, ◌==◌, Bool, true, not, List, [], ◌++◌, length, option_map, IsErr, IfOk, OnOk, OnErr, IfSome, Ok, Err, None};
+ghost use Rattle.std.specs.Prelude.{◌≡◌, ℕ, ◌+◌, ◌^◌, ◌<◌, ◌≤◌, ◌==◌, Bool, true, not, List, [], length, IsErr, IfOk, OnOk, OnErr, IfSome, Ok, Err, None};
+ghost use Rattle.std.specs.Io.KnownBytes.{Consumes, IsAtEnd, Keeps};
 ghost use Rattle.ds_base.specs.Limits.{most_input_bytes, most_round_lines};
 ghost use Rattle.ds_io.specs.Faults.{next_count};
-ghost use Rattle.ds_rounds.specs.Drafts.{Absorbed, IsLine, IsOpen, LeavesRound, Stands, WantsMemory, number_in, so_far};
+ghost use Rattle.ds_rounds.specs.Drafts.{Absorbed, IsLastOf, IsLine, IsOpen, LeavesRound, Stands, WantsMemory, number_in, so_far};
 ghost use Rattle.ds_rounds.specs.Lines.{lines_in};
 ghost use Rattle.ds_rounds.specs.Rounds.{NumberedLine, found_rounds, rounds_from};
 ghost use Rattle.ds_rounds.specs.Reading.{IsRound, ReadsRound, faults_after, first_reader};
@@ -94,6 +95,7 @@ impl Rounds {
             draft.make_room()?;
             if !self.fill(input)? {
                 let last = last_round(draft)?;
+                self.number += 1;
                 self.stage = Stage::Ended;
                 return Ok(last);
             }
@@ -108,16 +110,16 @@ impl Rounds {
         requires below_the_limit { self.old.taken < most_input_bytes }
         requires empty { self.old.buffered ≡ [] }
         ensures read { IfOk result (λ some. some ≡ not (length self.new.buffered == 0)) }
-        ensures told { OnOk result (I.left input.old ≡ option_map (λ rest. self.new.buffered ++ rest) (I.left input.new)) }
+        ensures told { OnOk result (Consumes (I.left input.old) (I.left input.new) self.new.buffered) }
         ensures counted { OnOk result (self.new.taken ≡ self.old.taken + length self.new.buffered) }
         ensures one { OnOk result (self.new.taken ≡ most_input_bytes → length self.new.buffered ≤ 1) }
-        ensures at_the_end { OnOk result (self.new.buffered ≡ [] → IfSome (I.left input.new) (λ rest. rest ≡ [])) }
+        ensures at_the_end { OnOk result (self.new.buffered ≡ [] → IsAtEnd (I.left input.new)) }
         ensures no_fault { OnOk result (I.faults input.new ≡ I.faults input.old) }
         ensures number { self.new.number ≡ self.old.number }
         ensures stage { self.new.stage ≡ self.old.stage }
 
         ensures nothing { OnErr result (self.new ≡ self.old) }
-        ensures untold { OnErr result (I.left input.new ≡ I.left input.old) }
+        ensures untold { OnErr result (Keeps (I.left input.old) (I.left input.new)) }
         ensures fault { OnErr result (I.faults input.new ≡ next_count (I.faults input.old)) }
     {
         let most = if MAX_INPUT_BYTES - self.taken > PIECE as u64 {
@@ -151,6 +153,7 @@ fn absorb(piece: &mut Piece, number: &mut u64, draft: &mut Draft) -> Result<bool
     requires counted { number.old ≡ number_in draft.old }
     requires fits { number.old + length piece.old + 1 < 2 ^ 64 }
     ensures leaves { IfOk result (λ ended. LeavesRound ended draft.new number.new piece.new) }
+    ensures first { draft.old.first ≤ draft.new.first }
     ensures rounds { IfOk result (λ ended. (rounds : Bool → List ℕ → List (List NumberedLine)) → Stands rounds draft.old number.old piece.old → Absorbed ended rounds draft.new number.new piece.new) }
     ensures counted { number.new + length piece.new ≤ number.old + length piece.old }
     ensures err { OnErr result (WantsMemory draft.old piece.old) }
@@ -171,7 +174,7 @@ fn absorb(piece: &mut Piece, number: &mut u64, draft: &mut Draft) -> Result<bool
 /// The round at the end of the input; `None` where no line is left.
 fn last_round(draft: Draft) -> Result<Option<Round>, AllocError>
     requires { IsOpen draft }
-    ensures round { IfOk result (λ found. IfSome found (λ round. (length round.lines ≤ most_round_lines) × (0 < length round.lines) × (round.first + length round.lines ≤ number_in draft + 1))) }
+    ensures round { IfOk result (λ found. IfSome found (λ round. IsLastOf draft round)) }
     ensures rounds { IfOk result (λ found. (line : List ℕ) → IsLine draft line → rounds_from true (so_far draft) (number_in draft) (lines_in true line) ≡ found_rounds found) }
 {
     let mut draft = draft;

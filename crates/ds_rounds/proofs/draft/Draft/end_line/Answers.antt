@@ -8,7 +8,7 @@ returns-then-is_empty-clause-rounds c = λ line is_line.
     let none = nothing c.args.self.now.lines (ap length (sym c.drop_line.ensures.lines) ∙ eqb-true (length c.drop_line.new.self.lines) 0 (sym c.is_empty.ensures ∙ c.if-is_empty.true)) in
     let before = c.self-then-self.view_is in
     EndsLine-skipped c.args.self.now _ line is_line (sym (ap (λ d. d.blank) c.self.view_is) ∙ c.if-self.true) none
-        (ap (λ d. d.lines) before ∙ c.drop_line.ensures.lines ∙ none) (ap (λ d. d.kept) before ∙ c.drop_line.ensures.kept) (ap (λ d. d.blank) before ∙ c.drop_line.ensures.blank)
+    (ap (λ d. d.lines) before ∙ c.drop_line.ensures.lines ∙ none) (ap (λ d. d.kept) before ∙ c.drop_line.ensures.kept) (ap (λ d. d.blank) before ∙ c.drop_line.ensures.blank)
 
 pub returns-then-self-clause-rounds : goal.returns-then-self-clause-rounds
 returns-then-self-clause-rounds c = λ line is_line.

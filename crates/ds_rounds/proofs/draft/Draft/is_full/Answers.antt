@@ -33,7 +33,7 @@ returns-else-len-ge-MAX_ROUND_LINES c =
     let front : length (take start bytes) ≡ start = length-take-le start bytes c.self.invariant.within in
     let within : AreWithin (length (take start bytes)) spans = subst (λ n. AreWithin n spans) (sym front) c.self.invariant.ordered in
     let total : sum_by kept_bytes lines ≡ c.len-else-len-ge-MAX_ROUND_LINES.result =
-        kept_bytes-contents (take start bytes) spans within ∙ c.self.invariant.total ∙ whole ∙ sym c.self.inside.bytes.ok.0 ∙ sym c.len-else-len-ge-MAX_ROUND_LINES.ensures
+    kept_bytes-contents (take start bytes) spans within ∙ c.self.invariant.total ∙ whole ∙ sym c.self.inside.bytes.ok.0 ∙ sym c.len-else-len-ge-MAX_ROUND_LINES.ensures
     in
     ap (λ k. nat_le most_round_bytes k) (sym total)
     ∙ sym (is_full-much c.self.inside.first lines few)
