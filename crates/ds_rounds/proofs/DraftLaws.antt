@@ -99,7 +99,7 @@ EndsLine-added old new line is_line filled added false is = (
   λ ended lines. rounds_from-open ended (so_far old) (so_far new) (number_in old) line lines (sym is_line.blank ∙ filled) (so_far-added old new line is_line added) (sym is),
 )
 
-round_of-some : (n : ℕ) (lines : List Content) (rounds : List (List NumberedLine)) → 0 < length lines → round_of (numbered n lines) rounds ≡ numbered n lines ∷ rounds
+pub round_of-some : (n : ℕ) (lines : List Content) (rounds : List (List NumberedLine)) → 0 < length lines → round_of (numbered n lines) rounds ≡ numbered n lines ∷ rounds
 round_of-some n [] rounds some = absurd (omega arith)
 round_of-some n (line ∷ lines) rounds some = refl
 

@@ -1,3 +1,5 @@
+pub mod AbsorbLaws
 pub mod DraftLaws
 pub mod LineLaws
+pub mod ReadLaws
 pub mod SpanLaws

@@ -1,5 +1,5 @@
 //! Reading an input round by round.
-ghost use Rattle.std.specs.Prelude.{◌≡◌, ℕ, ◌+◌, ◌^◌, ◌<◌, ◌≤◌, ◌==◌, Bool, true, not, List, [], length, IsErr, IfOk, OnOk, OnErr, IfSome, Ok, Err, None};
+ghost use Rattle.std.specs.Prelude.{◌≡◌, ℕ, ◌+◌, ◌^◌, ◌<◌, ◌≤◌, ◌==◌, ◌⊎◌, Bool, true, nat_lt, List, [], length, IsErr, IfOk, OnOk, OnErr, IfSome, Ok, Err, None};
 ghost use Rattle.std.specs.Io.KnownBytes.{Consumes, IsAtEnd, Keeps};
 ghost use Rattle.ds_base.specs.Limits.{most_input_bytes, most_round_lines};
 ghost use Rattle.ds_io.specs.Faults.{next_count};
@@ -93,7 +93,7 @@ impl Rounds {
                 return Err(RoundRefused::InputLimit);
             }
             draft.make_room()?;
-            if !self.fill(input)? {
+            if !fill(&mut self.piece, &mut self.taken, input)? {
                 let last = last_round(draft)?;
                 self.number += 1;
                 self.stage = Stage::Ended;
@@ -102,35 +102,6 @@ impl Rounds {
         }
         self.stage = Stage::Reading;
         Ok(Some(draft.into_round()))
-    }
-
-    /// One read of the next bytes, and whether there were any; there are none exactly at the end. Near the limit only one byte
-    /// is asked for at a time: so none stands behind a round where the limit is reached, and no memory is wanted from there on.
-    fn fill<I: Source>(&mut self, input: &mut I) -> Result<bool, Failed>
-        requires below_the_limit { self.old.taken < most_input_bytes }
-        requires empty { self.old.buffered ≡ [] }
-        ensures read { IfOk result (λ some. some ≡ not (length self.new.buffered == 0)) }
-        ensures told { OnOk result (Consumes (I.left input.old) (I.left input.new) self.new.buffered) }
-        ensures counted { OnOk result (self.new.taken ≡ self.old.taken + length self.new.buffered) }
-        ensures one { OnOk result (self.new.taken ≡ most_input_bytes → length self.new.buffered ≤ 1) }
-        ensures at_the_end { OnOk result (self.new.buffered ≡ [] → IsAtEnd (I.left input.new)) }
-        ensures no_fault { OnOk result (I.faults input.new ≡ I.faults input.old) }
-        ensures number { self.new.number ≡ self.old.number }
-        ensures stage { self.new.stage ≡ self.old.stage }
-
-        ensures nothing { OnErr result (self.new ≡ self.old) }
-        ensures untold { OnErr result (Keeps (I.left input.old) (I.left input.new)) }
-        ensures fault { OnErr result (I.faults input.new ≡ next_count (I.faults input.old)) }
-    {
-        let most = if MAX_INPUT_BYTES - self.taken > PIECE as u64 {
-            PIECE
-        } else {
-            1
-        };
-        self.piece.fill(input, most)?;
-        let n = self.piece.bytes().len();
-        self.taken += n as u64;
-        Ok(n > 0)
     }
 
     /// The refusal of each call after one.
@@ -146,6 +117,45 @@ impl Rounds {
     }
 }
 
+/// One read of the next bytes, and whether there were any; there are none exactly at the end. `taken` counts them. Near the
+/// limit only one byte is asked for at a time: so none stands behind a round where the limit is reached, and no memory is
+/// wanted from there on.
+fn fill<I: Source>(piece: &mut Piece, taken: &mut u64, input: &mut I) -> Result<bool, Failed>
+    requires below_the_limit { taken.old < most_input_bytes }
+    requires empty { piece.old ≡ [] }
+    ensures some { IfOk result (λ some. some ≡ nat_lt 0 (length piece.new)) }
+    ensures told { OnOk result (Consumes (I.left input.old) (I.left input.new) piece.new) }
+    ensures counted { taken.new ≡ taken.old + length piece.new }
+    ensures within { taken.new ≤ most_input_bytes }
+    ensures one { taken.new ≡ most_input_bytes → length piece.new ≤ 1 }
+    ensures at_the_end { OnOk result (piece.new ≡ [] → IsAtEnd (I.left input.new)) }
+    ensures no_fault { OnOk result (I.faults input.new ≡ I.faults input.old) }
+
+    ensures none { OnErr result (piece.new ≡ []) }
+    ensures untold { OnErr result (Keeps (I.left input.old) (I.left input.new)) }
+    ensures fault { OnErr result (I.faults input.new ≡ next_count (I.faults input.old)) }
+{
+    let most = most_of(*taken);
+    piece.fill(input, most)?;
+    let n = piece.bytes().len();
+    *taken += n as u64;
+    Ok(n > 0)
+}
+
+/// How many bytes are asked for where so many were taken.
+fn most_of(taken: u64) -> usize
+    requires { taken < most_input_bytes }
+    ensures some { 0 < result }
+    ensures fits { result ≤ PIECE }
+    ensures near { (taken + result < most_input_bytes) ⊎ (result ≡ 1) }
+{
+    if MAX_INPUT_BYTES - taken > PIECE as u64 {
+        PIECE
+    } else {
+        1
+    }
+}
+
 /// Moves bytes into a draft up to the end of a round, which it answers `true`, or of the bytes. `number` is the number of the
 /// line that is being read. It is refused only where memory is wanted.
 fn absorb(piece: &mut Piece, number: &mut u64, draft: &mut Draft) -> Result<bool, AllocError>
@@ -153,7 +163,7 @@ fn absorb(piece: &mut Piece, number: &mut u64, draft: &mut Draft) -> Result<bool
     requires counted { number.old ≡ number_in draft.old }
     requires fits { number.old + length piece.old + 1 < 2 ^ 64 }
     ensures leaves { IfOk result (λ ended. LeavesRound ended draft.new number.new piece.new) }
-    ensures first { draft.old.first ≤ draft.new.first }
+    ensures first { OnOk result (draft.old.first ≤ draft.new.first) }
     ensures rounds { IfOk result (λ ended. (rounds : Bool → List ℕ → List (List NumberedLine)) → Stands rounds draft.old number.old piece.old → Absorbed ended rounds draft.new number.new piece.new) }
     ensures counted { number.new + length piece.new ≤ number.old + length piece.old }
     ensures err { OnErr result (WantsMemory draft.old piece.old) }
