@@ -1,4 +1,5 @@
 pub mod AbsorbLaws
+pub mod CallLaws
 pub mod DraftLaws
 pub mod LineLaws
 pub mod ReadLaws

@@ -1,10 +1,12 @@
 -- Reading on: the bytes of one call, read by read.
-use Rattle.std.proofs.Common.{◌≡◌, ℕ, ◌+◌, ◌<◌, ◌≤◌, List, [], ◌∷◌, ◌++◌, length, refl, ap, sym, ◌∙◌, arith, Bool, true, false, Option, Some, None, append_assoc, append-nil, subst, ◌⊎◌, inl, inr}
+use Rattle.std.proofs.Common.{◌≡◌, ◌≢◌, ℕ, ◌+◌, ◌<◌, ◌≤◌, List, [], ◌∷◌, ◌++◌, length, refl, ap, sym, ◌∙◌, arith, Bool, true, false, Option, Some, None, append_assoc, append-nil, subst, ◌⊎◌, inl, inr}
 use Rattle.std.specs.Io.KnownBytes.{Consumes}
 use Rattle.ds_base.specs.Limits.{most_input_bytes}
 use Rattle.ds_rounds.specs.Drafts.{DraftParts, IsLine, IsOpen, IsSame, Stands, WantsMemory, number_in, so_far}
 use Rattle.ds_rounds.specs.Lines.{lines_in}
-use Rattle.ds_rounds.specs.Reading.{Gives, GivesNone, MayFollow, ReaderParts}
+use Rattle.ds_rounds.specs.Reading.{Gives, GivesNone, IsReader, MayFollow, ReaderParts}
+use Rattle.ds_io.specs.KnownBytesLaws.{Consumes-none}
+use Rattle.ds_rounds.specs.declared.stage.Stage.{Stage}
 use Rattle.ds_rounds.specs.Rounds.{NumberedLine, found_rounds, lines_of_round, numbered, rounds_from, rounds_in}
 use Rattle.ds_rounds.specs.declared.stage.Stage.TheVariants as stage
 use Rattle.ds_rounds.proofs.AbsorbLaws.{number_same, so_far_same}
@@ -76,16 +78,3 @@ gives_last old read round new is_ended nothing given ended more follows =
     ∙ given
     ∙ ap (λ rs. round ∷ rs) (sym (rounds_in-nothing ended new.number))
     ∙ ap (λ bs. round ∷ rounds_in ended new.number bs) (sym (append-nil []) ∙ ap (λ bs. bs ++ []) (sym nothing) ∙ ap (λ bs. new.buffered ++ bs) (sym last.1))
-
--- a call that has read so far: what it read, and what stands of it in the draft
-pub record IsReading (first now : Option (List ℕ)) (old : ReaderParts) (draft : DraftParts) (number taken : ℕ) (piece : List ℕ) : Type 0 where
-  pub read : List ℕ
-  pub told : Consumes first now read
-  pub counted : taken ≡ old.taken + length read
-  pub at_once : (read ≡ []) ⊎ GivesNone old [] false
-  pub stands : Stands (ahead old read) draft number piece
-  pub open_still : IsOpen draft
-  pub risen : old.number ≤ draft.first
-  pub within : taken ≤ most_input_bytes
-  pub passed : number + length piece ≤ taken + 1
-  pub room : taken ≡ most_input_bytes → WantsMemory draft piece → ⊥

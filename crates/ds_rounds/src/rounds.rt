@@ -166,6 +166,7 @@ fn absorb(piece: &mut Piece, number: &mut u64, draft: &mut Draft) -> Result<bool
     ensures first { OnOk result (draft.old.first ≤ draft.new.first) }
     ensures rounds { IfOk result (λ ended. (rounds : Bool → List ℕ → List (List NumberedLine)) → Stands rounds draft.old number.old piece.old → Absorbed ended rounds draft.new number.new piece.new) }
     ensures counted { number.new + length piece.new ≤ number.old + length piece.old }
+    ensures rises { IfOk result (λ ended. ended ≡ true → number.old < number.new) }
     ensures err { OnErr result (WantsMemory draft.old piece.old) }
 {
     'lines: while let Some(end) = newline(piece.bytes()) {

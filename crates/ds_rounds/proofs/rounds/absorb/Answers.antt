@@ -46,6 +46,7 @@ lines-preserved c =
       open_still = leaves.0;
       counted = omega (arith, counted, leaves.1);
       first = omega (arith, leaves.2, c.lines.invariant.first, c.extend.ensures.first);
+      risen = omega (arith, c.lines.invariant.risen);
       passed = omega (arith, rest, broken.within, c.lines.invariant.passed);
       stands = λ rounds before.
           let broke : Broke rounds c.extend.new.self c.skip.new.self =
