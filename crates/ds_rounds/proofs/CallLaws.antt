@@ -7,7 +7,7 @@ use Rattle.ds_base.specs.Limits.{most_input_bytes}
 use Rattle.ds_io.specs.KnownBytesLaws.{Consumes-kept, Consumes-none, Consumes-then}
 use Rattle.ds_rounds.specs.Drafts.{Absorbed, DraftParts, IsLine, IsOpen, IsSame, LeavesRound, Stands, WantsMemory, number_in, so_far}
 use Rattle.ds_rounds.specs.Lines.{lines_in}
-use Rattle.ds_rounds.specs.Reading.{Gives, GivesNone, IsReader, MayFollow, Outcome, ReaderParts, ReadsRound}
+use Rattle.ds_rounds.specs.Reading.{GivesNone, IsReader, Outcome, ReaderParts, ReadsRound}
 use Rattle.ds_rounds.specs.Rounds.{NumberedLine, found_rounds, lines_of_round, numbered, rounds_from, rounds_in}
 use Rattle.ds_rounds.specs.declared.round.Round.{Round}
 use Rattle.ds_rounds.specs.declared.stage.RoundRefused.{RoundRefused}
