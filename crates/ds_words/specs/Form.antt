@@ -1,5 +1,5 @@
 -- The form of the words behind the program's name.
-use Rattle.std.specs.Prelude.{ℕ, List, [], ◌∷◌, Bool, true, false, not, ◌&&◌, ◌||◌, ◌==◌, nat_le, nat_lt, cond, bytes_eq, codes, length, map, filter, Option, Some, None, option_map, option_and_then}
+use Rattle.std.specs.Prelude.{ℕ, List, [], ◌∷◌, Bool, false, not, ◌&&◌, ◌||◌, ◌==◌, nat_le, nat_lt, cond, bytes_eq, codes, length, map, filter, Option, Some, None, option_map, option_and_then}
 use Rattle.std.specs.List.{after_first, before_first, list_all, list_any}
 use Rattle.std.specs.Str.Parse.{digits_value}
 use Rattle.ds_base.specs.Limits.{greatest_window, most_appliers, most_shards}

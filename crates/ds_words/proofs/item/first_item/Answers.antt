@@ -1,9 +1,9 @@
-use Rattle.std.proofs.Common.{◌≡◌, ◌<◌, ◌∙◌, ℕ, List, ap, arith, length, subst, sym, Some, None}
+use Rattle.std.proofs.Common.{◌≡◌, ◌<◌, ◌∙◌, ℕ, List, ap, arith, length, subst, Some, None}
 use Rattle.std.proofs.lemmas.Str.Pattern.{split_once_first}
 use Rattle.std.specs.List.{before_first, position_or_len}
 use Rattle.std.specs.String.{string_bytes}
 use Rattle.ds_words.specs.Form.{is_equals_sign, item_of, joined}
-use Rattle.ds_words.proofs.ItemLaws.{first_alone, first_apart, first_found, first_joined, is_joined-at, is_joined-none}
+use Rattle.ds_words.proofs.ItemLaws.{first_apart, first_found, first_joined, is_joined-at, is_joined-none}
 use Rattle.ds_words.proofs.item.first_item.Goals as goal
 
 pub returns-in-Some-clause-items : goal.returns-in-Some-clause-items

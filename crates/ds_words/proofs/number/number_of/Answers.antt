@@ -1,4 +1,4 @@
-use Rattle.std.proofs.Common.{◌≡◌, ◌∙◌, ap, sym}
+use Rattle.std.proofs.Common.{◌∙◌, ap, sym}
 use Rattle.ds_words.specs.Form.{is_digits}
 use Rattle.ds_words.proofs.NumberLaws.{number_of-unparsed}
 use Rattle.ds_words.proofs.number.number_of.Goals as goal

@@ -1,7 +1,6 @@
-use Rattle.std.proofs.Common.{◌≡◌, ◌++◌, List, length, map, Option, Some}
-use Rattle.std.specs.Prelude.{option_map, option_to_list}
+use Rattle.std.proofs.Common.{length, map}
+use Rattle.std.specs.Prelude.{option_map}
 use Rattle.std.specs.String.{string_bytes}
-use Rattle.ds_words.specs.Form.{Item, items_of, values_of}
 use Rattle.ds_words.proofs.ItemLaws.{Passed}
 use Rattle.ds_words.proofs.words.value_in.Given as goal
 
