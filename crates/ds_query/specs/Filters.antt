@@ -38,7 +38,7 @@ is_inequality f = not (is_equality f)
 
 -- does the property of this name have an equality?
 abbrev pub has_equality : List Filter → List ℕ → Bool
-has_equality filters name = list_any (λ f. is_equality f && bytes_eq f.property name) filters
+has_equality filters name = list_any (λ f. is_equality f && bytes_eq name f.property) filters
 
 abbrev pub is_one_of : Op → Bool
 is_one_of op.OneOf = true
@@ -46,7 +46,7 @@ is_one_of _ = false
 
 -- does the property of this name have an `in`?
 abbrev pub has_one_of : List Filter → List ℕ → Bool
-has_one_of filters name = list_any (λ f. is_one_of f.op && bytes_eq f.property name) filters
+has_one_of filters name = list_any (λ f. is_one_of f.op && bytes_eq name f.property) filters
 
 -- the property of the first inequality
 abbrev pub inequality_of : List Filter → Option (List ℕ)

@@ -45,7 +45,7 @@ pairs_ascend (p ∷ q ∷ ps) = is_lt (pair_cmp p q) && pairs_ascend (q ∷ ps)
 
 -- is there a pair on the property of this name?
 abbrev pub has_pair : List Pair → List ℕ → Bool
-has_pair pairs name = list_any (λ p. bytes_eq p.property name) pairs
+has_pair pairs name = list_any (λ p. bytes_eq name p.property) pairs
 
 abbrev pub is_key_bound : Option Bound → Bool
 is_key_bound None = true
