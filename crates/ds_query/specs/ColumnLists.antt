@@ -1,14 +1,19 @@
 -- What the rows of a query are sorted by.
-use Rattle.std.specs.Prelude.{ℕ, Bool, true, false, ◌&&◌, not, bytes_eq, List, [], ◌∷◌, ◌++◌, map, filter, fold, cond}
+use Rattle.std.specs.Prelude.{◌≡◌, ℕ, Bool, true, false, ◌&&◌, not, bytes_eq, List, [], ◌∷◌, ◌++◌, map, filter, fold, cond}
 use Rattle.std.specs.Option.{option_to_list}
 use Rattle.std.specs.List.{list_any}
 use Rattle.ds_base.specs.declared.results.Column.{Column}
 use Rattle.ds_query.specs.declared.query.Query.{Query}
+use Rattle.ds_query.specs.Reasons.{has_name}
 use Rattle.ds_query.specs.Filters.{key_name, is_key_name, has_equality, has_one_of, inequality_of, projected}
 
 -- is there a column of this name?
 abbrev pub has_column : List Column → List ℕ → Bool
 has_column columns name = list_any (λ c. bytes_eq name c.name) columns
+
+-- the names are those of the columns
+abbrev pub AreNamesOf : List (List ℕ) → List Column → Type 0
+AreNamesOf names columns = (n : List ℕ) → has_name names n ≡ has_column columns n
 
 -- the columns with one more at the end, unless its name is there
 abbrev pub with_column : List Column → Column → List Column

@@ -1,8 +1,9 @@
 //! What the rows of a query are sorted by.
 ghost use Rattle.std.specs.Prelude.{◌≡◌, ◌&&◌, not, map, filter, fold, IfOk, OnOk, OnErr, List, ℕ};
+ghost use Rattle.std.specs.Option.{option_copied, option_to_list};
 ghost use Rattle.ds_query.specs.Filters.{has_equality, has_one_of};
 ghost use Rattle.ds_query.specs.Reasons.{has_name};
-ghost use Rattle.ds_query.specs.ColumnLists.{has_column, with_column, ascending, up_to_key, first_of_each_name, wanted_columns, columns_of, merged_of};
+ghost use Rattle.ds_query.specs.ColumnLists.{AreNamesOf, with_column, ascending, up_to_key, first_of_each_name, wanted_columns, columns_of, merged_of};
 
 use crate::filters::{FilterNames, KEY_NAME, inequality_of, is_key_name, projected};
 use crate::names::NameSet;
@@ -16,14 +17,15 @@ struct Distinct<'a> {
     columns: Vec<Column>,
     /// The columns' names.
     names: NameSet<'a>,
-    ghost named: { (n : List ℕ) → has_name names n ≡ has_column columns.items n },
 }
 
 impl<'a> Distinct<'a> {
     /// One more column at the end, unless its name is there.
     fn push(&mut self, alloc: Global, name: &'a str, descending: bool) -> Result<(), AllocError>
-        ensures { OnOk result (self.new.columns.items ≡ with_column self.old.columns.items
+        requires { AreNamesOf self.old.names self.old.columns.items }
+        ensures ok { OnOk result (self.new.columns.items ≡ with_column self.old.columns.items
             (record { name = name.now; descending = descending })) }
+        ensures named { OnOk result (AreNamesOf self.new.names self.new.columns.items) }
     {
         if self.names.contains(name) {
             return Ok(());
@@ -45,9 +47,11 @@ impl<'a> Distinct<'a> {
         dropped: &NameSet,
         kept: &NameSet,
     ) -> Result<(), AllocError>
-        ensures { OnOk result (self.new.columns.items ≡ fold with_column self.old.columns.items
+        requires { AreNamesOf self.old.names self.old.columns.items }
+        ensures ok { OnOk result (self.new.columns.items ≡ fold with_column self.old.columns.items
             (filter (λ c. not (has_name dropped.now c.name && not (has_name kept.now c.name)))
             (up_to_key orders.now))) }
+        ensures named { OnOk result (AreNamesOf self.new.names self.new.columns.items) }
     {
         for order in orders {
             let name = order.name.text();
@@ -61,10 +65,29 @@ impl<'a> Distinct<'a> {
         Ok(())
     }
 
+    /// The property, ascending, if there is one.
+    fn push_property(
+        &mut self,
+        alloc: Global,
+        property: Option<&'a TextString>,
+    ) -> Result<(), AllocError>
+        requires { AreNamesOf self.old.names self.old.columns.items }
+        ensures ok { OnOk result (self.new.columns.items ≡ fold with_column self.old.columns.items
+            (map ascending (option_to_list (option_copied property.entry)))) }
+        ensures named { OnOk result (AreNamesOf self.new.names self.new.columns.items) }
+    {
+        match property {
+            Some(name) => self.push(alloc, name.text(), false),
+            None => Ok(()),
+        }
+    }
+
     /// The properties of these names, ascending.
     fn push_names(&mut self, alloc: Global, names: &'a [TextString]) -> Result<(), AllocError>
-        ensures { OnOk result (self.new.columns.items ≡ fold with_column self.old.columns.items
+        requires { AreNamesOf self.old.names self.old.columns.items }
+        ensures ok { OnOk result (self.new.columns.items ≡ fold with_column self.old.columns.items
             (map ascending names.now)) }
+        ensures named { OnOk result (AreNamesOf self.new.names self.new.columns.items) }
     {
         for name in names {
             self.push(alloc, name.text(), false)?;
@@ -113,9 +136,7 @@ fn columns_without(
         names: NameSet::new(alloc),
     };
     distinct.push_orders(alloc, query.orders.as_slice(), dropped, kept)?;
-    if let Some(property) = inequality_of(query.filters.as_slice()) {
-        distinct.push(alloc, property.text(), false)?;
-    }
+    distinct.push_property(alloc, inequality_of(query.filters.as_slice()))?;
     distinct.push_names(alloc, projected(&query.select))?;
     distinct.push(alloc, KEY_NAME, false)?;
     Ok(Columns::from(distinct.columns))
