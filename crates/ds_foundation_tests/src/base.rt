@@ -1,9 +1,13 @@
-//! The limits and orders as tables, and each public call once where it succeeds.
+//! The types of `ds_base`: limits and orders as tables, and each public call once where it succeeds.
 ghost use Rattle.std.specs.Prelude.{◌≡◌, [], ◌∷◌, IfOk, IsTrue};
 ghost use Rattle.ds_base.specs.Keys.{ends_in_id};
 
-use super::*;
-use crate::limits::MAX_ID;
+use ds_base::limits::MAX_ID;
+use ds_base::{
+    Buffer, ByteString, Column, Elem, Elems, Entity, EntityRefused, Ident, IndexValue, Key,
+    NamedValue, NoMemory, Numbers, Properties, Property, TextString, TryCopy, Value, Values,
+    is_name, is_namespace, is_reserved,
+};
 use std::alloc::Global;
 use std::cmp::Ordering;
 use std::collections::HashMap;
@@ -323,7 +327,6 @@ fn entities_keep_their_limits(rt: HostRuntime) -> Result<(), Fail> {
 
 fn bytes_are_appended(alloc: Global) -> Result<bool, NoMemory> {
     let mut bytes = ByteString::new(alloc);
-    bytes.make_room(2)?;
     bytes.append(b"ab")?;
     let copy = ByteString::from_vec(bytes.copy(alloc)?.into_vec());
     Ok(copy == bytes && bytes.bytes().len() == 2)
@@ -331,9 +334,9 @@ fn bytes_are_appended(alloc: Global) -> Result<bool, NoMemory> {
 
 fn buffer_is_filled(alloc: Global) -> Result<bool, NoMemory> {
     let mut buffer = Buffer::new(alloc);
-    buffer.append(b"x")?;
-    buffer.clear();
     buffer.make_room(2)?;
+    buffer.append(b"xy")?;
+    buffer.clear();
     buffer.append(b"ab")?;
     let bytes = ByteString::from(buffer);
     Ok(bytes == ByteString::of(alloc, b"ab")? && Buffer::from(bytes).bytes().len() == 2)
@@ -381,6 +384,14 @@ fn ancestors_are_told(alloc: Global) -> Result<bool, Fail> {
     Ok(rooted && under && !id_key(alloc, 9)?.is_ancestor(&child) && !child.is_ancestor(&root))
 }
 
+/// Whether a copy of an entity has the very properties of the first, and not some of its own.
+fn copies_share(alloc: Global) -> Result<bool, Fail> {
+    let properties = property(alloc, letters(alloc, 1)?, true, Value::Null)?;
+    let entity = Entity::new(id_key(alloc, 1)?, properties)?;
+    let copy = entity.copy(alloc)?;
+    Ok(entity.owners() == 2 && copy.owners() == 2)
+}
+
 fn entity_is_renumbered(alloc: Global) -> Result<bool, Fail> {
     let mut key = id_key(alloc, 1)?;
     let mut entity = Entity::new(key.copy(alloc)?, Properties::new(alloc))?;
@@ -400,6 +411,9 @@ fn calls_succeed(rt: HostRuntime) -> Result<(), Fail> {
     assert!(rt; argument_is_copied(alloc)?);
     assert!(rt; string_is_indexed(alloc)?);
     assert!(rt; ancestors_are_told(alloc)?);
+    assert!(rt; copies_share(alloc)?);
     assert!(rt; entity_is_renumbered(alloc)?);
+    assert!(rt; is_name(b"a") && is_namespace(b"") && is_reserved(b"__x__"));
+    assert!(rt; Value::Rating(101).is_faulty(false) && !Value::Rating(100).is_faulty(true));
     Ok(())
 }

@@ -1,13 +1,12 @@
-//! Each form called once; and functions as a crate above writes them, over any source and any sink, and with a bound
-//! on steps.
-ghost use Rattle.std.specs.Prelude.{◌≡◌, ◌+◌, ◌*◌, ◌<◌, ◌≤◌, ◌++◌, IfOk, IfSome, OnErr, OnOk, IsTrue, option_map};
-ghost use Rattle.ds_io.specs.Faults.{Rose};
+//! The forms of the outside in memory and over std, each called once, where it succeeds and where it fails; and steps.
+ghost use Rattle.std.specs.Prelude.{◌≡◌, ◌<◌};
 
-use crate::{
-    Failed, Files, Gate, LoadFault, MAX_FILE_BYTES, MemoryFiles, MemorySink, MemorySource, NoGate,
-    Sink, Source, StdFiles, StdSink, StdSource, Steps,
-};
+use ds_base::limits::MAX_FILE_BYTES;
 use ds_base::{ByteString, ByteStrings, Names, Numbers, TextString};
+use ds_io::{
+    Failed, Files, Gate, LoadFault, MemoryFiles, MemorySink, MemorySource, NoGate, Sink, Source,
+    StdFiles, StdSink, StdSource, Steps,
+};
 use std::alloc::{AllocError, Global};
 use std::fs::File;
 use std::io::{ErrorKind, Read, Write};
@@ -16,87 +15,21 @@ use std::sync::ledger::{Blank, Ledger};
 use std::test::Fail;
 use std::{fs, io};
 
-/// Puts the rest of a source at the end of `onto`; `false` where memory ran out first.
-fn read_to_end<S: Source>(source: &mut S, onto: &mut ByteString) -> Result<bool, Failed>
-    ensures all { IfOk result (λ done. IsTrue done → IfSome (S.left source.old) (λ bytes. onto.new ≡ onto.old ++ bytes)) }
-    ensures cause { OnErr result (Rose (S.faults source.old) (S.faults source.new)) }
-{
-    let mut buf = [0u8; 4];
-    for _ in 0..u64::MAX {
-        let n = source.read(&mut buf)?;
-        if n == 0 {
-            return Ok(true);
-        }
-        if onto.append(&buf[..n]).is_err() {
-            return Ok(false);
-        }
-    }
-    Ok(false)
-}
-
-/// Writes the whole piece.
-fn write_all<K: Sink>(sink: &mut K, piece: &[u8]) -> Result<(), Failed>
-    ensures all { OnOk result (K.held sink.new ≡ option_map (λ bytes. bytes ++ piece.now) (K.held sink.old)) }
-    ensures cause { OnErr result (Rose (K.faults sink.old) (K.faults sink.new)) }
-{
-    let mut rest = piece;
-    while !rest.is_empty() {
-        let n = sink.write(rest)?;
-        rest = &rest[n..];
-    }
-    Ok(())
-}
-
-/// What finds things, at one step each.
-trait Finder {
-    fn find<L: Ledger>(&mut self, steps: &mut Steps<L>) -> bool
-        ensures cost { steps.new ≤ steps.old + 1 };
-}
-
-#[derive(Drop)]
-struct Drawer {
-    things: u32,
-}
-
-impl Finder for Drawer {
-    fn find<L: Ledger>(&mut self, steps: &mut Steps<L>) -> bool {
-        if self.things == 0 {
-            return false;
-        }
-        steps.tick();
-        self.things -= 1;
-        true
-    }
-}
-
-/// Two tries at most for each of `wanted`.
-fn find_all<T: Finder, L: Ledger>(finder: &mut T, wanted: u32, steps: &mut Steps<L>) -> u32
-    ensures found { result ≤ wanted }
-    ensures cost { steps.new ≤ steps.old + 2 * wanted }
-{
-    let mut found = 0;
-    for _ in 0..wanted {
-        if finder.find(steps) || finder.find(steps) {
-            found += 1;
-        }
-    }
-    found
-}
-
-/// The same for a caller that counts nothing: it opens the ledger.
-fn find_uncounted<L: Ledger>(blank: Blank, things: u32, wanted: u32) -> u32
+/// Opens the ledger that the blank becomes, and counts this many steps on it.
+fn count_steps<L: Ledger>(blank: Blank, times: u32)
     requires name { blank.name ≡ L.name }
     requires parts { blank.parts ≡ L.parts }
     requires some { 0 < blank.parts }
 {
     let mut steps = Steps::<L>::new(blank);
-    let mut drawer = Drawer { things };
-    find_all(&mut drawer, wanted, &mut steps)
+    for _ in 0..times {
+        steps.tick();
+    }
 }
 
 #[test]
-fn counts_steps(rt: HostRuntime) {
-    assert_eq!(rt; find_uncounted::<Brand>(Blank::new(1), 3, 5), 3);
+fn counts_steps(_rt: HostRuntime) {
+    count_steps::<Brand>(Blank::new(1), 3);
 }
 
 // The list of this number.
@@ -118,11 +51,6 @@ fn reads_in_memory(rt: HostRuntime) -> Result<(), Fail> {
             assert_eq!(rt; source.read(&mut [0; 4]), expected, "most {most}");
         }
     }
-    let bytes = ByteString::of(alloc, b"abcdefg")?;
-    let mut source = MemorySource::make(bytes, 3, Numbers::new(alloc));
-    let mut all = ByteString::new(alloc);
-    assert_eq!(rt; read_to_end(&mut source, &mut all), Ok(true));
-    assert_eq!(rt; all.bytes(), b"abcdefg".as_slice());
     Ok(())
 }
 
@@ -134,8 +62,8 @@ fn writes_in_memory(rt: HostRuntime) -> Result<(), Fail> {
     assert_eq!(rt; sink.write(b"defg"), Err(Failed));
     assert_eq!(rt; sink.write(b"defg"), Ok(3));
     assert_eq!(rt; sink.write(b""), Ok(0));
-    assert_eq!(rt; write_all(&mut sink, b"ghij"), Ok(()));
-    assert_eq!(rt; sink.written().bytes(), b"abcdefghij".as_slice());
+    assert_eq!(rt; sink.flush(), Ok(()));
+    assert_eq!(rt; sink.written().bytes(), b"abcdef".as_slice());
     let mut full = MemorySink::make(alloc, 0, Numbers::new(alloc));
     assert_eq!(rt; full.write(b"a"), Err(Failed));
     Ok(())
@@ -172,7 +100,7 @@ impl Read for Broken {
     }
 }
 
-// Takes nothing.
+// Takes nothing, and can't send it on.
 #[derive(Drop)]
 struct Stuck;
 
@@ -182,7 +110,7 @@ impl Write for Stuck {
     }
 
     fn flush(&mut self) -> io::Result<()> {
-        Ok(())
+        Err(io::Error::from(ErrorKind::BrokenPipe))
     }
 }
 
@@ -197,17 +125,20 @@ fn reads_and_writes_over_std(rt: HostRuntime) -> Result<(), Fail> {
     assert_eq!(rt; StdSource::new(Broken).read(&mut buf), Err(Failed));
 
     let mut written = Vec::new(rt.alloc());
-    assert_eq!(rt; StdSink::new(&mut written).write(b"abc"), Ok(3));
+    let mut sink = StdSink::new(&mut written);
+    assert_eq!(rt; sink.write(b"abc"), Ok(3));
+    assert_eq!(rt; sink.flush(), Ok(()));
     assert_eq!(rt; written.as_slice(), b"abc".as_slice());
     assert_eq!(rt; StdSink::new(Stuck).write(b"abc"), Err(Failed));
     assert_eq!(rt; StdSink::new(Stuck).write(b""), Ok(0));
+    assert_eq!(rt; StdSink::new(Stuck).flush(), Err(Failed));
     Ok(())
 }
 
 #[test]
 fn loads_over_std(rt: HostRuntime) -> Result<(), Fail> {
     let alloc = rt.alloc();
-    let name = "ds_io_loads_over_std";
+    let name = "ds_foundation_tests_loads_over_std";
     fs::write(&rt, name, "all of it")?;
     let mut files = StdFiles::new(&rt);
     let loaded = files.load(alloc, name);
