@@ -1,10 +1,10 @@
 -- What every branch, normal form and window keeps that a query is answered by.
 use Rattle.std.specs.Prelude.{◌≡◌, ℕ, ◌<◌, Bool, true, false, ◌&&◌, not, bytes_eq, IsTrue, List, [], ◌∷◌, length, filter, All, Option, Some, None}
 use Rattle.std.specs.List.{list_all, list_any}
-use Rattle.std.specs.Ordering.{is_lt}
+use Rattle.std.specs.List.Sorted.{IsStrictlySortedBy}
 use Rattle.ds_base.specs.declared.index_value.IndexValue.{IndexValue}
 use Rattle.ds_base.specs.declared.index_value.IndexValue.TheVariants as index
-use Rattle.ds_base.specs.declared.results.Column.{Column}
+use Rattle.ds_base.specs.declared.column.Column.{Column}
 use Rattle.ds_base.specs.Keys.{is_namespace}
 use Rattle.ds_query.specs.declared.branch.Pair.{Pair}
 use Rattle.ds_query.specs.declared.branch.Bound.{Bound}
@@ -37,12 +37,6 @@ starts_with_key (c ∷ cs) = is_key_name c.name
 
 -- ---- pairs and bounds
 
--- the pairs strictly ascend by property and then by value, so each stands once
-abbrev pub pairs_ascend : List Pair → Bool
-pairs_ascend [] = true
-pairs_ascend (p ∷ []) = true
-pairs_ascend (p ∷ q ∷ ps) = is_lt (pair_cmp p q) && pairs_ascend (q ∷ ps)
-
 -- is there a pair on the property of this name?
 abbrev pub has_pair : List Pair → List ℕ → Bool
 has_pair pairs name = list_any (λ p. bytes_eq name p.property) pairs
@@ -69,7 +63,8 @@ pub record IsKindless (b : Branch) : Type 0 where
 pub record IsLawfulBranch (b : Branch) : Type 0 where
   pub namespace : IsTrue (is_namespace b.namespace)
   pub no_key_pair : IsTrue (list_all (λ p. not (is_key_name p.property)) b.equal)
-  pub pairs_ascend : IsTrue (pairs_ascend b.equal)
+  -- by property and then by value, so each stands once
+  pub pairs_ascend : IsStrictlySortedBy pair_cmp b.equal
   pub names_differ : IsTrue (names_differ b.columns)
   -- no column is on the property of a pair
   pub apart : IsTrue (list_all (λ c. not (has_pair b.equal c.name)) b.columns)

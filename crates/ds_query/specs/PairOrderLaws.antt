@@ -6,7 +6,8 @@ use Rattle.std.specs.declared.cmp.Ordering.TheVariants.{Equal}
 use Rattle.std.specs.FinMap.{IsAntisymmetric}
 use Rattle.ds_base.specs.KeyOrder.{bytes_cmp}
 use Rattle.ds_base.specs.IndexOrder.{index_value_cmp}
-use Rattle.ds_base.specs.KeyOrderLaws.{both_Equal, bytes_cmp-same, Equal-same}
+use Rattle.ds_base.specs.OrderLaws.{both_Equal, Equal-same}
+use Rattle.ds_base.specs.KeyOrderLaws.{bytes_cmp-same}
 use Rattle.ds_base.specs.IndexOrderLaws.{index_value_cmp-total, index_value_cmp-same}
 use Rattle.ds_query.specs.declared.branch.Pair.{Pair}
 use Rattle.ds_query.specs.Branching.{pair_cmp}

@@ -1,8 +1,7 @@
 //! How equality pairs compare: by property, by bytes, and then by value.
 ghost use Rattle.std.specs.Prelude.{◌≡◌, ◌↔◌, IsTrue, refl};
-ghost use Rattle.std.specs.Cmp.{eq_by_cmp_equiv, partial_equiv_from_equiv};
+ghost use Rattle.std.specs.Cmp.{eq_by_cmp_equiv, partial_equiv_from_equiv, partial_order_from_total};
 ghost use Rattle.std.specs.Ordering.{eq_by_cmp, as_partial_cmp};
-ghost use Rattle.ds_base.specs.KeyOrderLaws.{partial_from_total};
 ghost use Rattle.ds_query.specs.Branching.{pair_cmp};
 ghost use Rattle.ds_query.specs.PairOrderLaws.{pair_cmp-total};
 
@@ -29,7 +28,7 @@ impl Eq for Pair {
 impl PartialOrd for Pair {
     ghost partial_cmp = { as_partial_cmp pair_cmp };
 
-    ghost laws = { partial_from_total pair_cmp-total };
+    ghost laws = { partial_order_from_total pair_cmp-total };
 
     fn partial_cmp(&self, other: &Pair) -> Option<Ordering> {
         Some(self.cmp(other))
