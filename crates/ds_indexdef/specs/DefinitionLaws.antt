@@ -20,9 +20,10 @@ same_def-decides x y =
     let flags = booleans_Decides x.ancestor y.ancestor in
     let columns = slice_eq-Decides same_column-decides x.columns y.columns (pointwise same_column x.columns y.columns) refl in
     let rest = Decides-and (beq x.ancestor y.ancestor) (pointwise same_column x.columns y.columns) flags columns in
-    let all = Decides-and (bytes_eq x.kind y.kind) (beq x.ancestor y.ancestor && pointwise same_column x.columns y.columns) kinds rest in
-    (λ e. let parts = all.0 e in λ i. record { kind = parts.0 i; ancestor = parts.1.0 i; columns = parts.1.1 i },
-    λ e. all.1 (ap (λ (d : IndexDef). d.kind) e, (ap (λ (d : IndexDef). d.ancestor) e, ap (λ (d : IndexDef). d.columns) e)))
+    let all = Decides-and (bytes_eq x.kind y.kind) (beq x.ancestor y.ancestor && pointwise same_column x.columns y.columns) kinds rest in (
+      λ e. let parts = all.0 e in λ i. record { kind = parts.0 i; ancestor = parts.1.0 i; columns = parts.1.1 i },
+      λ e. all.1 (ap (λ (d : IndexDef). d.kind) e, (ap (λ (d : IndexDef). d.ancestor) e, ap (λ (d : IndexDef). d.columns) e)),
+    )
 
 pub same_def-equiv : IsEquivalence same_def
 same_def-equiv = decided same_def same_def-decides

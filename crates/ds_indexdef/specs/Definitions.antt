@@ -1,5 +1,5 @@
 -- When two index definitions are the same, and which lists of them are kept.
-use Rattle.std.specs.Prelude.{ℕ, Bool, ◌&&◌, ◌^◌, ◌<◌, List, bytes_eq, length}
+use Rattle.std.specs.Prelude.{Bool, ◌&&◌, ◌^◌, ◌<◌, List, bytes_eq, length}
 use Rattle.std.specs.List.{IsDistinct}
 use Rattle.std.specs.Cmp.Lexicographic.{pointwise}
 use Rattle.std.proofs.Math.Bool.{beq}

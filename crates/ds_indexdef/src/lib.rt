@@ -3,6 +3,7 @@
 //! It stands on `ds_base`, whose `Column` is a column of an index too. Begin with `defs`; the definitions that the
 //! contracts cite are in `specs/Definitions`: when two definitions are the same, and what a list of them keeps.
 #![tactic(auto)]
+
 ghost use Rattle.std.specs.Prelude.{◌≡◌, ◌↔◌, IsTrue};
 ghost use Rattle.std.specs.Cmp.{partial_equiv_from_equiv};
 ghost use Rattle.ds_indexdef.specs.Definitions.{same_def};

@@ -1,5 +1,4 @@
-use Rattle.std.proofs.Common.{List, sym, subst, arith}
-use Rattle.ds_indexdef.specs.declared.IndexDef.{IndexDef}
+use Rattle.std.proofs.Common.{sym, subst}
 use Rattle.ds_indexdef.specs.Definitions.{AreDefs}
 use Rattle.ds_indexdef.specs.DefinitionLaws.{AreDefs-none}
 use Rattle.ds_indexdef.proofs.defs.Defs.new.Goals as goal

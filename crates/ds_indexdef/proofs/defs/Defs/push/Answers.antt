@@ -1,4 +1,4 @@
-use Rattle.std.proofs.Common.{◌≡◌, ◌+◌, ◌^◌, ◌<◌, List, [], ◌∷◌, ◌++◌, true, false, length, sym, ap, subst, ◌∙◌, arith}
+use Rattle.std.proofs.Common.{◌≡◌, ◌+◌, ◌^◌, ◌<◌, List, [], ◌∷◌, ◌++◌, false, length, sym, ap, subst, ◌∙◌, arith}
 use Rattle.std.specs.List.{list_any}
 use Rattle.std.specs.Prelude.{OnOk, IfErr, Ok, Err, Result}
 use Rattle.ds_indexdef.specs.declared.IndexDef.{IndexDef}
@@ -15,6 +15,6 @@ pub invariant_of-self : goal.invariant_of-self
 invariant_of-self c =
     let defs = c.self.inside.list in
     let fresh : list_any (same_def c.args.def) defs ≡ false =
-        sym (ap (list_any (same_def c.args.def)) c.as_slice.ensures) ∙ sym c.contains.ensures ∙ c.if-contains.false in
+    sym (ap (list_any (same_def c.args.def)) c.as_slice.ensures) ∙ sym c.contains.ensures ∙ c.if-contains.false in
     let room : length defs + 1 < 2 ^ 32 = omega (arith, c.len.ensures) in
     pushed c.push.result defs c.push.new.self c.args.def c.self.invariant (AreDefs-push defs c.args.def c.self.invariant fresh room) c.push.ensures.ok c.push.ensures.err
