@@ -1,1 +1,11 @@
+pub mod AncestorLaws
+pub mod ByteLaws
 pub mod Encoding
+pub mod EncodingLaws
+pub mod Lawful
+pub mod NumberLaws
+pub mod Ordered
+pub mod OrderedLaws
+pub mod RowLaws
+pub mod Rows
+pub mod SignedLaws
