@@ -36,8 +36,12 @@ abbrev pub ident_bytes : Ident → List ℕ
 ident_bytes (Id n) = 0x10 ∷ eight_bytes n
 ident_bytes (Name s) = 0x20 ∷ escaped s
 
+-- the kind, and then the identifier
+abbrev pub elem_rest : Elem → List ℕ
+elem_rest e = escaped e.kind ++ ident_bytes e.ident
+
 abbrev pub elem_bytes : Elem → List ℕ
-elem_bytes e = 0x02 ∷ escaped e.kind ++ ident_bytes e.ident
+elem_bytes e = 0x02 ∷ elem_rest e
 
 -- the elements, and an end that is below every further element
 abbrev pub path_bytes : List Elem → List ℕ

@@ -18,7 +18,7 @@ use Rattle.ds_base.specs.Keys.{KeyParts}
 use Rattle.ds_base.specs.KeyOrder.{bytes_cmp, ident_cmp, elem_cmp, key_cmp}
 use Rattle.ds_base.specs.IndexOrder.{index_value_cmp}
 use Rattle.ds_lanes.specs.Kernels.{complement}
-use Rattle.ds_bytes.specs.Encoding.{escaped_byte, escaped, eight_bytes, raised, ident_bytes, elem_bytes, path_bytes, namespace_bytes, key_bytes, value_bytes, directed, encoding, key_encoding}
+use Rattle.ds_bytes.specs.Encoding.{escaped_byte, escaped, eight_bytes, raised, ident_bytes, elem_rest, elem_bytes, path_bytes, namespace_bytes, key_bytes, value_bytes, directed, encoding, key_encoding}
 use Rattle.ds_bytes.specs.Lawful.{AreBytes, IsIdentOfBytes, IsElemOfBytes, IsKeyOfBytes, IsValueOfBytes}
 use Rattle.ds_bytes.specs.Ordered.{IsOrderedBy, directed_cmp}
 use Rattle.ds_bytes.specs.OrderedLaws.{then-assoc, bytes_cmp-front, tagged-ordered, fewer-ordered, seen-ordered, joined-ordered, list-ordered, complement-ordered, reads_once}
@@ -68,11 +68,7 @@ idents (Name s) (Name t) a b p q = texts s t a b
 pub ident_bytes-ordered : IsOrderedBy ident_cmp IsIdentOfBytes ident_bytes
 ident_bytes-ordered = record { compares = λ x y a b p q. idents x y a b p q }
 
--- an element, without the byte in front of it
-abbrev elem_rest : Elem → List ℕ
-elem_rest e = escaped e.kind ++ ident_bytes e.ident
-
-elem_rest-ordered : IsOrderedBy elem_cmp IsElemOfBytes elem_rest
+pub elem_rest-ordered : IsOrderedBy elem_cmp IsElemOfBytes elem_rest
 elem_rest-ordered = record {
   compares = λ x y a b p q.
     (joined-ordered escaped-ordered ident_bytes-ordered).compares (x.kind, x.ident) (y.kind, y.ident) a b (tt, p.ident) (tt, q.ident)

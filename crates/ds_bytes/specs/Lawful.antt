@@ -32,20 +32,24 @@ IsValueOfBytes (class.Bool b) = Unit {0}
 IsValueOfBytes (class.Bytes s) = AreBytes s
 IsValueOfBytes (class.Key k) = IsKeyOfBytes k
 
--- ---- what is a key or a value: also the rules of keys, and that kinds and names are texts
+-- ---- what is a key or a value: kinds, names and namespaces are also texts, and keys obey their rules
 
-abbrev pub IsTextIdent : Ident → Type 0
-IsTextIdent (Id n) = Unit {0}
-IsTextIdent (Name s) = IsUtf8 s
+pub record IsText (s : List ℕ) : Type 0 where
+  pub bytes : AreBytes s
+  pub utf8 : IsUtf8 s
 
-pub record IsTextElem (e : Elem) : Type 0 where
-  pub kind : IsUtf8 e.kind
-  pub ident : IsTextIdent e.ident
+abbrev pub IsLawfulIdent : Ident → Type 0
+IsLawfulIdent (Id n) = n < 2 ^ 64
+IsLawfulIdent (Name s) = IsText s
+
+pub record IsLawfulElem (e : Elem) : Type 0 where
+  pub kind : IsText e.kind
+  pub ident : IsLawfulIdent e.ident
 
 pub record IsLawfulKey (k : KeyParts) : Type 0 where
   pub rules : IsTrue (is_key k)
-  pub texts : All IsTextElem k.elems
-  pub bytes : IsKeyOfBytes k
+  pub namespace : IsText k.namespace
+  pub elems : All IsLawfulElem k.elems
 
 abbrev pub IsLawfulValue : IndexValue → Type 0
 IsLawfulValue class.Null = Unit {0}
