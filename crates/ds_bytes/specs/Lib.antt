@@ -1,4 +1,5 @@
 pub mod AncestorLaws
+pub mod Appending
 pub mod ByteLaws
 pub mod Encoding
 pub mod EncodingLaws

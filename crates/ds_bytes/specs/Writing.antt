@@ -1,13 +1,13 @@
--- What the pieces of an encoding leave of a buffer.
-use Rattle.std.specs.Prelude.{◌≡◌, ℕ, ◌+◌, ◌≤◌, Bool, List, ◌++◌, length, Result, OnOk, OnErr, IsOk}
-use Rattle.std.specs.declared.alloc.AllocError.{AllocError}
-use Rattle.ds_base.specs.Buffers.{BufferParts}
+-- What the pieces of an encoding leave of the buffer that they are put into.
+use Rattle.std.specs.Prelude.{◌≡◌, ℕ, ◌+◌, ◌≤◌, Bool, false, List, ◌++◌, length}
 use Rattle.ds_bytes.specs.Encoding.{directed}
+use Rattle.ds_bytes.specs.declared.output.Output.{Output}
 
--- The bytes are put at the end of a buffer in the direction. For want of memory alone some of them may be missing; that
--- never happens where the room suffices, and they take no more room than they are long.
-pub record Puts (descending : Bool) (bytes : List ℕ) (result : Result (Unit {0}) AllocError) (old new : BufferParts) : Type 0 where
-  pub ok : OnOk result (new.bytes ≡ old.bytes ++ directed descending bytes)
-  pub room : OnOk result (old.spare ≤ new.spare + length bytes)
-  pub err : OnErr result ((front : List ℕ) × (new.bytes ≡ old.bytes ++ front))
-  pub succeeds : length bytes ≤ old.spare → IsOk result
+-- The bytes stand at the end of the buffer in the output's direction, unless memory was refused. It isn't where the room
+-- suffices, and the bytes take no more room than they are long. Once it was refused the output takes nothing more.
+pub record Puts (bytes : List ℕ) (old new : Output) : Type 0 where
+  pub same : (new.descending ≡ old.descending) × (new.before ≡ old.before)
+  pub ok : new.refused ≡ false → (old.refused ≡ false) × (new.buffer.bytes ≡ old.buffer.bytes ++ directed old.descending bytes)
+  pub room : new.refused ≡ false → old.buffer.spare ≤ new.buffer.spare + length bytes
+  pub behind : (more : List ℕ) × (new.buffer.bytes ≡ old.buffer.bytes ++ more)
+  pub succeeds : old.refused ≡ false → length bytes ≤ old.buffer.spare → new.refused ≡ false

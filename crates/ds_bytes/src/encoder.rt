@@ -1,12 +1,13 @@
 //! Keys and values as bytes.
-ghost use Rattle.std.specs.Prelude.{◌≡◌, ◌+◌, ◌≤◌, ◌++◌, ◌∷◌, flat_map, length, take, All, OnOk, OnErr, IsOk};
-ghost use Rattle.ds_bytes.specs.Encoding.{encoding, key_encoding, eight_bytes, raised, ident_bytes, elem_bytes, key_bytes, namespace_bytes, path_bytes, value_bytes};
-ghost use Rattle.ds_bytes.specs.Lawful.{IsLawfulValue, IsLawfulKey, IsLawfulElem, IsLawfulIdent};
+ghost use Rattle.std.specs.Prelude.{◌≡◌, ◌+◌, ◌≤◌, ◌++◌, ◌∷◌, length, All, OnOk, OnErr, IsOk};
+ghost use Rattle.ds_bytes.specs.Encoding.{escaped, encoding, key_encoding, eight_bytes, raised, ident_bytes, elem_bytes, key_bytes, namespace_bytes, path_bytes, value_bytes};
+ghost use Rattle.ds_bytes.specs.Lawful.{IsText, IsLawfulValue, IsLawfulKey, IsLawfulElem, IsLawfulIdent};
 ghost use Rattle.ds_bytes.specs.Writing.{Puts};
+ghost use Rattle.ds_bytes.specs.Appending.{Appends};
 
-use crate::output::{put, put_text};
+use crate::output::{Output, begin, end, put, put_text};
 use core::mem::replace_with;
-use ds_base::{Buffer, ByteString, Elem, Ident, IndexValue, Key, NoMemory, TextString};
+use ds_base::{Buffer, Elem, Ident, IndexValue, Key, NoMemory, TextString};
 
 /// Puts the encoding of a value at the end of `onto`: its class as one byte, and then what tells it from other values of the
 /// class, so that the order of the bytes is that of the values. Where `descending` is true each byte is taken from 255, which
@@ -17,16 +18,11 @@ pub fn encode(value: &IndexValue, descending: bool, onto: &mut Buffer) -> Result
     ensures room { OnOk result (onto.old.spare ≤ onto.new.spare + length (encoding descending value.now)) }
     ensures err { OnErr result (onto.new.bytes ≡ onto.old.bytes) }
     ensures succeeds { length (encoding descending value.now) ≤ onto.old.spare → IsOk result }
-    ensures lawful { OnOk result (IsLawfulValue value.now) }
+    ensures lawful { IsLawfulValue value.now }
 {
-    let before = onto.bytes().len();
-    match put_value(value, descending, onto) {
-        Ok(()) => Ok(()),
-        Err(refused) => {
-            cut(onto, before);
-            Err(refused)
-        }
-    }
+    replace_with(onto, value, |buffer: Buffer, value: &IndexValue| {
+        append_value(buffer, value, descending)
+    })
 }
 
 /// Puts the encoding of a key at the end of `onto`, without the class that stands before it as a value: as `encode` does.
@@ -35,48 +31,47 @@ pub fn encode_key(key: &Key, descending: bool, onto: &mut Buffer) -> Result<(), 
     ensures room { OnOk result (onto.old.spare ≤ onto.new.spare + length (key_encoding descending key.now)) }
     ensures err { OnErr result (onto.new.bytes ≡ onto.old.bytes) }
     ensures succeeds { length (key_encoding descending key.now) ≤ onto.old.spare → IsOk result }
-    ensures lawful { OnOk result (IsLawfulKey key.now) }
+    ensures lawful { IsLawfulKey key.now }
 {
-    let before = onto.bytes().len();
-    match put_key(key, descending, onto) {
-        Ok(()) => Ok(()),
-        Err(refused) => {
-            cut(onto, before);
-            Err(refused)
-        }
-    }
+    replace_with(onto, key, |buffer: Buffer, key: &Key| {
+        append_key(buffer, key, descending)
+    })
 }
 
-/// Leaves the first `length` bytes.
-fn cut(onto: &mut Buffer, length: usize)
-    ensures { onto.new.bytes ≡ take length onto.old.bytes }
+/// The buffer with the encoding of the value at its end, where it wasn't refused.
+fn append_value(buffer: Buffer, value: &IndexValue, descending: bool) -> (Buffer, Result<(), NoMemory>)
+    ensures { Appends (encoding descending value.now) (IsLawfulValue value.now) buffer result.0 result.1 }
 {
-    replace_with(
-        onto,
-        length,
-        |buffer: Buffer, length: usize| -> (Buffer, ()) {
-            let mut bytes = ByteString::from(buffer).into_vec();
-            bytes.truncate(length);
-            (Buffer::from(ByteString::from_vec(bytes)), ())
-        },
-    )
+    let mut output = begin(buffer, descending);
+    put_value(value, &mut output);
+    end(output)
 }
 
-fn put_value(value: &IndexValue, descending: bool, onto: &mut Buffer) -> Result<(), NoMemory>
-    ensures puts { Puts descending (value_bytes value.now) result onto.old onto.new }
-    ensures lawful { OnOk result (IsLawfulValue value.now) }
+/// The buffer with the encoding of the key at its end, where it wasn't refused.
+fn append_key(buffer: Buffer, key: &Key, descending: bool) -> (Buffer, Result<(), NoMemory>)
+    ensures { Appends (key_encoding descending key.now) (IsLawfulKey key.now) buffer result.0 result.1 }
+{
+    let mut output = begin(buffer, descending);
+    put_key(key, &mut output);
+    end(output)
+}
+
+fn put_value(value: &IndexValue, output: &mut Output)
+    ensures puts { Puts (value_bytes value.now) output.old output.new }
+    ensures lawful { IsLawfulValue value.now }
 {
     match value {
-        IndexValue::Null => put(&[0x10], descending, onto),
-        IndexValue::Num(number) => put_number(0x20, raised(*number), descending, onto),
-        IndexValue::Bool(truth) => put(&[0x30, u8::from(*truth)], descending, onto),
-        IndexValue::Bytes(bytes) => {
-            put(&[0x40], descending, onto)?;
-            put_text(bytes.bytes(), descending, onto)
+        IndexValue::Null => put(&[0x10], output),
+        IndexValue::Num(number) => put_number(0x20, raised(*number), output),
+        IndexValue::Bool(truth) => put(&[0x30, u8::from(*truth)], output),
+        IndexValue::Bytes(sequence) => {
+            let bytes = sequence.bytes();
+            put(&[0x40], output);
+            put_text(bytes, output);
         }
         IndexValue::Key(key) => {
-            put(&[0x50], descending, onto)?;
-            put_key(key, descending, onto)
+            put(&[0x50], output);
+            put_key(key, output);
         }
     }
 }
@@ -89,61 +84,67 @@ fn raised(number: i64) -> u64
 }
 
 /// Puts the tag and the number as 8 bytes, highest first.
-fn put_number(tag: u8, number: u64, descending: bool, onto: &mut Buffer) -> Result<(), NoMemory>
-    ensures { Puts descending (tag ∷ eight_bytes number) result onto.old onto.new }
+fn put_number(tag: u8, number: u64, output: &mut Output)
+    ensures { Puts (tag ∷ eight_bytes number) output.old output.new }
 {
     let [a, b, c, d, e, f, g, h] = number.to_be_bytes();
-    put(&[tag, a, b, c, d, e, f, g, h], descending, onto)
+    put(&[tag, a, b, c, d, e, f, g, h], output);
 }
 
-fn put_key(key: &Key, descending: bool, onto: &mut Buffer) -> Result<(), NoMemory>
-    ensures puts { Puts descending (key_bytes key.now) result onto.old onto.new }
-    ensures lawful { OnOk result (IsLawfulKey key.now) }
+fn put_key(key: &Key, output: &mut Output)
+    ensures puts { Puts (key_bytes key.now) output.old output.new }
+    ensures lawful { IsLawfulKey key.now }
 {
-    put_namespace(key.namespace(), descending, onto)?;
-    put_path(key.elems().as_slice(), descending, onto)
+    put_namespace(key.namespace(), output);
+    put_path(key.elems().as_slice(), output);
 }
 
 /// Puts a namespace other than the default; the default one is nothing.
-fn put_namespace(namespace: &TextString, descending: bool, onto: &mut Buffer) -> Result<(), NoMemory>
-    ensures { Puts descending (namespace_bytes namespace.now) result onto.old onto.new }
+fn put_namespace(namespace: &TextString, output: &mut Output)
+    ensures puts { Puts (namespace_bytes namespace.now) output.old output.new }
+    ensures lawful { IsText namespace.now }
 {
     let bytes = namespace.bytes();
-    if bytes.is_empty() {
-        return Ok(());
+    if !bytes.is_empty() {
+        put(&[0x03], output);
+        put_text(bytes, output);
     }
-    put(&[0x03], descending, onto)?;
-    put_text(bytes, descending, onto)
 }
 
-fn put_path(path: &[Elem], descending: bool, onto: &mut Buffer) -> Result<(), NoMemory>
-    ensures puts { Puts descending (path_bytes path.now) result onto.old onto.new }
-    ensures lawful { OnOk result (All IsLawfulElem path.now) }
+/// Puts a text escaped, behind the byte that announces it.
+fn put_tagged(tag: u8, text: &TextString, output: &mut Output)
+    ensures puts { Puts (tag ∷ escaped text.now) output.old output.new }
+    ensures lawful { IsText text.now }
+{
+    let bytes = text.bytes();
+    put(&[tag], output);
+    put_text(bytes, output);
+}
+
+fn put_path(path: &[Elem], output: &mut Output)
+    ensures puts { Puts (path_bytes path.now) output.old output.new }
+    ensures lawful { All IsLawfulElem path.now }
 {
     for elem in path {
-        put_elem(elem, descending, onto)?;
+        put_elem(elem, output);
     }
-    put(&[0x01], descending, onto)
+    put(&[0x01], output);
 }
 
-fn put_elem(elem: &Elem, descending: bool, onto: &mut Buffer) -> Result<(), NoMemory>
-    ensures puts { Puts descending (elem_bytes elem.now) result onto.old onto.new }
-    ensures lawful { OnOk result (IsLawfulElem elem.now) }
+fn put_elem(elem: &Elem, output: &mut Output)
+    ensures puts { Puts (elem_bytes elem.now) output.old output.new }
+    ensures lawful { IsLawfulElem elem.now }
 {
-    put(&[0x02], descending, onto)?;
-    put_text(elem.kind.bytes(), descending, onto)?;
-    put_ident(&elem.ident, descending, onto)
+    put_tagged(0x02, &elem.kind, output);
+    put_ident(&elem.ident, output);
 }
 
-fn put_ident(ident: &Ident, descending: bool, onto: &mut Buffer) -> Result<(), NoMemory>
-    ensures puts { Puts descending (ident_bytes ident.now) result onto.old onto.new }
-    ensures lawful { OnOk result (IsLawfulIdent ident.now) }
+fn put_ident(ident: &Ident, output: &mut Output)
+    ensures puts { Puts (ident_bytes ident.now) output.old output.new }
+    ensures lawful { IsLawfulIdent ident.now }
 {
     match ident {
-        Ident::Id(id) => put_number(0x10, *id, descending, onto),
-        Ident::Name(name) => {
-            put(&[0x20], descending, onto)?;
-            put_text(name.bytes(), descending, onto)
-        }
+        Ident::Id(id) => put_number(0x10, *id, output),
+        Ident::Name(name) => put_tagged(0x20, name, output),
     }
 }

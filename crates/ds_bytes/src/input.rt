@@ -5,12 +5,10 @@ ghost use Rattle.ds_bytes.specs.Encoding.{directed, escaped, eight_bytes};
 ghost use Rattle.ds_bytes.specs.Lawful.{AreBytes, IsText};
 ghost use Rattle.ds_bytes.specs.Reading.{Begins, NoneBegins, Reads};
 
+use crate::blocks::BLOCK;
 use ds_base::{ByteString, NoMemory, TextString};
 use ds_lanes::{complement, first_zero};
 use std::alloc::Global;
-
-/// How many bytes are turned round at once.
-const BLOCK: usize = 128;
 
 /// Leaves in `dst` the bytes of `src` as they stand in ascending order.
 fn direct(dst: &mut [u8], src: &[u8], descending: bool)

@@ -7,6 +7,7 @@
 //! (`AncestorLaws`); and how writings in order are put together (`OrderedLaws`).
 #![tactic(auto)]
 
+mod blocks;
 pub mod decoder;
 pub mod encoder;
 mod input;
