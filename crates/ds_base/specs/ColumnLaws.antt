@@ -13,9 +13,10 @@ pub same_column-decides : (x y : Column) → Decides (same_column x y) (x ≡ y)
 same_column-decides x y =
     let names = bytes_eq-Decides x.name y.name in
     let directions = booleans_Decides x.descending y.descending in
-    let both = Decides-and (bytes_eq x.name y.name) (beq x.descending y.descending) names directions in
-    (λ e. let parts = both.0 e in λ i. record { name = parts.0 i; descending = parts.1 i },
-    λ e. both.1 (ap (λ (c : Column). c.name) e, ap (λ (c : Column). c.descending) e))
+    let both = Decides-and (bytes_eq x.name y.name) (beq x.descending y.descending) names directions in (
+      λ e. let parts = both.0 e in λ i. record { name = parts.0 i; descending = parts.1 i },
+      λ e. both.1 (ap (λ (c : Column). c.name) e, ap (λ (c : Column). c.descending) e),
+    )
 
 pub same_column-equiv : IsEquivalence same_column
 same_column-equiv = decided same_column same_column-decides
