@@ -1,0 +1,4 @@
+pub mod Chains
+pub mod Escapes
+pub mod Selection
+pub mod Symbols

@@ -1,0 +1,71 @@
+//! The places of things with names, by name in byte order.
+ghost use Rattle.std.specs.Prelude.{◌≡◌, ℕ, List, ◌+◌, ◌<◌, ◌≤◌, length, map, slice_index};
+ghost use Rattle.ds_reply.specs.Orders.{OrdersByName, Stands};
+
+use arrayvec::ArrayVec;
+use std::cmp::Ordering;
+
+/// Has a name by which it stands in an object.
+pub(crate) trait HasName {
+    ghost text: { Self → List ℕ };
+
+    /// Its name.
+    fn name(&self) -> &[u8]
+        ensures { result.now ≡ text self.now };
+}
+
+/// How many things are ordered without memory.
+pub(crate) const MOST_PLACES: usize = 64;
+
+/// Places of things, in the order in which they are written.
+pub(crate) type Places = ArrayVec<u8, MOST_PLACES>;
+
+/// The places of the things, by name in byte order; of those with one name the last alone.
+pub(crate) fn places_by_name<T: HasName>(items: &[T]) -> Places
+    requires { length items.now ≤ 64 }
+    ensures { OrdersByName (map T.text items.now) (length items.now) result.items }
+{
+    let mut places = ArrayVec::new();
+    for i in 0..items.len() {
+        place(items, &mut places, i);
+    }
+    places
+}
+
+/// Puts the place `i` where its name stands among the others.
+fn place<T: HasName>(items: &[T], places: &mut Places, i: usize)
+    requires within { i < length items.now }
+    requires few { length items.now ≤ 64 }
+    requires ordered { OrdersByName (map T.text items.now) i places.old.items }
+    ensures { OrdersByName (map T.text items.now) (i + 1) places.new.items }
+{
+    match stand(items, places.as_slice(), items[i].name()) {
+        Stand::Before(at) => places.insert(at, i as u8),
+        Stand::At(at) => places[at] = i as u8,
+    }
+}
+
+/// Where a name stands among others.
+enum Stand {
+    /// At this place, before the names from there on.
+    Before(usize),
+    /// At the place that has it already.
+    At(usize),
+}
+
+/// Where the name stands among those of the places, which are in order. It is looked for from the end, since most things
+/// come in their order.
+fn stand<T: HasName>(items: &[T], places: &[u8], name: &[u8]) -> Stand
+    requires { (k : ℕ) → k < length places.now → slice_index places.now k < length items.now }
+    ensures { Stands (map T.text items.now) places.now name.now result }
+{
+    let mut at = places.len();
+    while at > 0 {
+        match items[places[at - 1] as usize].name().cmp(name) {
+            Ordering::Less => return Stand::Before(at),
+            Ordering::Equal => return Stand::At(at - 1),
+            Ordering::Greater => at -= 1,
+        }
+    }
+    Stand::Before(0)
+}
