@@ -1,4 +1,5 @@
 pub mod Chains
 pub mod Escapes
+pub mod OrderLemmas
 pub mod Selection
 pub mod Symbols

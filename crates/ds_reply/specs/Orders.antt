@@ -6,8 +6,8 @@ use Rattle.std.specs.Cmp.Lexicographic.{slice_cmp}
 use Rattle.serde_json.specs.Data.{null, Members, no_members, member}
 use Rattle.serde_json.specs.Written.{compact_text}
 use Rattle.json.specs.Print.{quoted}
-use Rattle.ds_reply.specs.declared.order.Stand.{Stand}
-use Rattle.ds_reply.specs.declared.order.Stand.TheVariants as stand
+use Rattle.ds_reply.specs.declared.order.Rank.{Rank}
+use Rattle.ds_reply.specs.declared.order.Rank.TheVariants as rank
 use Rattle.ds_reply.specs.declared.projection.Order.{Order}
 use Rattle.ds_reply.specs.declared.projection.Order.TheVariants as order
 use Rattle.ds_reply.specs.Members.{Named, named, by_name}
@@ -37,11 +37,10 @@ pub record OrdersByName (ns : List (List ℕ)) (n : ℕ) (ps : List ℕ) : Type 
   pub written : (ms : List Named) → map (λ m. m.name) ms ≡ ns → members_at ms ps ≡ by_name (take n ms)
 
 -- where a name stands among those of the places
-abbrev pub Stands : List (List ℕ) → List ℕ → List ℕ → Stand → Type 0
-Stands ns ps name (stand.Before at) =
-    (at ≤ length ps) × (0 < at → IsBefore (name_at ns ps (at - 1)) name)
-    × ((k : ℕ) → at ≤ k → k < length ps → IsBefore name (name_at ns ps k))
-Stands ns ps name (stand.At at) = (at < length ps) × (name_at ns ps at ≡ name)
+abbrev pub Ranks : List (List ℕ) → List ℕ → List ℕ → Rank → Type 0
+Ranks ns ps name (rank.Before at) =
+    (at ≤ length ps) × (0 < at → IsBefore (name_at ns ps (at - 1)) name) × (at < length ps → IsBefore name (name_at ns ps at))
+Ranks ns ps name (rank.At at) = (at < length ps) × (slice_cmp nat_cmp (name_at ns ps at) name ≡ Equal)
 
 -- each name stands before the next
 abbrev pub NamesAscend : List (List ℕ) → Type 0

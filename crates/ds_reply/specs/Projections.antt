@@ -4,8 +4,13 @@ use Rattle.std.specs.Ordering.{is_lt, nat_cmp}
 use Rattle.std.specs.Cmp.Lexicographic.{slice_cmp}
 use Rattle.ds_base.specs.declared.index_value.IndexValue.{IndexValue}
 use Rattle.ds_base.specs.declared.index_value.IndexValue.TheVariants as index
-use Rattle.ds_reply.specs.Printing.{projected_members, index_value_data}
+use Rattle.ds_reply.specs.Printing.{projected, index_value_data}
+use Rattle.ds_reply.specs.Members.{put_each}
 use Rattle.serde_json.specs.Data.{Members, no_members, member}
+
+-- the members with a projection's values put among them
+abbrev pub projected_members : List (List ℕ) → List IndexValue → Members → Members
+projected_members ns vs ms = put_each (projected ns vs) ms
 
 -- does the first name come before the second, in byte order?
 abbrev pub before : List ℕ → List ℕ → Bool

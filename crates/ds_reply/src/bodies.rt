@@ -27,7 +27,7 @@ pub(crate) fn members_of<'a>(reply: &'a Reply) -> Members<'a>
 /// The members with those of the body behind them.
 fn with_body<'a>(members: Members<'a>, body: &'a Body) -> Members<'a>
     requires { array_vec_len members ≤ 2 }
-    ensures items { map member_named result.items ≡ map member_named members.items ++ body_members body.now }
+    ensures items { map member_named result.items ≡ map member_named members.entry.items ++ body_members body.now }
     ensures few { array_vec_len result ≤ 8 }
 {
     match body {
@@ -106,7 +106,7 @@ fn found<'a>(
 ) -> Members<'a>
     requires { array_vec_len members ≤ 2 }
     ensures items { map member_named result.items
-        ≡ map member_named members.items ++ done op.now (found select.now items.now seen.now cursor.now) }
+        ≡ map member_named members.entry.items ++ done op.now (found select.now items.now seen.now cursor.now) }
     ensures few { array_vec_len result ≤ 8 }
 {
     let found = results(b"results", select, items);
@@ -135,7 +135,7 @@ fn done<'a>(members: Members<'a>, op: &'static [u8], more: &[Member<'a>]) -> Mem
     requires begun { array_vec_len members ≤ 2 }
     requires few { length more.now ≤ 4 }
     ensures items { map member_named result.items
-        ≡ map member_named members.items ++ done op.now (map member_named more.now) }
+        ≡ map member_named members.entry.items ++ done op.now (map member_named more.now) }
     ensures few { array_vec_len result ≤ 8 }
 {
     let mut members = members;

@@ -59,7 +59,7 @@ impl HasName for Member<'_> {
 /// The members with more behind them.
 pub(crate) fn with_members<'a>(members: Members<'a>, more: &[Member<'a>]) -> Members<'a>
     requires { array_vec_len members + length more.now ≤ 8 }
-    ensures { result.items ≡ members.items ++ more.now }
+    ensures { result.items ≡ members.entry.items ++ more.now }
 {
     let mut members = members;
     for member in more {

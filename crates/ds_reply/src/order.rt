@@ -1,6 +1,6 @@
 //! The places of things with names, by name in byte order.
 ghost use Rattle.std.specs.Prelude.{◌≡◌, ℕ, List, ◌+◌, ◌<◌, ◌≤◌, length, map, slice_index};
-ghost use Rattle.ds_reply.specs.Orders.{OrdersByName, Stands};
+ghost use Rattle.ds_reply.specs.Orders.{OrdersByName, Ranks};
 
 use arrayvec::ArrayVec;
 use std::cmp::Ordering;
@@ -39,14 +39,14 @@ fn place<T: HasName>(items: &[T], places: &mut Places, i: usize)
     requires ordered { OrdersByName (map T.text items.now) i places.old.items }
     ensures { OrdersByName (map T.text items.now) (i + 1) places.new.items }
 {
-    match stand(items, places.as_slice(), items[i].name()) {
-        Stand::Before(at) => places.insert(at, i as u8),
-        Stand::At(at) => places[at] = i as u8,
+    match rank_of(items, places.as_slice(), items[i].name()) {
+        Rank::Before(at) => places.insert(at, i as u8),
+        Rank::At(at) => places[at] = i as u8,
     }
 }
 
 /// Where a name stands among others.
-enum Stand {
+enum Rank {
     /// At this place, before the names from there on.
     Before(usize),
     /// At the place that has it already.
@@ -55,17 +55,17 @@ enum Stand {
 
 /// Where the name stands among those of the places, which are in order. It is looked for from the end, since most things
 /// come in their order.
-fn stand<T: HasName>(items: &[T], places: &[u8], name: &[u8]) -> Stand
+fn rank_of<T: HasName>(items: &[T], places: &[u8], name: &[u8]) -> Rank
     requires { (k : ℕ) → k < length places.now → slice_index places.now k < length items.now }
-    ensures { Stands (map T.text items.now) places.now name.now result }
+    ensures { Ranks (map T.text items.now) places.now name.now result }
 {
     let mut at = places.len();
     while at > 0 {
         match items[places[at - 1] as usize].name().cmp(name) {
-            Ordering::Less => return Stand::Before(at),
-            Ordering::Equal => return Stand::At(at - 1),
+            Ordering::Less => return Rank::Before(at),
+            Ordering::Equal => return Rank::At(at - 1),
             Ordering::Greater => at -= 1,
         }
     }
-    Stand::Before(0)
+    Rank::Before(0)
 }

@@ -13,6 +13,7 @@ use crate::values::write_index_value;
 use ds_base::{IndexValue, TextString};
 
 /// In which order the values of a projection are written.
+#[derive(Drop)]
 pub(crate) enum Order {
     /// As they are given: the names ascend.
     AsGiven,

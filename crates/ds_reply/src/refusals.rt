@@ -12,7 +12,7 @@ use ds_query::Field;
 /// The members with those of the refusal behind them; what went well is none.
 pub(crate) fn refusal<'a>(members: Members<'a>, body: &'a Body) -> Members<'a>
     requires { array_vec_len members ≤ 2 }
-    ensures items { map member_named result.items ≡ map member_named members.items ++ refusal_members body.now }
+    ensures items { map member_named result.items ≡ map member_named members.entry.items ++ refusal_members body.now }
     ensures few { array_vec_len result ≤ 8 }
 {
     match body {
@@ -129,7 +129,7 @@ fn refused<'a>(
     requires begun { array_vec_len members ≤ 2 }
     requires few { length more.now ≤ 4 }
     ensures items { map member_named result.items
-        ≡ map member_named members.items ++ refused code name.now (map member_named more.now) }
+        ≡ map member_named members.entry.items ++ refused code name.now (map member_named more.now) }
     ensures few { array_vec_len result ≤ 8 }
 {
     let mut members = members;

@@ -1,5 +1,5 @@
 //! Numbers, texts and byte strings as JSON.
-ghost use Rattle.std.specs.Prelude.{◌≡◌, ℕ, ◌∷◌, ◌++◌, [], decimal, ◌*◌, ◌≤◌, ◌<◌, length, take, true};
+ghost use Rattle.std.specs.Prelude.{◌≡◌, ℕ, ◌∷◌, ◌++◌, [], decimal, ◌^◌, ◌≤◌, ◌<◌, length, take, true};
 ghost use Rattle.std.specs.Char.{digit_char};
 ghost use Rattle.json.specs.Print.{escape_letter, escape_byte, escape, quoted};
 ghost use Rattle.serde_json.specs.Data.{boolean};
@@ -116,6 +116,7 @@ fn write_escaped<O: Output>(text: &[u8], out: &mut O)
 /// How many of the first bytes stand for themselves, as far as that is seen at once.
 fn plain_run(text: &[u8]) -> usize
     ensures within { result ≤ length text.now }
+    ensures in_memory { result < 2 ^ 63 }
     ensures plain { escape (take result text.now) ≡ take result text.now }
 {
     let mut run = plain_chunks(text);

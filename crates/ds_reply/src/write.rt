@@ -7,9 +7,9 @@ use crate::bodies::members_of;
 use crate::object::write_object;
 use crate::output::{Count, Growing, Output};
 use crate::reply::Reply;
+use core::mem::replace_with;
 use ds_base::{Buffer, NoMemory};
 use std::alloc::AllocError;
-use std::mem;
 
 /// How many bytes the reply's line has, or 2^64 - 1 where they are more. It takes no memory.
 pub fn reply_room(reply: &Reply) -> u64
@@ -32,7 +32,7 @@ pub fn write_reply(reply: &Reply, onto: &mut Buffer) -> Result<(), NoMemory>
     ensures kept { OnErr result (onto.old.spare ≤ onto.new.spare) }
 {
     let length = onto.bytes().len();
-    let refused = mem::replace_with(onto, reply, append_line);
+    let refused = replace_with(onto, reply, append_line);
     if refused {
         onto.truncate(length);
         return Err(AllocError);
