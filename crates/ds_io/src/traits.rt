@@ -1,6 +1,6 @@
 //! The traits of the outside, and their refusals.
-ghost use Rattle.std.specs.Prelude.{◌≡◌, ℕ, ◌+◌, ◌<◌, ◌≤◌, ◌++◌, [], List, Option, length, take, drop, option_map, IfOk, OnErr, IfSome, Err};
-ghost use Rattle.ds_io.specs.Faults.{Rose};
+ghost use Rattle.std.specs.Prelude.{◌≡◌, ℕ, ◌+◌, ◌<◌, ◌≤◌, ◌++◌, [], List, Option, length, take, drop, option_map, IfOk, OnOk, OnErr, IfSome, Err};
+ghost use Rattle.ds_io.specs.Faults.{Rose, next_count};
 
 use ds_base::ByteString;
 use std::alloc::{AllocError, Global};
@@ -52,6 +52,8 @@ pub trait Source {
 
         ensures loses_nothing { OnErr result (left self.new ≡ left self.old) }
         ensures failed_by_a_fault { OnErr result (Rose (faults self.old) (faults self.new)) }
+        ensures counts_the_fault { OnErr result (faults self.new ≡ next_count (faults self.old)) }
+        ensures counts_no_other { OnOk result (faults self.new ≡ faults self.old) }
         ensures faults_stay_counted { faults self.old ≤ faults self.new };
 }
 
@@ -72,6 +74,8 @@ pub trait Sink {
 
         ensures takes_nothing { OnErr result (held self.new ≡ held self.old) }
         ensures failed_by_a_fault { OnErr result (Rose (faults self.old) (faults self.new)) }
+        ensures counts_the_fault { OnErr result (faults self.new ≡ next_count (faults self.old)) }
+        ensures counts_no_other { OnOk result (faults self.new ≡ faults self.old) }
         ensures faults_stay_counted { faults self.old ≤ faults self.new };
 }
 
