@@ -3,3 +3,4 @@ pub mod Escapes
 pub mod OrderLemmas
 pub mod Selection
 pub mod Symbols
+pub mod Telling

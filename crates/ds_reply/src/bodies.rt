@@ -138,7 +138,7 @@ fn done<'a>(members: Members<'a>, op: &'static [u8], more: &[Member<'a>]) -> Mem
         ≡ map member_named members.entry.items ++ done op.now (map member_named more.now) }
     ensures few { array_vec_len result ≤ 8 }
 {
-    let mut members = members;
-    members.push(text(b"ok", op));
-    with_members(members, more)
+    let mut begun = members;
+    begun.push(text(b"ok", op));
+    with_members(begun, more)
 }

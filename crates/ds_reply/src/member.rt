@@ -61,11 +61,11 @@ pub(crate) fn with_members<'a>(members: Members<'a>, more: &[Member<'a>]) -> Mem
     requires { array_vec_len members + length more.now ≤ 8 }
     ensures { result.items ≡ members.entry.items ++ more.now }
 {
-    let mut members = members;
+    let mut all = members;
     for member in more {
-        members.push(*member);
+        all.push(*member);
     }
-    members
+    all
 }
 
 /// A member that is a number.

@@ -132,10 +132,10 @@ fn refused<'a>(
         ≡ map member_named members.entry.items ++ refused code name.now (map member_named more.now) }
     ensures few { array_vec_len result ≤ 8 }
 {
-    let mut members = members;
-    members.push(number(b"error", code));
-    members.push(text(b"name", name));
-    with_members(members, more)
+    let mut begun = members;
+    begun.push(number(b"error", code));
+    begun.push(text(b"name", name));
+    with_members(begun, more)
 }
 
 /// The member of the request that is refused.
