@@ -1,6 +1,7 @@
 pub mod Chains
 pub mod Escapes
 pub mod OrderLemmas
+pub mod Projecting
 pub mod Selection
 pub mod Symbols
 pub mod Telling

@@ -17,11 +17,11 @@ use Rattle.ds_reply.specs.Orders.{members_at, name_at, IsBefore, OrdersByName}
 abbrev C : List ℕ → List ℕ → Ordering
 C = slice_cmp nat_cmp
 
-IsBefore-trans : (k l m : List ℕ) → IsBefore k l → IsBefore l m → IsBefore k m
+pub IsBefore-trans : (k l m : List ℕ) → IsBefore k l → IsBefore l m → IsBefore k m
 IsBefore-trans k l m a b = nat_list_cmp_total.trans k l m a b
 
 -- a name that stands before the other is less, and the other greater
-behind : (n l : List ℕ) → IsBefore l n → C n l ≡ Greater
+pub behind : (n l : List ℕ) → IsBefore l n → C n l ≡ Greater
 behind n l h = nat_list_cmp_total.antisymm n l ∙ ap ordering_reverse h
 
 pub turned : (n l : List ℕ) → C l n ≡ Greater → IsBefore n l
@@ -37,7 +37,7 @@ same-reverse n l h = nat_list_cmp_total.antisymm n l ∙ ap ordering_reverse h
 
 -- ---- members at places, with one more put among them
 
-abbrev at_place : List Named → ℕ → Named
+abbrev pub at_place : List Named → ℕ → Named
 at_place ms p = get_or ms p (named [] null)
 
 pub members_at-insert : (ms : List Named) (i : ℕ) (ps : List ℕ) (at : ℕ) → at ≤ length ps

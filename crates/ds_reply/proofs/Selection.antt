@@ -23,7 +23,7 @@ is_lt-less Less e = refl
 is_lt-less Equal e = cc
 is_lt-less Greater e = cc
 
-less-before : (k l : List ℕ) → before k l ≡ true → C k l ≡ Less
+pub less-before : (k l : List ℕ) → before k l ≡ true → C k l ≡ Less
 less-before k l e = is_lt-less (C k l) e
 
 before-less : (k l : List ℕ) → Less ≡ C k l → before k l ≡ true
