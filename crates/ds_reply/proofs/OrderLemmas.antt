@@ -152,9 +152,9 @@ module _ (ns : List (List ℕ)) (i : ℕ) (ps : List ℕ) (at : ℕ) (lt : i < l
     below = λ k b. below k (omega (arith, new));
     ascend = λ j k b within. ascend j k b (omega (arith, new));
     written = λ ms e.
-    let whole = members_at-insert ms i ps at le (λ k b. name-before ms ns (get_or ps k 0) i e (low k b)) (λ b. name-before ms ns i (get_or ps at 0) e (next b)) in
-    let more = by_name-more ms i (omega (arith, names-length ms ns e)) in
-    whole ∙ ap (λ (r : Members). put (at_place ms i).name (at_place ms i).shown r) (old.written ms e) ∙ sym more;
+        let whole = members_at-insert ms i ps at le (λ k b. name-before ms ns (get_or ps k 0) i e (low k b)) (λ b. name-before ms ns i (get_or ps at 0) e (next b)) in
+        let more = by_name-more ms i (omega (arith, names-length ms ns e)) in
+        whole ∙ ap (λ (r : Members). put (at_place ms i).name (at_place ms i).shown r) (old.written ms e) ∙ sym more;
   } where
     new : length (insert ps at i) ≡ length ps + 1
     new = length-insert ps at i le
@@ -211,12 +211,12 @@ module _ (ns : List (List ℕ)) (i : ℕ) (ps : List ℕ) (at : ℕ) (lt : i < l
     few = omega (arith, old.few, length-set {A = ℕ});
     below = λ k within. below k (omega (arith, length-set {A = ℕ}));
     ascend = λ j k less within.
-    let l : k < length ps = omega (arith, length-set {A = ℕ}) in
-    subst (λ (n : List ℕ). IsBefore n (name_at ns (set ps at i) k)) (sym (name j (omega arith))) (subst (λ (n : List ℕ). IsBefore (name_at ns ps j) n) (sym (name k l)) (old.ascend j k less l));
+        let l : k < length ps = omega (arith, length-set {A = ℕ}) in
+        subst (λ (n : List ℕ). IsBefore n (name_at ns (set ps at i) k)) (sym (name j (omega arith))) (subst (λ (n : List ℕ). IsBefore (name_at ns ps j) n) (sym (name k l)) (old.ascend j k less l));
     written = λ ms e.
-    let whole = members_at-set ms i ps at b (λ k less. name-before ms ns (get_or ps k 0) i e (low k less)) (rw (name-is ms ns (get_or ps at 0) e, name-is ms ns i e) equal) in
-    let more = by_name-more ms i (omega (arith, names-length ms ns e)) in
-    whole ∙ ap (λ (r : Members). put (at_place ms i).name (at_place ms i).shown r) (old.written ms e) ∙ sym more;
+        let whole = members_at-set ms i ps at b (λ k less. name-before ms ns (get_or ps k 0) i e (low k less)) (rw (name-is ms ns (get_or ps at 0) e, name-is ms ns i e) equal) in
+        let more = by_name-more ms i (omega (arith, names-length ms ns e)) in
+        whole ∙ ap (λ (r : Members). put (at_place ms i).name (at_place ms i).shown r) (old.written ms e) ∙ sym more;
   } where
     same : name_at ns ps at ≡ get_or ns i []
     same = exact_bytes (name_at ns ps at) (get_or ns i []) equal

@@ -79,8 +79,8 @@ ascend-pairs ns h (suc i) k lt within =
       | inl less ↦ IsBefore-trans (get_or ns k []) (get_or ns i []) (get_or ns (suc i) []) (ascend-pairs ns h i k less (omega arith)) last
       | inr ge ↦ same k i (suc i) (omega arith) last
     ] where
-  same : (k i j : ℕ) → i ≡ k → IsBefore (get_or ns i []) (get_or ns j []) → IsBefore (get_or ns k []) (get_or ns j [])
-  same k i j e b = subst (λ (x : ℕ). IsBefore (get_or ns x []) (get_or ns j [])) e b
+      same : (k i j : ℕ) → i ≡ k → IsBefore (get_or ns i []) (get_or ns j []) → IsBefore (get_or ns k []) (get_or ns j [])
+      same k i j e b = subst (λ (x : ℕ). IsBefore (get_or ns x []) (get_or ns j [])) e b
 
 put-last : (done : List Named) (m : Named) → ((k : ℕ) → k < length done → IsBefore (at_place done k).name m.name)
     → put m.name m.shown (in_turn done) ≡ in_turn (done ++ m ∷ [])
@@ -103,16 +103,16 @@ in_turn-front ms h (suc i) le =
     ∙ put-last (take i ms) (at_place ms i) before
     ∙ ap in_turn (sym (take_more ms i (named [] null) lt)) in
     subst (λ (n : ℕ). by_name (take n ms) ≡ in_turn (take n ms)) (sym e) more where
-  earlier : (k : ℕ) → k < i → IsBefore (at_place (take i ms) k).name (at_place ms i).name
-  earlier k less = rw (get_or-take i ms k (named [] null) less) (h i k less (omega arith))
+      earlier : (k : ℕ) → k < i → IsBefore (at_place (take i ms) k).name (at_place ms i).name
+      earlier k less = rw (get_or-take i ms k (named [] null) less) (h i k less (omega arith))
 
 pub projected-in_turn : (ns : List (List ℕ)) (vs : List IndexValue) → NamesAscend ns → by_name (projected ns vs) ≡ in_turn (projected ns vs)
 projected-in_turn ns vs h =
     let ms : List Named = projected ns vs in
     let all : take (length ms) ms ≡ ms = take_all (length ms) ms (omega arith) in
     rw all at (in_turn-front ms pairs (length ms) (omega arith)) where
-  pairs : (i k : ℕ) → k < i → i < length (projected ns vs) → IsBefore (at_place (projected ns vs) k).name (at_place (projected ns vs) i).name
-  pairs i k less within = rw (named-first ns vs k (omega arith), named-first ns vs i within) (ascend-pairs ns h i k less (omega (arith, projected-length ns vs)))
+      pairs : (i k : ℕ) → k < i → i < length (projected ns vs) → IsBefore (at_place (projected ns vs) k).name (at_place (projected ns vs) i).name
+      pairs i k less within = rw (named-first ns vs k (omega arith), named-first ns vs i within) (ascend-pairs ns h i k less (omega (arith, projected-length ns vs)))
 
 -- nothing is left behind the last
 pub in_turn-end : (ns : List (List ℕ)) (vs : List IndexValue) (i : ℕ) → min (length ns) (length vs) ≤ i → in_turn (drop i (projected ns vs)) ≡ no_members
