@@ -1,5 +1,6 @@
 pub mod Chains
 pub mod Escapes
+pub mod NameOrder
 pub mod OrderLemmas
 pub mod Projecting
 pub mod Selection

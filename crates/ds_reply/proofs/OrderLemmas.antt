@@ -14,7 +14,7 @@ use Rattle.serde_json.specs.Data.{Data, null, Members, no_members, member, put}
 use Rattle.ds_reply.specs.Members.{Named, named, put_each, by_name}
 use Rattle.ds_reply.specs.Orders.{members_at, name_at, IsBefore, OrdersByName}
 
-abbrev C : List ℕ → List ℕ → Ordering
+abbrev pub C : List ℕ → List ℕ → Ordering
 C = slice_cmp nat_cmp
 
 pub IsBefore-trans : (k l m : List ℕ) → IsBefore k l → IsBefore l m → IsBefore k m
@@ -28,9 +28,17 @@ pub turned : (n l : List ℕ) → C l n ≡ Greater → IsBefore n l
 turned n l h = nat_list_cmp_total.antisymm n l ∙ ap ordering_reverse h
 
 -- the name of a thing at its place
-pub named-at : {X : Type 0} (text : X → List ℕ) (items : List X) (p : ℕ) (x : X) (n : List ℕ) → p < length items → x ≡ get_or items p x → n ≡ text x
-    → get_or (map text items) p [] ≡ n
-named-at text items p x n lt is e = get_or-map-within text items p x [] lt ∙ ap text (sym is) ∙ sym e
+pub named-at : {X : Type 0} (text : X → List ℕ) (items : List X) (p : ℕ) (x : X) → p < length items → x ≡ get_or items p x
+    → get_or (map text items) p [] ≡ text x
+named-at text items p x lt is = get_or-map-within text items p x [] lt ∙ ap text (sym is)
+
+own-reverse : (o : Ordering) → o ≡ ordering_reverse o → o ≡ Equal
+own-reverse Less e = cc
+own-reverse Equal e = refl
+own-reverse Greater e = cc
+
+pub C-self : (n : List ℕ) → C n n ≡ Equal
+C-self n = own-reverse (C n n) (nat_list_cmp_total.antisymm n n)
 
 same-reverse : (n l : List ℕ) → C l n ≡ Equal → C n l ≡ Equal
 same-reverse n l h = nat_list_cmp_total.antisymm n l ∙ ap ordering_reverse h

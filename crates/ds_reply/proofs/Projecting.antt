@@ -10,6 +10,7 @@ use Rattle.serde_json.specs.Written.{compact_text, comma_if, members_text}
 use Rattle.ds_base.specs.declared.index_value.IndexValue.{IndexValue}
 use Rattle.ds_reply.specs.Members.{Named, named, put_each, by_name}
 use Rattle.ds_reply.specs.Printing.{projected, index_value_data}
+use Rattle.ds_reply.specs.MemberNames.{name_text}
 use Rattle.ds_reply.specs.Shown.{member_named}
 use Rattle.ds_reply.specs.declared.member.Member.{Member}
 use Rattle.ds_reply.specs.Orders.{members_at, member_text, IsBefore, NamesAscend, OrdersByName}
@@ -70,7 +71,7 @@ projected-ordered ns vs ps ordered le =
 
 -- ---- names that ascend
 
-ascend-pairs : (ns : List (List ℕ)) → NamesAscend ns → (i k : ℕ) → k < i → i < length ns → IsBefore (get_or ns k []) (get_or ns i [])
+pub ascend-pairs : (ns : List (List ℕ)) → NamesAscend ns → (i k : ℕ) → k < i → i < length ns → IsBefore (get_or ns k []) (get_or ns i [])
 ascend-pairs ns h zero k lt within = absurd (omega arith)
 ascend-pairs ns h (suc i) k lt within =
     let e : suc i - 1 ≡ i = omega arith in
@@ -138,11 +139,11 @@ ascend-more ns k m n old e f h j lt pos = elim (cases_lt j k) [
 
 -- ---- the members of an object
 
-named-names : (ms : List Member) → map (λ (n : Named). n.name) (map member_named ms) ≡ map (λ (m : Member). m.name.now) ms
+named-names : (ms : List Member) → map (λ (n : Named). n.name) (map member_named ms) ≡ map (λ (m : Member). name_text m.name) ms
 named-names [] = refl
-named-names (m ∷ ms) = ap (λ (l : List (List ℕ)). m.name.now ∷ l) (named-names ms)
+named-names (m ∷ ms) = ap (λ (l : List (List ℕ)). name_text m.name ∷ l) (named-names ms)
 
-pub object-ordered : (ms : List Member) (ps : List ℕ) → OrdersByName (map (λ (m : Member). m.name.now) ms) (length ms) ps
+pub object-ordered : (ms : List Member) (ps : List ℕ) → OrdersByName (map (λ (m : Member). name_text m.name) ms) (length ms) ps
     → members_at (map member_named ms) ps ≡ by_name (map member_named ms)
 object-ordered ms ps ordered =
     let all : take (length ms) (map member_named ms) ≡ map member_named ms = take_all (length ms) (map member_named ms) (omega (arith, length-map ms member_named)) in

@@ -1,3 +1,4 @@
+pub mod MemberNames
 pub mod Members
 pub mod Names
 pub mod Orders

@@ -4,6 +4,7 @@ use Rattle.serde_json.specs.Data.{Data, null, boolean, string, array}
 use Rattle.ds_reply.specs.declared.member.Shown.{Shown}
 use Rattle.ds_reply.specs.declared.member.Shown.TheVariants as shown
 use Rattle.ds_reply.specs.declared.member.Member.{Member}
+use Rattle.ds_reply.specs.MemberNames.{name_text}
 use Rattle.ds_reply.specs.Members.{Named, named}
 use Rattle.ds_reply.specs.Printing.{natural, key_data, entity_data, result_items, count_items, constraint_data, index_def_data}
 
@@ -20,4 +21,4 @@ shown_data (shown.Constraint c) = constraint_data c.now
 shown_data (shown.Index d) = index_def_data d.now
 
 abbrev pub member_named : Member → Named
-member_named m = named m.name.now (shown_data m.shown)
+member_named m = named (name_text m.name) (shown_data m.shown)

@@ -5,9 +5,10 @@ ghost use Rattle.ds_reply.specs.Replies.{body_members, reply_members, done, writ
 ghost use Rattle.ds_reply.specs.Shown.{member_named};
 
 use crate::member::{
-    Member, Members, Shown, counts, key, number, optional_entity, results, text, with_members,
+    Member, Members, Shown, add_members, counts, key, number, optional_entity, results, text,
 };
-use crate::refusals::refusal;
+use crate::member_name::MemberName;
+use crate::refusals::add_refusal;
 use crate::reply::{Body, Reply, WriteAt};
 use arrayvec::ArrayVec;
 use ds_base::{Results, Seen, TextString};
@@ -19,69 +20,91 @@ pub(crate) fn members_of<'a>(reply: &'a Reply) -> Members<'a>
     ensures few { array_vec_len result ≤ 8 }
 {
     let mut members = ArrayVec::new();
-    members.push(number(b"client", u64::from(reply.client)));
-    members.push(number(b"line", reply.line));
-    with_body(members, &reply.body)
+    members.push(number(MemberName::Client, u64::from(reply.client)));
+    members.push(number(MemberName::Line, reply.line));
+    add_body(&mut members, &reply.body);
+    members
 }
 
-/// The members with those of the body behind them.
-fn with_body<'a>(members: Members<'a>, body: &'a Body) -> Members<'a>
-    requires { array_vec_len members ≤ 2 }
-    ensures items { map member_named result.items ≡ map member_named members.entry.items ++ body_members body.now }
-    ensures few { array_vec_len result ≤ 8 }
+/// Puts the members of the body behind the others.
+fn add_body<'a>(members: &mut Members<'a>, body: &'a Body)
+    requires { array_vec_len members.old ≤ 2 }
+    ensures items { map member_named members.new.items ≡ map member_named members.old.items ++ body_members body.now }
+    ensures few { array_vec_len members.new ≤ 8 }
 {
     match body {
-        Body::Put { key: of, at } => done(members, b"put", &[key(b"key", of), written(*at)]),
-        Body::Delete { key: of, at } => done(members, b"delete", &[key(b"key", of), written(*at)]),
-        Body::Get { entity, place } => done(
+        Body::Put { key: of, at } => add_done(
+            members,
+            b"put",
+            &[key(MemberName::Key, of), written(*at)],
+        ),
+        Body::Delete { key: of, at } => add_done(
+            members,
+            b"delete",
+            &[key(MemberName::Key, of), written(*at)],
+        ),
+        Body::Get { entity, place } => add_done(
             members,
             b"get",
-            &[optional_entity(b"entity", entity), number(b"place", *place)],
+            &[
+                optional_entity(MemberName::Entity, entity),
+                number(MemberName::Place, *place),
+            ],
         ),
         Body::Query {
             select,
             results,
             seen,
             cursor,
-        } => found(members, b"query", select, results, seen, cursor),
+        } => add_found(members, b"query", select, results, seen, cursor),
         Body::Gql {
             select,
             results,
             seen,
             cursor,
-        } => found(members, b"gql", select, results, seen, cursor),
-        Body::Begin => done(members, b"begin", &[]),
-        Body::Commit { commit } => done(members, b"commit", &[number(b"commit", *commit)]),
-        Body::Rollback => done(members, b"rollback", &[]),
-        Body::AllocateIds { first, count } => done(
+        } => add_found(members, b"gql", select, results, seen, cursor),
+        Body::Begin => add_done(members, b"begin", &[]),
+        Body::Commit { commit } => add_done(
+            members,
+            b"commit",
+            &[number(MemberName::Commit, *commit)],
+        ),
+        Body::Rollback => add_done(members, b"rollback", &[]),
+        Body::AllocateIds { first, count } => add_done(
             members,
             b"allocate_ids",
-            &[number(b"first", *first), number(b"count", *count)],
+            &[
+                number(MemberName::First, *first),
+                number(MemberName::Count, *count),
+            ],
         ),
-        Body::Settle { place, applied } => done(
+        Body::Settle { place, applied } => add_done(
             members,
             b"settle",
-            &[number(b"place", *place), counts(b"applied", applied)],
+            &[
+                number(MemberName::Place, *place),
+                counts(MemberName::Applied, applied),
+            ],
         ),
         Body::Apply {
             applied,
             count,
             place,
             shard,
-        } => done(
+        } => add_done(
             members,
             b"apply",
             &[
                 Member {
-                    name: b"applied",
+                    name: MemberName::Applied,
                     shown: Shown::Flag(*applied),
                 },
-                number(b"count", *count),
-                number(b"place", *place),
-                number(b"shard", u64::from(*shard)),
+                number(MemberName::Count, *count),
+                number(MemberName::Place, *place),
+                number(MemberName::Shard, u64::from(*shard)),
             ],
         ),
-        _ => refusal(members, body),
+        _ => add_refusal(members, body),
     }
 }
 
@@ -90,33 +113,37 @@ fn written<'a>(at: WriteAt) -> Member<'a>
     ensures { member_named result ≡ written_at at }
 {
     match at {
-        WriteAt::Commit(commit) => number(b"commit", commit),
-        WriteAt::Place(place) => number(b"place", place),
+        WriteAt::Commit(commit) => number(MemberName::Commit, commit),
+        WriteAt::Place(place) => number(MemberName::Place, place),
     }
 }
 
-/// The members with what a query found behind them.
-fn found<'a>(
-    members: Members<'a>,
+/// Puts what a query found behind the others.
+fn add_found<'a>(
+    members: &mut Members<'a>,
     op: &'static [u8],
     select: &'a Select,
     items: &'a Results,
     seen: &'a Seen,
     cursor: &'a Option<TextString>,
-) -> Members<'a>
-    requires { array_vec_len members ≤ 2 }
-    ensures items { map member_named result.items
-        ≡ map member_named members.entry.items ++ done op.now (found select.now items.now seen.now cursor.now) }
-    ensures few { array_vec_len result ≤ 8 }
+)
+    requires { array_vec_len members.old ≤ 2 }
+    ensures items { map member_named members.new.items
+        ≡ map member_named members.old.items ++ done op.now (found select.now items.now seen.now cursor.now) }
+    ensures few { array_vec_len members.new ≤ 8 }
 {
-    let found = results(b"results", select, items);
+    let found = results(MemberName::Results, select, items);
     match cursor {
-        Some(cursor) => done(
+        Some(cursor) => add_done(
             members,
             op,
-            &[found, seen_at(seen), text(b"cursor", cursor.bytes())],
+            &[
+                found,
+                seen_at(seen),
+                text(MemberName::Cursor, cursor.bytes()),
+            ],
         ),
-        None => done(members, op, &[found, seen_at(seen)]),
+        None => add_done(members, op, &[found, seen_at(seen)]),
     }
 }
 
@@ -125,20 +152,19 @@ fn seen_at<'a>(seen: &'a Seen) -> Member<'a>
     ensures { member_named result ≡ seen_at seen.now }
 {
     match seen {
-        Seen::Counts(applied) => counts(b"applied", applied),
-        Seen::Place(place) => number(b"place", *place),
+        Seen::Counts(applied) => counts(MemberName::Applied, applied),
+        Seen::Place(place) => number(MemberName::Place, *place),
     }
 }
 
-/// The members with those of what went well behind them: the operation, and more.
-fn done<'a>(members: Members<'a>, op: &'static [u8], more: &[Member<'a>]) -> Members<'a>
-    requires begun { array_vec_len members ≤ 2 }
+/// Puts the members of what went well behind the others: the operation, and more.
+fn add_done<'a>(members: &mut Members<'a>, op: &'static [u8], more: &[Member<'a>])
+    requires begun { array_vec_len members.old ≤ 2 }
     requires few { length more.now ≤ 4 }
-    ensures items { map member_named result.items
-        ≡ map member_named members.entry.items ++ done op.now (map member_named more.now) }
-    ensures few { array_vec_len result ≤ 8 }
+    ensures items { map member_named members.new.items
+        ≡ map member_named members.old.items ++ done op.now (map member_named more.now) }
+    ensures few { array_vec_len members.new ≤ 8 }
 {
-    let mut begun = members;
-    begun.push(text(b"ok", op));
-    with_members(begun, more)
+    members.push(text(MemberName::Ok, op));
+    add_members(members, more);
 }

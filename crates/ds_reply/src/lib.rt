@@ -11,6 +11,7 @@
 mod bodies;
 mod keys;
 mod member;
+mod member_name;
 mod names;
 mod object;
 mod order;

@@ -4,13 +4,15 @@ ghost use Rattle.serde_json.specs.Data.{string, array};
 ghost use Rattle.arrayvec.specs.ArrayVec.{array_vec_len};
 ghost use Rattle.ds_reply.specs.Printing.{natural, key_data, optional_key_data, optional_entity_data, result_items, count_items};
 ghost use Rattle.ds_reply.specs.Members.{named};
-ghost use Rattle.ds_reply.specs.Shown.{member_named};
+ghost use Rattle.ds_reply.specs.Shown.{name_text, member_named};
 
+use crate::member_name::{MemberName, compare_names};
 use crate::order::HasName;
 use arrayvec::ArrayVec;
-use ds_base::{Counts, Entity, Item, Key, Results};
+use ds_base::{Counts, Entity, Key, Results};
 use ds_indexdef::IndexDef;
 use ds_query::{Constraint, Select};
+use std::cmp::Ordering;
 
 /// What stands in a member.
 #[derive(Clone, Copy)]
@@ -23,8 +25,8 @@ pub(crate) enum Shown<'a> {
     Key(&'a Key),
     Entity(&'a Entity),
     /// One number for each shard.
-    Counts(&'a [u64]),
-    Results(&'a Select, &'a [Item]),
+    Counts(&'a Counts),
+    Results(&'a Select, &'a Results),
     Constraint(&'a Constraint),
     Index(&'a IndexDef),
 }
@@ -32,7 +34,7 @@ pub(crate) enum Shown<'a> {
 /// A member: its name, and what stands there.
 #[derive(Clone, Copy)]
 pub(crate) struct Member<'a> {
-    pub(crate) name: &'static [u8],
+    pub(crate) name: MemberName,
     pub(crate) shown: Shown<'a>,
 }
 
@@ -42,67 +44,65 @@ pub(crate) type Members<'a> = ArrayVec<Member<'a>, 8>;
 impl Default for Member<'_> {
     fn default() -> Self {
         Member {
-            name: b"",
+            name: MemberName::Ok,
             shown: Shown::Null,
         }
     }
 }
 
 impl HasName for Member<'_> {
-    ghost text = { λ m. m.name.now };
+    ghost text = { λ m. name_text m.name };
 
-    fn name(&self) -> &[u8] {
-        self.name
+    fn compare(&self, other: &Self) -> Ordering {
+        compare_names(self.name, other.name)
     }
 }
 
-/// The members with more behind them.
-pub(crate) fn with_members<'a>(members: Members<'a>, more: &[Member<'a>]) -> Members<'a>
-    requires { array_vec_len members + length more.now ≤ 8 }
-    ensures { result.items ≡ members.entry.items ++ more.now }
+/// Puts more members behind the others.
+pub(crate) fn add_members<'a>(members: &mut Members<'a>, more: &[Member<'a>])
+    requires { array_vec_len members.old + length more.now ≤ 8 }
+    ensures { members.new.items ≡ members.old.items ++ more.now }
 {
-    let mut all = members;
     for member in more {
-        all.push(*member);
+        members.push(*member);
     }
-    all
 }
 
 /// A member that is a number.
-pub(crate) fn number<'a>(name: &'static [u8], n: u64) -> Member<'a>
-    ensures { member_named result ≡ named name.now (natural n) }
+pub(crate) fn number<'a>(name: MemberName, n: u64) -> Member<'a>
+    ensures { member_named result ≡ named (name_text name) (natural n) }
 {
     let shown = Shown::Number(n);
     Member { name, shown }
 }
 
 /// A member that is a text.
-pub(crate) fn text<'a>(name: &'static [u8], text: &'a [u8]) -> Member<'a>
-    ensures { member_named result ≡ named name.now (string text.now) }
+pub(crate) fn text<'a>(name: MemberName, text: &'a [u8]) -> Member<'a>
+    ensures { member_named result ≡ named (name_text name) (string text.now) }
 {
     let shown = Shown::Text(text);
     Member { name, shown }
 }
 
 /// A member that is a key.
-pub(crate) fn key<'a>(name: &'static [u8], key: &'a Key) -> Member<'a>
-    ensures { member_named result ≡ named name.now (key_data key.now) }
+pub(crate) fn key<'a>(name: MemberName, key: &'a Key) -> Member<'a>
+    ensures { member_named result ≡ named (name_text name) (key_data key.now) }
 {
     let shown = Shown::Key(key);
     Member { name, shown }
 }
 
 /// A member that is one number for each shard.
-pub(crate) fn counts<'a>(name: &'static [u8], counts: &'a Counts) -> Member<'a>
-    ensures { member_named result ≡ named name.now (array (count_items counts.now)) }
+pub(crate) fn counts<'a>(name: MemberName, counts: &'a Counts) -> Member<'a>
+    ensures { member_named result ≡ named (name_text name) (array (count_items counts.now)) }
 {
-    let shown = Shown::Counts(counts.as_slice());
+    let shown = Shown::Counts(counts);
     Member { name, shown }
 }
 
 /// A member that is a key, or null where there is none.
-pub(crate) fn optional_key<'a>(name: &'static [u8], key: &'a Option<Key>) -> Member<'a>
-    ensures { member_named result ≡ named name.now (optional_key_data key.now) }
+pub(crate) fn optional_key<'a>(name: MemberName, key: &'a Option<Key>) -> Member<'a>
+    ensures { member_named result ≡ named (name_text name) (optional_key_data key.now) }
 {
     let shown = match key {
         Some(key) => Shown::Key(key),
@@ -112,8 +112,8 @@ pub(crate) fn optional_key<'a>(name: &'static [u8], key: &'a Option<Key>) -> Mem
 }
 
 /// A member that is an entity, or null where there is none.
-pub(crate) fn optional_entity<'a>(name: &'static [u8], entity: &'a Option<Entity>) -> Member<'a>
-    ensures { member_named result ≡ named name.now (optional_entity_data entity.now) }
+pub(crate) fn optional_entity<'a>(name: MemberName, entity: &'a Option<Entity>) -> Member<'a>
+    ensures { member_named result ≡ named (name_text name) (optional_entity_data entity.now) }
 {
     let shown = match entity {
         Some(entity) => Shown::Entity(entity),
@@ -123,13 +123,9 @@ pub(crate) fn optional_entity<'a>(name: &'static [u8], entity: &'a Option<Entity
 }
 
 /// A member that is a query's results.
-pub(crate) fn results<'a>(
-    name: &'static [u8],
-    select: &'a Select,
-    results: &'a Results,
-) -> Member<'a>
-    ensures { member_named result ≡ named name.now (array (result_items select.now results.now)) }
+pub(crate) fn results<'a>(name: MemberName, select: &'a Select, results: &'a Results) -> Member<'a>
+    ensures { member_named result ≡ named (name_text name) (array (result_items select.now results.now)) }
 {
-    let shown = Shown::Results(select, results.as_slice());
+    let shown = Shown::Results(select, results);
     Member { name, shown }
 }

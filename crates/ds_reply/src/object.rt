@@ -1,16 +1,17 @@
 //! Objects, their members by name.
-ghost use Rattle.std.specs.Prelude.{◌≤◌, ◌<◌, ℕ, map, length, false, slice_index};
-ghost use Rattle.serde_json.specs.Written.{compact_text, members_text};
+ghost use Rattle.std.specs.Prelude.{◌≤◌, ◌<◌, ℕ, map, length, false, slice_index, ◌++◌};
+ghost use Rattle.serde_json.specs.Written.{compact_text, comma_if, members_text};
 ghost use Rattle.ds_reply.specs.Members.{object_of};
 ghost use Rattle.ds_reply.specs.Orders.{members_at, member_text};
 ghost use Rattle.ds_reply.specs.Shown.{shown_data, member_named};
 
 use crate::keys::write_key;
 use crate::member::{Member, Shown};
+use crate::member_name::write_name;
 use crate::order::places_by_name;
 use crate::output::Output;
 use crate::results::{write_constraint, write_counts, write_index_def, write_results};
-use crate::text::{write_boolean, write_comma, write_natural, write_string};
+use crate::text::{write_boolean, write_natural, write_string};
 use crate::values::write_entity;
 
 /// Puts the object of these members, by name in byte order, whatever the order in which they are given.
@@ -30,19 +31,17 @@ fn write_members<O: Output>(members: &[Member], places: &[u8], out: &mut O)
 {
     let mut later = false;
     for place in places {
-        write_comma(later, out);
-        write_member(&members[*place as usize], out);
+        write_member(&members[*place as usize], later, out);
         later = true;
     }
     out.put(b"}");
 }
 
-/// Puts a member: its name, a colon, and what stands there.
-fn write_member<O: Output>(member: &Member, out: &mut O)
-    ensures { O.Writes (member_text (member_named member.now)) out.old out.new }
+/// Puts a member: a comma, where something stands before, its name, a colon, and what stands there.
+fn write_member<O: Output>(member: &Member, later: bool, out: &mut O)
+    ensures { O.Writes (comma_if later ++ member_text (member_named member.now)) out.old out.new }
 {
-    write_string(member.name, out);
-    out.put(b":");
+    write_name(member.name, later, out);
     write_shown(&member.shown, out);
 }
 
@@ -59,11 +58,11 @@ fn write_shown<O: Output>(shown: &Shown, out: &mut O)
         Shown::Entity(entity) => write_entity(entity, out),
         Shown::Counts(counts) => {
             out.put(b"[");
-            write_counts(counts, out);
+            write_counts(counts.as_slice(), out);
         }
         Shown::Results(select, results) => {
             out.put(b"[");
-            write_results(select, results, out);
+            write_results(select, results.as_slice(), out);
         }
         Shown::Constraint(constraint) => write_constraint(constraint, out),
         Shown::Index(index) => write_index_def(index, out),

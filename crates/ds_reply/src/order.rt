@@ -1,5 +1,7 @@
 //! The places of things with names, by name in byte order.
-ghost use Rattle.std.specs.Prelude.{◌≡◌, ℕ, List, ◌+◌, ◌<◌, ◌≤◌, length, map, slice_index};
+ghost use Rattle.std.specs.Prelude.{◌≡◌, ℕ, List, ◌+◌, ◌<◌, ◌≤◌, length, map, slice_index, slice_index_or, []};
+ghost use Rattle.std.specs.Ordering.{nat_cmp};
+ghost use Rattle.std.specs.Cmp.Lexicographic.{slice_cmp};
 ghost use Rattle.ds_reply.specs.Orders.{OrdersByName, Ranks};
 
 use arrayvec::ArrayVec;
@@ -9,9 +11,9 @@ use std::cmp::Ordering;
 pub(crate) trait HasName {
     ghost text: { Self → List ℕ };
 
-    /// Its name.
-    fn name(&self) -> &[u8]
-        ensures { result.now ≡ text self.now };
+    /// Which of the two names comes first in byte order.
+    fn compare(&self, other: &Self) -> Ordering
+        ensures { result ≡ slice_cmp nat_cmp (text self.now) (text other.now) };
 }
 
 /// How many things are ordered without memory.
@@ -39,7 +41,7 @@ fn place<T: HasName>(items: &[T], places: &mut Places, i: usize)
     requires ordered { OrdersByName (map T.text items.now) i places.old.items }
     ensures { OrdersByName (map T.text items.now) (i + 1) places.new.items }
 {
-    match rank_of(items, places.as_slice(), items[i].name()) {
+    match rank_of(items, places.as_slice(), i) {
         Rank::Before(at) => places.insert(at, i as u8),
         Rank::At(at) => places[at] = i as u8,
     }
@@ -53,15 +55,16 @@ enum Rank {
     At(usize),
 }
 
-/// Where the name stands among those of the places, which are in order. It is looked for from the end, since most things
-/// come in their order.
-fn rank_of<T: HasName>(items: &[T], places: &[u8], name: &[u8]) -> Rank
-    requires { (k : ℕ) → k < length places.now → slice_index places.now k < length items.now }
-    ensures { Ranks (map T.text items.now) places.now name.now result }
+/// Where the name of the thing at `i` stands among those of the places, which are in order. It is looked for from the end,
+/// since most things come in their order.
+fn rank_of<T: HasName>(items: &[T], places: &[u8], i: usize) -> Rank
+    requires within { i < length items.now }
+    requires places { (k : ℕ) → k < length places.now → slice_index places.now k < length items.now }
+    ensures { Ranks (map T.text items.now) places.now (slice_index_or (map T.text items.now) i []) result }
 {
     let mut at = places.len();
     while at > 0 {
-        match items[places[at - 1] as usize].name().cmp(name) {
+        match items[places[at - 1] as usize].compare(&items[i]) {
             Ordering::Less => return Rank::Before(at),
             Ordering::Equal => return Rank::At(at - 1),
             Ordering::Greater => at -= 1,

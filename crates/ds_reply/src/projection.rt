@@ -11,6 +11,7 @@ use crate::output::Output;
 use crate::text::{write_comma, write_text};
 use crate::values::write_index_value;
 use ds_base::{IndexValue, TextString};
+use std::cmp::Ordering;
 
 /// In which order the values of a projection are written.
 #[derive(Drop)]
@@ -26,8 +27,8 @@ pub(crate) enum Order {
 impl HasName for TextString {
     ghost text = { λ t. t };
 
-    fn name(&self) -> &[u8] {
-        self.bytes()
+    fn compare(&self, other: &Self) -> Ordering {
+        self.cmp(other)
     }
 }
 

@@ -4,143 +4,153 @@ ghost use Rattle.arrayvec.specs.ArrayVec.{array_vec_len};
 ghost use Rattle.ds_reply.specs.Refusals.{refused, refusal_members, at_field};
 ghost use Rattle.ds_reply.specs.Shown.{member_named};
 
-use crate::member::{Member, Members, Shown, key, number, optional_key, text, with_members};
+use crate::member::{Member, Members, Shown, add_members, key, number, optional_key, text};
+use crate::member_name::MemberName;
 use crate::names::{field_name, reason_name};
 use crate::reply::Body;
 use ds_query::Field;
 
-/// The members with those of the refusal behind them; what went well is none.
-pub(crate) fn refusal<'a>(members: Members<'a>, body: &'a Body) -> Members<'a>
-    requires { array_vec_len members ≤ 2 }
-    ensures items { map member_named result.items ≡ map member_named members.entry.items ++ refusal_members body.now }
-    ensures few { array_vec_len result ≤ 8 }
+/// Puts the members of the refusal behind the others; what went well is none.
+pub(crate) fn add_refusal<'a>(members: &mut Members<'a>, body: &'a Body)
+    requires { array_vec_len members.old ≤ 2 }
+    ensures items { map member_named members.new.items ≡ map member_named members.old.items ++ refusal_members body.now }
+    ensures few { array_vec_len members.new ≤ 8 }
 {
     match body {
-        Body::BadJson => refused(members, 1, b"BadJson", &[]),
-        Body::LineTooLong => refused(members, 2, b"LineTooLong", &[]),
-        Body::BadRequest { field } => refused(members, 3, b"BadRequest", &[at_field(*field)]),
-        Body::BadKey { field } => refused(members, 4, b"BadKey", &[at_field(*field)]),
-        Body::BadValue { field } => refused(members, 5, b"BadValue", &[at_field(*field)]),
-        Body::TooLarge { size } => refused(members, 6, b"TooLarge", &[number(b"size", *size)]),
+        Body::BadJson => add_refused(members, 1, b"BadJson", &[]),
+        Body::LineTooLong => add_refused(members, 2, b"LineTooLong", &[]),
+        Body::BadRequest { field } => add_refused(members, 3, b"BadRequest", &[at_field(*field)]),
+        Body::BadKey { field } => add_refused(members, 4, b"BadKey", &[at_field(*field)]),
+        Body::BadValue { field } => add_refused(members, 5, b"BadValue", &[at_field(*field)]),
+        Body::TooLarge { size } => add_refused(
+            members,
+            6,
+            b"TooLarge",
+            &[number(MemberName::Size, *size)],
+        ),
         Body::TooManyRows { count } => {
-            refused(members, 7, b"TooManyRows", &[number(b"count", *count)])
+            add_refused(
+                members,
+                7,
+                b"TooManyRows",
+                &[number(MemberName::Count, *count)],
+            )
         }
-        Body::InTransaction => refused(members, 8, b"InTransaction", &[]),
-        Body::NoTransaction => refused(members, 9, b"NoTransaction", &[]),
+        Body::InTransaction => add_refused(members, 8, b"InTransaction", &[]),
+        Body::NoTransaction => add_refused(members, 9, b"NoTransaction", &[]),
         Body::SecondGroup { group } => {
-            refused(
+            add_refused(
                 members,
                 10,
                 b"SecondGroup",
-                &[optional_key(b"group", group)],
+                &[optional_key(MemberName::Group, group)],
             )
         }
-        Body::TooManyGroups => refused(members, 11, b"TooManyGroups", &[]),
-        Body::TooManyWrites => refused(members, 12, b"TooManyWrites", &[]),
+        Body::TooManyGroups => add_refused(members, 11, b"TooManyGroups", &[]),
+        Body::TooManyWrites => add_refused(members, 12, b"TooManyWrites", &[]),
         Body::Conflict {
             commit,
             group,
             place,
-        } => refused(
+        } => add_refused(
             members,
             13,
             b"Conflict",
             &[
-                number(b"commit", *commit),
-                key(b"group", group),
-                number(b"place", *place),
+                number(MemberName::Commit, *commit),
+                key(MemberName::Group, group),
+                number(MemberName::Place, *place),
             ],
         ),
-        Body::NeedAncestor => refused(members, 14, b"NeedAncestor", &[]),
+        Body::NeedAncestor => add_refused(members, 14, b"NeedAncestor", &[]),
         Body::BadQuery { reason } => {
-            refused(
+            add_refused(
                 members,
                 15,
                 b"BadQuery",
-                &[text(b"reason", reason_name(*reason))],
+                &[text(MemberName::Reason, reason_name(*reason))],
             )
         }
         Body::TooManySubqueries { count } => {
-            refused(
+            add_refused(
                 members,
                 16,
                 b"TooManySubqueries",
-                &[number(b"count", *count)],
+                &[number(MemberName::Count, *count)],
             )
         }
         Body::MissingIndex {
             constraint,
             suggestion,
-        } => refused(
+        } => add_refused(
             members,
             17,
             b"MissingIndex",
             &[
                 Member {
-                    name: b"constraint",
+                    name: MemberName::Constraint,
                     shown: Shown::Constraint(constraint),
                 },
                 Member {
-                    name: b"suggestion",
+                    name: MemberName::Suggestion,
                     shown: Shown::Index(suggestion),
                 },
             ],
         ),
-        Body::BadCursor { field } => refused(members, 18, b"BadCursor", &[at_field(*field)]),
+        Body::BadCursor { field } => add_refused(members, 18, b"BadCursor", &[at_field(*field)]),
         Body::CursorMismatch { field } => {
-            refused(members, 19, b"CursorMismatch", &[at_field(*field)])
+            add_refused(members, 19, b"CursorMismatch", &[at_field(*field)])
         }
-        Body::BadGql { at } => refused(members, 20, b"BadGql", &[number(b"at", *at)]),
-        Body::IdNotIssued { id, next } => refused(
+        Body::BadGql { at } => add_refused(members, 20, b"BadGql", &[number(MemberName::At, *at)]),
+        Body::IdNotIssued { id, next } => add_refused(
             members,
             21,
             b"IdNotIssued",
-            &[number(b"id", *id), number(b"next", *next)],
+            &[number(MemberName::Id, *id), number(MemberName::Next, *next)],
         ),
         Body::IdsExhausted { next } => {
-            refused(members, 22, b"IdsExhausted", &[number(b"next", *next)])
+            add_refused(
+                members,
+                22,
+                b"IdsExhausted",
+                &[number(MemberName::Next, *next)],
+            )
         }
         Body::Expired {
             applied,
             place,
             snapshot,
-        } => refused(
+        } => add_refused(
             members,
             23,
             b"Expired",
             &[
-                number(b"applied", *applied),
-                number(b"place", *place),
-                number(b"snapshot", *snapshot),
+                number(MemberName::Applied, *applied),
+                number(MemberName::Place, *place),
+                number(MemberName::Snapshot, *snapshot),
             ],
         ),
-        Body::NoMemory => refused(members, 24, b"NoMemory", &[]),
-        _ => members,
+        Body::NoMemory => add_refused(members, 24, b"NoMemory", &[]),
+        _ => {}
     }
 }
 
-/// The members with a refusal behind them: its number, its name, and more.
-fn refused<'a>(
-    members: Members<'a>,
-    code: u64,
-    name: &'static [u8],
-    more: &[Member<'a>],
-) -> Members<'a>
-    requires begun { array_vec_len members ≤ 2 }
+/// Puts the members of a refusal behind the others: its number, its name, and more.
+fn add_refused<'a>(members: &mut Members<'a>, code: u64, name: &'static [u8], more: &[Member<'a>])
+    requires begun { array_vec_len members.old ≤ 2 }
     requires few { length more.now ≤ 4 }
-    ensures items { map member_named result.items
-        ≡ map member_named members.entry.items ++ refused code name.now (map member_named more.now) }
-    ensures few { array_vec_len result ≤ 8 }
+    ensures items { map member_named members.new.items
+        ≡ map member_named members.old.items ++ refused code name.now (map member_named more.now) }
+    ensures few { array_vec_len members.new ≤ 8 }
 {
-    let mut begun = members;
-    begun.push(number(b"error", code));
-    begun.push(text(b"name", name));
-    with_members(begun, more)
+    members.push(number(MemberName::Error, code));
+    members.push(text(MemberName::Name, name));
+    add_members(members, more);
 }
 
 /// The member of the request that is refused.
 fn at_field<'a>(field: Field) -> Member<'a>
     ensures { member_named result ≡ at_field field }
 {
-    text(b"field", field_name(field))
+    text(MemberName::Field, field_name(field))
 }
