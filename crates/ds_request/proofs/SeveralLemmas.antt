@@ -1,13 +1,13 @@
 -- Members that are read one after another from one object.
-use Rattle.std.proofs.Common.{◌≡◌, List, [], ◌∷◌, Bool, true, false, not, ◌&&◌, Result, Ok, Err, refl, sym, ap, ◌∙◌}
+use Rattle.std.proofs.Common.{◌≡◌, List, [], ◌∷◌, Bool, true, false, not, ◌&&◌, Result, Ok, refl, sym, ◌∙◌}
 use Rattle.std.specs.List.{list_any}
 use Rattle.std.specs.Str.{bytes_eq}
 use Rattle.std.proofs.lemmas.Bool.{or_parts, and_parts}
 use Rattle.serde_json.specs.Data.{Members}
 use Rattle.ds_query.specs.declared.field.Field.{Field}
-use Rattle.ds_request.specs.Reading.{Reads, and_then, read_as}
+use Rattle.ds_request.specs.Reading.{Reads, and_then}
 use Rattle.ds_request.specs.Requests.{field_name}
-use Rattle.ds_request.specs.Members.{both, is_apart, AgreeOn, AgreeBut}
+use Rattle.ds_request.specs.Members.{is_apart, AgreeOn, AgreeBut}
 
 -- where a member of another name is taken out, the others are still what was asked
 pub agree_after : (f : Field) (fs : List Field) (asked old new : Members) → list_any (λ g. bytes_eq (field_name f) (field_name g)) fs ≡ false
@@ -27,9 +27,6 @@ apart_parts f fs h =
     let parts = and_parts (not (list_any (λ g. bytes_eq (field_name f) (field_name g)) fs)) (is_apart fs) h in
     (not_true _ parts.0, parts.1)
 
--- two that are read one after the other
-pub both_read : {A B E : Type 0} (r : Result A E) (s : Result B E) (x : A) (y : B) → r ≡ Ok x → s ≡ Ok y → both r s ≡ Ok (x, y)
-both_read r s x y first second = rw (first, second) refl
-
-pub both_refused : {A B E : Type 0} (no_memory : E) (r : Result A E) (s : Result B E) (x : A) (e : E) → r ≡ Ok x → Reads no_memory s (Err e) → Reads no_memory (both r s) (Err e)
-both_refused no_memory r s x e first second = λ known. let is = second known in rw (first, is) refl
+-- the first is read, and then the others are
+pub then_read : {A B E : Type 0} (no_memory : E) (first : Result A E) (rest : A → Result B E) (x : A) (answer : Result B E) → first ≡ Ok x → Reads no_memory (rest x) answer → Reads no_memory (and_then first rest) answer
+then_read no_memory first rest x answer is h = rw is h

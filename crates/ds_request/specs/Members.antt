@@ -1,14 +1,10 @@
 -- Several members of one object, read one after another: what the contracts of the code say beside the definitions of a request.
-use Rattle.std.specs.Prelude.{◌≡◌, ℕ, List, [], ◌∷◌, Bool, true, false, not, ◌&&◌, bytes_eq, Option, Result, ⊤}
+use Rattle.std.specs.Prelude.{◌≡◌, ℕ, List, [], ◌∷◌, Bool, true, false, not, ◌&&◌, bytes_eq, ⊤}
 use Rattle.std.specs.List.{list_any}
 use Rattle.serde_json.specs.Data.{Members}
 use Rattle.ds_query.specs.declared.field.Field.{Field}
-use Rattle.ds_request.specs.Reading.{and_then, read_as, member_of}
+use Rattle.ds_request.specs.Reading.{member_of}
 use Rattle.ds_request.specs.Requests.{field_name}
-
--- the first and then the second; or the first refusal
-abbrev pub both : {A B E : Type 0} → Result A E → Result B E → Result (A × B) E
-both r s = and_then r (λ x. read_as (λ y. (x, y)) s)
 
 -- no two of the members have one name
 abbrev pub is_apart : List Field → Bool

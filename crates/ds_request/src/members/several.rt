@@ -1,12 +1,13 @@
 //! The members of an operation, one after another.
-ghost use Rattle.std.specs.Prelude.{◌≡◌, ℕ, List, [], ◌∷◌, Result, Ok, IsTrue};
+ghost use Rattle.std.specs.Prelude.{ℕ, List, [], ◌∷◌, Result, Ok, IsTrue};
 ghost use Rattle.serde_json.specs.Data.{Members};
 ghost use Rattle.serde_json.specs.View.{members_view};
 ghost use Rattle.ds_query.specs.declared.field.Field.{Field};
+ghost use Rattle.ds_request.specs.declared.call.Call.{Call};
 ghost use Rattle.ds_request.specs.declared.call.RequestRefused.{RequestRefused};
-ghost use Rattle.ds_request.specs.Reading.{Reads};
+ghost use Rattle.ds_request.specs.Reading.{Reads, and_then, read_as};
 ghost use Rattle.ds_request.specs.Requests.{member_read};
-ghost use Rattle.ds_request.specs.Members.{both, is_apart, AgreeOn};
+ghost use Rattle.ds_request.specs.Members.{is_apart, AgreeOn};
 
 use crate::call::RequestRefused;
 use crate::members::Members;
@@ -20,10 +21,10 @@ pub(crate) trait ReadMembers: Drop {
 
     ghost fields: { Self → List Field };
 
-    ghost reads: { Self → ℕ → Members → Result Self.Items RequestRefused };
+    ghost reads: { Self → ℕ → Members → (Self.Items → Call) → Result Call RequestRefused };
 
-    /// Reads the members up to the first that fails. What it answers is told of every object that has the same members of
-    /// these names, so that what was taken out before doesn't count.
+    /// Reads the members up to the first that fails, so that a call can be made of them. The answer is told of every object
+    /// that has the same members of these names: what was taken out before doesn't count.
     fn read(
         self,
         alloc: Global,
@@ -32,7 +33,8 @@ pub(crate) trait ReadMembers: Drop {
     ) -> Result<Self::Items, RequestRefused>
         requires { IsTrue (is_apart (fields self)) }
         ensures { (asked : Members) → AgreeOn (fields self) asked (members_view members.entries)
-            → Reads RequestRefused.NoMemory (reads self client asked) result };
+            → (make : Self.Items → Call)
+            → Reads RequestRefused.NoMemory (reads self client asked make) (read_as make result) };
 }
 
 impl ReadMembers for () {
@@ -40,7 +42,7 @@ impl ReadMembers for () {
 
     ghost fields = { λ _. [] };
 
-    ghost reads = { λ _ _ _. Ok tt };
+    ghost reads = { λ _ _ _ make. Ok (make tt) };
 
     fn read(
         self,
@@ -57,8 +59,8 @@ impl<A: ReadMember, B: ReadMembers> ReadMembers for (A, B) {
 
     ghost fields = { λ s. A.field s.0 ∷ B.fields s.1 };
 
-    ghost reads = { λ s client ms.
-        both (member_read client ms (A.field s.0) (A.reads s.0)) (B.reads s.1 client ms) };
+    ghost reads = { λ s client ms make. and_then (member_read client ms (A.field s.0) (A.reads s.0))
+        (λ x. B.reads s.1 client ms (λ xs. make (x, xs))) };
 
     fn read(
         self,
