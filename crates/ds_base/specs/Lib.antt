@@ -8,4 +8,7 @@ pub mod KeyOrderLaws
 pub mod Keys
 pub mod LimitLaws
 pub mod Limits
+pub mod OrderLaws
+pub mod Sorting
+pub mod SortingLaws
 pub mod Values
