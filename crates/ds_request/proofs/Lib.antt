@@ -7,3 +7,4 @@ pub mod MembersLemmas
 pub mod ReadsLemmas
 pub mod SeveralLemmas
 pub mod ValuesLemmas
+pub mod LawfulLemmas

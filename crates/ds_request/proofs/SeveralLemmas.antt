@@ -6,7 +6,7 @@ use Rattle.std.proofs.lemmas.Bool.{or_parts, and_parts}
 use Rattle.serde_json.specs.Data.{Members}
 use Rattle.ds_query.specs.declared.field.Field.{Field}
 use Rattle.ds_request.specs.Reading.{Reads, and_then}
-use Rattle.ds_request.specs.Requests.{field_name}
+use Rattle.ds_query.specs.Fields.{field_name}
 use Rattle.ds_request.specs.Members.{is_apart, AgreeOn, AgreeBut}
 
 -- where a member of another name is taken out, the others are still what was asked

@@ -5,3 +5,4 @@ pub mod Keys
 pub mod Values
 pub mod Entities
 pub mod Members
+pub mod Lawful

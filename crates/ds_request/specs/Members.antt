@@ -4,7 +4,7 @@ use Rattle.std.specs.List.{list_any}
 use Rattle.serde_json.specs.Data.{Members}
 use Rattle.ds_query.specs.declared.field.Field.{Field}
 use Rattle.ds_request.specs.Reading.{member_of}
-use Rattle.ds_request.specs.Requests.{field_name}
+use Rattle.ds_query.specs.Fields.{field_name}
 
 -- no two of the members have one name
 abbrev pub is_apart : List Field → Bool

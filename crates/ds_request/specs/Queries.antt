@@ -5,8 +5,8 @@ use Rattle.serde_json.specs.Data.{Data, string, array, object, no_items, item}
 use Rattle.serde_json.specs.Find.{as_bool, as_str}
 use Rattle.ds_base.specs.Limits.{most_results, greatest_client}
 use Rattle.ds_base.specs.declared.value.Value.{Value}
-use Rattle.ds_base.specs.declared.results.Column.{Column}
-use Rattle.ds_base.specs.declared.results.NamedValue.{NamedValue}
+use Rattle.ds_base.specs.declared.column.Column.{Column}
+use Rattle.ds_base.specs.declared.named_value.NamedValue.{NamedValue}
 use Rattle.ds_base.specs.Keys.{is_namespace}
 use Rattle.ds_query.specs.declared.query.Op.{Op}
 use Rattle.ds_query.specs.declared.query.Op.TheVariants as op

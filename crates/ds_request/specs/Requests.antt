@@ -1,11 +1,12 @@
 -- What a line asks: its members in the order in which they are looked at. The first that fails is told.
-use Rattle.std.specs.Prelude.{◌≡◌, ℕ, List, [], false, Option, Some, None, Result, Ok, Err, bytes_eq, cond, codes, ⊤, length, ◌<◌, ◌^◌}
+use Rattle.std.specs.Prelude.{◌≡◌, ℕ, List, [], false, Option, Some, None, Result, Ok, Err, bytes_eq, cond, codes}
 use Rattle.std.specs.Str.{is_utf8}
 use Rattle.serde_json.specs.Data.{Data, object, Members}
 use Rattle.serde_json.specs.Read.{read}
 use Rattle.ds_query.specs.declared.field.Field.{Field}
 use Rattle.ds_query.specs.declared.field.Field.TheVariants as field
 use Rattle.ds_query.specs.declared.query.Select.TheVariants as select
+use Rattle.ds_query.specs.Fields.{field_name}
 use Rattle.ds_request.specs.declared.call.Call.{Call}
 use Rattle.ds_request.specs.declared.call.Call.TheVariants as call
 use Rattle.ds_request.specs.declared.call.Request.{Request}
@@ -18,34 +19,10 @@ use Rattle.ds_request.specs.declared.refusal.Refusal.TheVariants as refusal
 use Rattle.ds_request.specs.Reading.{and_then, read_as, member_of, required, optional, defaulted}
 use Rattle.ds_request.specs.Keys.{key_of, writable_key_of}
 use Rattle.ds_request.specs.Values.{value_of}
-use Rattle.ds_request.specs.Entities.{entity_of, PutParts, IsPut}
+use Rattle.ds_request.specs.Entities.{entity_of, PutParts}
 use Rattle.ds_request.specs.Queries.{text_of, name_of, namespace_of, flag_of, client_of, results_of, count_of, shard_of, list_of, filter_of, order_of, select_of, named_values_of}
 
--- ---- a member, by its name
-
-abbrev pub field_name : Field → List ℕ
-field_name field.Line = codes "line"
-field_name field.Client = codes "client"
-field_name field.Op = codes "op"
-field_name field.Namespace = codes "namespace"
-field_name field.Entity = codes "entity"
-field_name field.Key = codes "key"
-field_name field.Kind = codes "kind"
-field_name field.Ancestor = codes "ancestor"
-field_name field.Filters = codes "filters"
-field_name field.Orders = codes "orders"
-field_name field.Select = codes "select"
-field_name field.Offset = codes "offset"
-field_name field.Limit = codes "limit"
-field_name field.Start = codes "start"
-field_name field.End = codes "end"
-field_name field.Cursor = codes "cursor"
-field_name field.Text = codes "text"
-field_name field.Args = codes "args"
-field_name field.Names = codes "names"
-field_name field.Xg = codes "xg"
-field_name field.Count = codes "count"
-field_name field.Shard = codes "shard"
+-- ---- a member
 
 -- what is wrong with a member is told with the client and the member
 abbrev pub told_at : {A : Type 0} → ℕ → Field → Result A Refusal → Result A RequestRefused
@@ -156,8 +133,3 @@ line_data line = cond (is_utf8 line) (read line) None
 -- the request of a line, or why it is none
 abbrev pub request_of : List ℕ → Result Request RequestRefused
 request_of line = data_request_of (line_data line)
-
--- what every call keeps beside the rules of its types
-abbrev pub IsLawfulCall : Call → Type 0
-IsLawfulCall (call.Put k incomplete ps) = IsPut ps
-IsLawfulCall _ = ⊤

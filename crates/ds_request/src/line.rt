@@ -1,13 +1,15 @@
 //! Reading a line.
 ghost use Rattle.std.specs.Prelude.{◌≡◌, ◌≢◌, ◌<◌, ◌≤◌, length, option_map, IfOk, IfErr, Ok, Err, Some};
 ghost use Rattle.serde_json.specs.View.{view, members_view};
+ghost use Rattle.ds_query.specs.Fields.{field_name};
 ghost use Rattle.ds_request.specs.Reading.{Reads, defaulted, required, member_of};
 ghost use Rattle.ds_request.specs.Queries.{client_of};
-ghost use Rattle.ds_request.specs.Requests.{field_name, operation_of, call_of, object_request_of, data_request_of, line_data, request_of, IsLawfulCall};
+ghost use Rattle.ds_request.specs.Lawful.{IsLawfulCall};
+ghost use Rattle.ds_request.specs.Requests.{operation_of, call_of, object_request_of, data_request_of, line_data, request_of};
 
 use crate::call::{Call, Request, RequestRefused};
 use crate::forms::scalars::up_to;
-use crate::members::told::{field_name, told_at};
+use crate::members::told::told_at;
 use crate::members::{Members, member};
 use crate::operation::{Operation, operation_of};
 use crate::operations::allocate_ids::read_allocate_ids;
@@ -99,7 +101,7 @@ fn read_client(members: &Members) -> Result<u32, Refusal>
         (member_of (field_name Field.Client) (members_view members.now.entries)) }
     ensures bounded { IfOk result (λ client. client < 16) }
 {
-    match member(members, field_name(Field::Client)) {
+    match member(members, Field::Client.name()) {
         Some(value) => up_to(MAX_CLIENT, value).ok_or(Refusal::Request),
         None => Ok(0),
     }
@@ -109,7 +111,7 @@ fn read_operation(members: &Members) -> Result<Operation, Refusal>
     ensures { result ≡ required operation_of
         (member_of (field_name Field.Op) (members_view members.now.entries)) }
 {
-    match member(members, field_name(Field::Op)) {
+    match member(members, Field::Op.name()) {
         Some(value) => operation_of(value),
         None => Err(Refusal::Request),
     }

@@ -12,8 +12,7 @@ use crate::forms::keys::read_entity_key;
 use crate::forms::values::read_property_values;
 use crate::members::{Members, take_member};
 use crate::refusal::Refusal;
-use ds_base::key::{is_name, is_reserved};
-use ds_base::{Key, Properties, Property, TextString, Values};
+use ds_base::{Key, Properties, Property, TextString, Values, is_name, is_reserved};
 use serde_json::Value;
 use std::alloc::Global;
 use std::marker::Model;
@@ -37,7 +36,7 @@ impl Model for Written {
 }
 
 impl Written {
-    ghost use Rattle.ds_request.specs.Requests.{IsLawfulCall};
+    ghost use Rattle.ds_request.specs.Lawful.{IsLawfulCall};
 
     /// The call that writes it.
     pub(crate) fn into_call(self) -> Call

@@ -6,9 +6,8 @@ ghost use Rattle.ds_request.specs.Queries.{text_of, name_of, namespace_of, flag_
 
 use crate::forms::Form;
 use crate::refusal::Refusal;
-use ds_base::TextString;
-use ds_base::key::is_namespace;
 use ds_base::limits::MAX_RESULTS;
+use ds_base::{TextString, is_namespace};
 use serde_json::Value;
 use std::alloc::Global;
 

@@ -23,7 +23,7 @@ use crate::members::Members;
 use crate::refusal::Refusal;
 use base64::DecodeAllocError;
 use base64::engine::general_purpose::STANDARD;
-use ds_base::limits::{MAX_NAME_BYTES, MAX_RATING};
+use ds_base::limits::MAX_RATING;
 use ds_base::{ByteString, TextString, Value, Values};
 use serde_json::Value as Json;
 use std::alloc::Global;
@@ -232,24 +232,13 @@ fn read_property_value(alloc: Global, indexed: bool, value: Json) -> Result<Valu
     unless_faulty(indexed, value)
 }
 
+/// The value, unless no property may have it: what indexes hold is too long.
 fn unless_faulty(indexed: bool, value: Value) -> Result<Value, Refusal>
     ensures { result ≡ cond (is_faulty_value indexed value) (Err refused.Value) (Ok value) }
 {
-    if is_faulty(indexed, &value) {
+    if value.is_faulty(indexed) {
         Err(Refusal::Value)
     } else {
         Ok(value)
-    }
-}
-
-/// Whether no property may have the value: a rating is too high, or what indexes hold too long.
-fn is_faulty(indexed: bool, value: &Value) -> bool
-    ensures { result ≡ is_faulty_value indexed value.now }
-{
-    match value {
-        Value::Rating(n) => *n > MAX_RATING,
-        Value::Bytes(bytes) => indexed && bytes.bytes().len() > MAX_NAME_BYTES,
-        Value::Str(text) => indexed && text.bytes().len() > MAX_NAME_BYTES,
-        _ => false,
     }
 }

@@ -3,14 +3,15 @@ ghost use Rattle.std.specs.Prelude.{◌≡◌, Option, Result, option_map};
 ghost use Rattle.serde_json.specs.Data.{Data};
 ghost use Rattle.serde_json.specs.View.{view, members_view};
 ghost use Rattle.ds_query.specs.declared.field.Field.{Field};
+ghost use Rattle.ds_query.specs.Fields.{field_name};
 ghost use Rattle.ds_request.specs.declared.refusal.Refusal.{Refusal};
 ghost use Rattle.ds_request.specs.Reading.{Reads, required, optional, defaulted};
-ghost use Rattle.ds_request.specs.Requests.{field_name, member_read};
+ghost use Rattle.ds_request.specs.Requests.{member_read};
 ghost use Rattle.ds_request.specs.Members.{AgreeBut};
 
 use crate::call::RequestRefused;
 use crate::forms::Form;
-use crate::members::told::{field_name, told_at};
+use crate::members::told::told_at;
 use crate::members::{Members, take_member};
 use crate::refusal::Refusal;
 use ds_query::Field;
@@ -127,6 +128,6 @@ pub(crate) fn read_member<M: ReadMember>(
         (members_view members.old.entries) }
 {
     let field = member.field();
-    let given = take_member(members, field_name(field));
+    let given = take_member(members, field.name());
     told_at(client, field, member.read(alloc, given))
 }

@@ -2,7 +2,8 @@
 ghost use Rattle.std.specs.Prelude.{IfOk};
 ghost use Rattle.serde_json.specs.View.{members_view};
 ghost use Rattle.ds_request.specs.Reading.{Reads};
-ghost use Rattle.ds_request.specs.Requests.{put_call_of, IsLawfulCall};
+ghost use Rattle.ds_request.specs.Lawful.{IsLawfulCall};
+ghost use Rattle.ds_request.specs.Requests.{put_call_of};
 
 use crate::call::{Call, RequestRefused};
 use crate::forms::entities::EntityForm;

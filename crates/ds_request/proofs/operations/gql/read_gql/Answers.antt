@@ -1,7 +1,7 @@
 use Rattle.std.proofs.Common.{◌≡◌, ℕ, List, Bool, Option, Err, refl, rules}
 use Rattle.serde_json.specs.View.{members_view}
 use Rattle.ds_base.specs.declared.value.Value.{Value}
-use Rattle.ds_base.specs.declared.results.NamedValue.{NamedValue}
+use Rattle.ds_base.specs.declared.named_value.NamedValue.{NamedValue}
 use Rattle.ds_request.specs.declared.call.Call.{Call}
 use Rattle.ds_request.specs.declared.call.Call.TheVariants as call
 use Rattle.ds_request.proofs.operations.gql.read_gql.Goals as goal

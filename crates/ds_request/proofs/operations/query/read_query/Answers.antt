@@ -1,7 +1,7 @@
 use Rattle.std.proofs.Common.{◌≡◌, ℕ, List, Bool, Option, Err, refl, rules}
 use Rattle.serde_json.specs.View.{members_view}
 use Rattle.ds_base.specs.Keys.{KeyParts}
-use Rattle.ds_base.specs.declared.results.Column.{Column}
+use Rattle.ds_base.specs.declared.column.Column.{Column}
 use Rattle.ds_query.specs.declared.query.Filter.{Filter}
 use Rattle.ds_query.specs.declared.query.Select.{Select}
 use Rattle.ds_request.specs.declared.call.Call.{Call}
