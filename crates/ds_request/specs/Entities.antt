@@ -1,5 +1,5 @@
 -- Entities as JSON.
-use Rattle.std.specs.Prelude.{ℕ, List, [], ◌∷◌, Bool, not, ◌||◌, Option, Some, None, Result, Ok, Err, cond, codes, IsTrue, length, ◌<◌, ◌^◌}
+use Rattle.std.specs.Prelude.{ℕ, List, [], ◌∷◌, Bool, not, ◌||◌, Option, Some, None, Result, Err, cond, codes, IsTrue, length, ◌<◌, ◌^◌}
 use Rattle.serde_json.specs.Data.{Data, object}
 use Rattle.ds_base.specs.declared.value.Value.{Value}
 use Rattle.ds_base.specs.declared.entity.Property.{Property}

@@ -1,5 +1,5 @@
 -- The members of a request as JSON: each form as the table of members says it. Keys, values and entities stand beside it.
-use Rattle.std.specs.Prelude.{ℕ, List, [], ◌∷◌, Bool, true, false, bytes_eq, Option, Some, None, Result, Ok, Err, cond, codes, length, nat_le}
+use Rattle.std.specs.Prelude.{ℕ, List, [], ◌∷◌, Bool, true, false, bytes_eq, Option, Some, Result, Ok, Err, cond, codes, length, nat_le}
 use Rattle.std.specs.Option.{ok_or}
 use Rattle.serde_json.specs.Data.{Data, string, array, object, no_items, item}
 use Rattle.serde_json.specs.Find.{as_bool, as_str}

@@ -1,5 +1,5 @@
 -- What a line asks: its members in the order in which they are looked at. The first that fails is told.
-use Rattle.std.specs.Prelude.{◌≡◌, ℕ, List, [], false, Option, Some, None, Result, Ok, Err, bytes_eq, cond, codes}
+use Rattle.std.specs.Prelude.{ℕ, List, [], false, Option, Some, None, Result, Ok, Err, bytes_eq, cond, codes}
 use Rattle.std.specs.Str.{is_utf8}
 use Rattle.serde_json.specs.Data.{Data, object, Members}
 use Rattle.serde_json.specs.Read.{read}
@@ -19,7 +19,7 @@ use Rattle.ds_request.specs.declared.refusal.Refusal.TheVariants as refusal
 use Rattle.ds_request.specs.Reading.{and_then, read_as, member_of, required, optional, defaulted}
 use Rattle.ds_request.specs.Keys.{key_of, writable_key_of}
 use Rattle.ds_request.specs.Values.{value_of}
-use Rattle.ds_request.specs.Entities.{entity_of, PutParts}
+use Rattle.ds_request.specs.Entities.{entity_of}
 use Rattle.ds_request.specs.Queries.{text_of, name_of, namespace_of, flag_of, client_of, results_of, count_of, shard_of, list_of, filter_of, order_of, select_of, named_values_of}
 
 -- ---- a member

@@ -19,4 +19,3 @@ mod refusal;
 
 pub use call::{Call, Request, RequestRefused};
 pub use line::read_request;
-

@@ -21,12 +21,7 @@ pub(crate) trait EntryForm {
     ghost reads: { Self → List ℕ → Data → Result (Option Self.Item) Refusal };
 
     /// Reads the member as an item or as nothing, or tells what is wrong with it.
-    fn read(
-        &self,
-        alloc: Global,
-        name: String,
-        value: Value,
-    ) -> Result<Option<Self::Item>, Refusal>
+    fn read(&self, alloc: Global, name: String, value: Value) -> Result<Option<Self::Item>, Refusal>
         ensures { Reads Refusal.NoMemory (reads self.now (string_bytes name) (view value)) result };
 }
 

@@ -42,12 +42,7 @@ fn read_parts(alloc: Global, parts: Vec<Value>) -> Result<Filter, Refusal>
     }
 }
 
-fn read_filter(
-    alloc: Global,
-    property: Value,
-    op: Value,
-    operand: Value,
-) -> Result<Filter, Refusal>
+fn read_filter(alloc: Global, property: Value, op: Value, operand: Value) -> Result<Filter, Refusal>
     ensures { Reads Refusal.NoMemory
         (filter_of (array (items_view (property ∷ op ∷ operand ∷ [])))) result }
 {

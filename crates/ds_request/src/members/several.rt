@@ -44,12 +44,7 @@ impl ReadMembers for () {
 
     ghost reads = { λ _ _ _ make. Ok (make tt) };
 
-    fn read(
-        self,
-        _alloc: Global,
-        _client: u32,
-        _members: Members,
-    ) -> Result<(), RequestRefused> {
+    fn read(self, _alloc: Global, _client: u32, _members: Members) -> Result<(), RequestRefused> {
         Ok(())
     }
 }

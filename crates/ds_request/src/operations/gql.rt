@@ -16,11 +16,7 @@ use ds_query::Field;
 use std::alloc::Global;
 
 /// Reads a statement.
-pub(crate) fn read_gql(
-    alloc: Global,
-    client: u32,
-    members: Members,
-) -> Result<Call, RequestRefused>
+pub(crate) fn read_gql(alloc: Global, client: u32, members: Members) -> Result<Call, RequestRefused>
     ensures { Reads RequestRefused.NoMemory (gql_call_of client (members_view members.entries)) result }
 {
     let namespace = Defaulted {
@@ -55,9 +51,13 @@ pub(crate) fn read_gql(
         form: FlagForm,
         absent: false,
     };
-    let table = (namespace, (text, (args, (names, (start, (end, (cursor, ())))))));
-    let (namespace, (text, (args, (names, (start, (end, (cursor, ()))))))) =
-        table.read(alloc, client, members)?;
+    let table = (
+        namespace,
+        (text, (args, (names, (start, (end, (cursor, ())))))),
+    );
+    let (namespace, (text, (args, (names, (start, (end, (cursor, ()))))))) = table.read(
+        alloc, client, members,
+    )?;
     Ok(Call::Gql {
         namespace,
         text,

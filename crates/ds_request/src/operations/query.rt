@@ -76,9 +76,13 @@ pub(crate) fn read_query(
         absent: false,
     };
     let page = (offset, (limit, (start, (end, (cursor, ())))));
-    let table = (namespace, (kind, (ancestor, (filters, (orders, (select, page))))));
-    let (namespace, (kind, (ancestor, (filters, (orders, (select, page)))))) =
-        table.read(alloc, client, members)?;
+    let table = (
+        namespace,
+        (kind, (ancestor, (filters, (orders, (select, page))))),
+    );
+    let (namespace, (kind, (ancestor, (filters, (orders, (select, page)))))) = table.read(
+        alloc, client, members,
+    )?;
     let (offset, (limit, (start, (end, (cursor, ()))))) = page;
     Ok(Call::Query {
         namespace,

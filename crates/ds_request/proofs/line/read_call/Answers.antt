@@ -1,6 +1,4 @@
-use Rattle.std.proofs.Common.{◌≡◌, rules}
 use Rattle.serde_json.specs.View.{members_view}
-use Rattle.ds_request.specs.Lawful.{IsLawfulCall}
 use Rattle.ds_request.proofs.LawfulLemmas.{read_lawful, query_lawful, gql_lawful, allocate_ids_lawful}
 use Rattle.ds_request.proofs.line.read_call.Goals as goal
 

@@ -1,4 +1,4 @@
-use Rattle.std.proofs.Common.{◌≡◌, sym, ap, ◌∙◌}
+use Rattle.std.proofs.Common.{ap, ◌∙◌}
 use Rattle.ds_request.specs.Reading.{unless_null}
 use Rattle.ds_request.proofs.MembersLemmas.{member_found, seen_behind}
 use Rattle.ds_request.proofs.members.member.Goals as goal

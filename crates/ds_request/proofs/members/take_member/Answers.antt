@@ -1,4 +1,4 @@
-use Rattle.std.proofs.Common.{◌≡◌, ◌∙◌}
+use Rattle.std.proofs.Common.{◌∙◌}
 use Rattle.ds_request.proofs.MembersLemmas.{member_found, other_stays}
 use Rattle.ds_request.proofs.members.take_member.Goals as goal
 

@@ -1,6 +1,6 @@
-use Rattle.std.proofs.Common.{◌≡◌, [], ◌∷◌, ◌++◌, Some, None, Ok, Err, rules}
+use Rattle.std.proofs.Common.{◌≡◌, [], ◌∷◌, ◌++◌, Some, None, Err, rules}
 use Rattle.std.proofs.lemmas.List.{append-nil}
-use Rattle.ds_request.proofs.EntriesLemmas.{entry_read, entry_refused, entries_end}
+use Rattle.ds_request.proofs.EntriesLemmas.{entry_read, entry_refused}
 use Rattle.ds_request.proofs.forms.entries.read_entries.Goals as goal
 
 pub returns-in_err-item-clause-read : goal.returns-in_err-item-clause-read

@@ -1,4 +1,4 @@
-use Rattle.std.proofs.Common.{◌≡◌, ◌<◌, length, ap, ◌∙◌, arith}
+use Rattle.std.proofs.Common.{◌<◌, length, ap, ◌∙◌, arith}
 use Rattle.serde_json.specs.View.{view}
 use Rattle.serde_json.proofs.Views.{view-Array}
 use Rattle.ds_request.specs.Queries.{some_of}
