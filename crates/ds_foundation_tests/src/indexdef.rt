@@ -35,7 +35,11 @@ fn definitions_are_distinct(rt: HostRuntime) -> Result<(), Fail> {
         ("A", true, "p", false, false),
     ] {
         let pushed = defs.push(definition(alloc, kind, ancestor, name, descending)?);
-        assert_eq!(rt; pushed.is_ok(), taken, "{kind} {ancestor} {name} {descending}");
+        assert_eq!(rt;
+            pushed.is_ok(),
+            taken,
+            "{kind} {ancestor} {name} {descending}"
+        );
     }
     assert_eq!(rt; defs.len(), 5);
     let copy = defs.copy(alloc)?;
