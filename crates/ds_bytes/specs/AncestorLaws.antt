@@ -44,7 +44,7 @@ path_begins (e ∷ es) [] a more p q is = absurd (apart is) where
   apart is = cc
 path_begins (e ∷ es) (d ∷ ds) a more p q is =
     let here : elem_bytes d ++ (path_bytes ds ++ a) ≡ elem_bytes e ++ (flat_map elem_bytes es ++ more) =
-    sym (append_assoc (elem_bytes d) (path_bytes ds) a) ∙ ap (λ (bs : List ℕ). bs ++ a) (sym (append_assoc (elem_bytes d) (flat_map elem_bytes ds) (1 ∷ []))) ∙ is ∙ append_assoc (elem_bytes e) (flat_map elem_bytes es) more in
+        sym (append_assoc (elem_bytes d) (path_bytes ds) a) ∙ ap (λ (bs : List ℕ). bs ++ a) (sym (append_assoc (elem_bytes d) (flat_map elem_bytes ds) (1 ∷ []))) ∙ is ∙ append_assoc (elem_bytes e) (flat_map elem_bytes es) more in
     let first = elem_bytes-reads_once d e (path_bytes ds ++ a) (flat_map elem_bytes es ++ more) (All-head IsElemOfBytes d ds q) (All-head IsElemOfBytes e es p) here in
     let later = path_begins es ds a more (All-tail IsElemOfBytes e es p) (All-tail IsElemOfBytes d ds q) first.1 in
     record { rest = later.rest; path = λ i. first.0 i ∷ later.path i; bytes = later.bytes }
@@ -63,12 +63,11 @@ under_begins k d under =
     let namespace : k.namespace ≡ d.namespace = (bytes_decides k.namespace d.namespace).0 both.0 in
     let front : k.elems ≡ take (length k.elems) d.elems = (pointwise_decides same_elem-decides k.elems (take (length k.elems) d.elems)).0 both.1 in
     let rest : List Elem = drop (length k.elems) d.elems in
-    let path : d.elems ≡ k.elems ++ rest = sym (take-append-drop (length k.elems) d.elems) ∙ ap (λ (es : List Elem). es ++ rest) (sym front) in (
-      path_bytes rest,
+    let path : d.elems ≡ k.elems ++ rest = sym (take-append-drop (length k.elems) d.elems) ∙ ap (λ (es : List Elem). es ++ rest) (sym front) in
+    (path_bytes rest,
       (λ i. namespace_bytes (sym namespace i) ++ path_bytes (path i))
-          ∙ ap (λ (bs : List ℕ). namespace_bytes k.namespace ++ bs) (path_bytes-append k.elems rest)
-          ∙ sym (append_assoc (namespace_bytes k.namespace) (flat_map elem_bytes k.elems) (path_bytes rest)),
-    )
+      ∙ ap (λ (bs : List ℕ). namespace_bytes k.namespace ++ bs) (path_bytes-append k.elems rest)
+      ∙ sym (append_assoc (namespace_bytes k.namespace) (flat_map elem_bytes k.elems) (path_bytes rest)))
 
 -- bytes that begin with those of elements, and those of a path that does
 path_under : (es ds : List Elem) (more : List ℕ) → All IsElemOfBytes es → All IsElemOfBytes ds → path_bytes ds ≡ flat_map elem_bytes es ++ more → IsTrue (starts_with (eq_by_cmp elem_cmp) ds es)
@@ -92,7 +91,7 @@ namespace_under (c ∷ s) [] es (d ∷ ds) more n p q is = absurd (apart is) whe
   apart is = cc
 namespace_under (c ∷ s) (b ∷ t) es ds more n p q is =
     let front = reads_once (tagged-ordered escaped-ordered 3) bytes_cmp-same (b ∷ t) (c ∷ s) (path_bytes ds) (flat_map elem_bytes es ++ more) tt tt
-    (is ∙ append_assoc (namespace_bytes (c ∷ s)) (flat_map elem_bytes es) more) in
+        (is ∙ append_assoc (namespace_bytes (c ∷ s)) (flat_map elem_bytes es) more) in
     (sym front.0, path_under es ds more p q front.1)
 
 -- Of keys with at least one element, those under k are the ones whose encoding begins with that of k without its last byte.

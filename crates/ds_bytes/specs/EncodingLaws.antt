@@ -71,7 +71,7 @@ ident_bytes-ordered = record { compares = λ x y a b p q. idents x y a b p q }
 pub elem_rest-ordered : IsOrderedBy elem_cmp IsElemOfBytes elem_rest
 elem_rest-ordered = record {
   compares = λ x y a b p q.
-      (joined-ordered escaped-ordered ident_bytes-ordered).compares (x.kind, x.ident) (y.kind, y.ident) a b (tt, p.ident) (tt, q.ident);
+    (joined-ordered escaped-ordered ident_bytes-ordered).compares (x.kind, x.ident) (y.kind, y.ident) a b (tt, p.ident) (tt, q.ident)
 }
 
 pub elem_bytes-ordered : IsOrderedBy elem_cmp IsElemOfBytes elem_bytes
@@ -95,10 +95,10 @@ namespaces (c ∷ s) (d ∷ t) x y a b p q = texts (c ∷ s) (d ∷ t) (path_byt
 pub key_bytes-ordered : IsOrderedBy key_cmp IsKeyOfBytes key_bytes
 key_bytes-ordered = record {
   compares = λ x y a b p q.
-      (λ i. bytes_cmp (append_assoc (namespace_bytes x.namespace) (path_bytes x.elems) a i) (append_assoc (namespace_bytes y.namespace) (path_bytes y.elems) b i))
-      ∙ namespaces x.namespace y.namespace x.elems y.elems a b p.elems q.elems
-      ∙ ap (λ r. ordering_then (bytes_cmp x.namespace y.namespace) r) (path_bytes-ordered.compares x.elems y.elems a b p.elems q.elems)
-      ∙ sym (then-assoc (bytes_cmp x.namespace y.namespace) (slice_cmp elem_cmp x.elems y.elems) (bytes_cmp a b));
+    (λ i. bytes_cmp (append_assoc (namespace_bytes x.namespace) (path_bytes x.elems) a i) (append_assoc (namespace_bytes y.namespace) (path_bytes y.elems) b i))
+    ∙ namespaces x.namespace y.namespace x.elems y.elems a b p.elems q.elems
+    ∙ ap (λ r. ordering_then (bytes_cmp x.namespace y.namespace) r) (path_bytes-ordered.compares x.elems y.elems a b p.elems q.elems)
+    ∙ sym (then-assoc (bytes_cmp x.namespace y.namespace) (slice_cmp elem_cmp x.elems y.elems) (bytes_cmp a b))
 }
 
 -- ---- values

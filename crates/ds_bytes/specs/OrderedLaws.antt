@@ -56,7 +56,7 @@ module _ {A : Type 0} {cmp : A → A → Ordering} {Lawful : A → Type 0} {writ
   pub reads_once : IsAntisymmetric cmp → (x y : A) (a b : List ℕ) → Lawful x → Lawful y → written x ++ a ≡ written y ++ b → (x ≡ y) × (a ≡ b)
   reads_once same x y a b p q e =
       let tied : ordering_then (cmp x y) (bytes_cmp a b) ≡ Equal =
-      sym (ordered.compares x y a b p q) ∙ ap (λ bs. bytes_cmp (written x ++ a) bs) (sym e) ∙ tied_itself nat_list_cmp_total (written x ++ a) in
+          sym (ordered.compares x y a b p q) ∙ ap (λ bs. bytes_cmp (written x ++ a) bs) (sym e) ∙ tied_itself nat_list_cmp_total (written x ++ a) in
       let both = both_Equal (cmp x y) (bytes_cmp a b) tied in
       (same x y both.0, bytes_cmp-same a b both.1)
 
@@ -80,10 +80,10 @@ module _ {A : Type 0} {cmp : A → A → Ordering} {Lawful : A → Type 0} {writ
       → IsOrderedBy {A = A × B} (λ x y. ordering_then (cmp x.0 y.0) (cmp' x.1 y.1)) (λ x. Lawful x.0 × Lawful' x.1) (λ x. written x.0 ++ written' x.1)
   joined-ordered {cmp' = cmp'} {written' = written'} second = record {
     compares = λ x y a b p q.
-        (λ i. bytes_cmp (append_assoc (written x.0) (written' x.1) a i) (append_assoc (written y.0) (written' y.1) b i))
-        ∙ ordered.compares x.0 y.0 (written' x.1 ++ a) (written' y.1 ++ b) p.0 q.0
-        ∙ ap (λ r. ordering_then (cmp x.0 y.0) r) (second.compares x.1 y.1 a b p.1 q.1)
-        ∙ sym (then-assoc (cmp x.0 y.0) (cmp' x.1 y.1) (bytes_cmp a b));
+      (λ i. bytes_cmp (append_assoc (written x.0) (written' x.1) a i) (append_assoc (written y.0) (written' y.1) b i))
+      ∙ ordered.compares x.0 y.0 (written' x.1 ++ a) (written' y.1 ++ b) p.0 q.0
+      ∙ ap (λ r. ordering_then (cmp x.0 y.0) r) (second.compares x.1 y.1 a b p.1 q.1)
+      ∙ sym (then-assoc (cmp x.0 y.0) (cmp' x.1 y.1) (bytes_cmp a b));
   }
 
   -- the comparison of two lists
@@ -143,26 +143,24 @@ complements [] (y ∷ ys) r p q compares a b = absurd (not_begun y ys r compares
 complements (x ∷ xs) [] r p q compares a b = absurd (not_begun_by x xs r compares)
 complements (x ∷ xs) (y ∷ ys) r p q compares a b =
     decided (nat_cmp x y) refl (complements xs ys r (All-tail (λ b. b < 256) x xs p) (All-tail (λ b. b < 256) y ys q)) where
-      front : (o : Ordering) → nat_cmp x y ≡ o → nat_cmp (255 - x) (255 - y) ≡ ordering_reverse o
-      front o e = complement_cmp x y (All-head (λ b. b < 256) x xs p) (All-head (λ b. b < 256) y ys q) ∙ ap ordering_reverse e
-
-      behind : (o : Ordering) → nat_cmp x y ≡ o → (c d : List ℕ) → ordering_then o (bytes_cmp (xs ++ c) (ys ++ d)) ≡ ordering_then r (bytes_cmp c d)
-      behind o e c d = ap (λ z. ordering_then z (bytes_cmp (xs ++ c) (ys ++ d))) (sym e) ∙ compares c d
-
-      decided : (o : Ordering) → nat_cmp x y ≡ o
-          → (((c d : List ℕ) → bytes_cmp (xs ++ c) (ys ++ d) ≡ ordering_then r (bytes_cmp c d)) → (c d : List ℕ) → bytes_cmp (complement xs ++ c) (complement ys ++ d) ≡ ordering_then (ordering_reverse r) (bytes_cmp c d))
-          → bytes_cmp (complement (x ∷ xs) ++ a) (complement (y ∷ ys) ++ b) ≡ ordering_then (ordering_reverse r) (bytes_cmp a b)
-      decided Less e more =
-          let less : Less ≡ r = behind Less e [] [] ∙ then-Equal r in
-          ap (λ o. ordering_then o (bytes_cmp (complement xs ++ a) (complement ys ++ b))) (front Less e) ∙ ap (λ o. ordering_then (ordering_reverse o) (bytes_cmp a b)) less
-      decided Equal e more = ap (λ o. ordering_then o (bytes_cmp (complement xs ++ a) (complement ys ++ b))) (front Equal e) ∙ more (behind Equal e) a b
-      decided Greater e more =
-          let greater : Greater ≡ r = behind Greater e [] [] ∙ then-Equal r in
-          ap (λ o. ordering_then o (bytes_cmp (complement xs ++ a) (complement ys ++ b))) (front Greater e) ∙ ap (λ o. ordering_then (ordering_reverse o) (bytes_cmp a b)) greater
+  front : (o : Ordering) → nat_cmp x y ≡ o → nat_cmp (255 - x) (255 - y) ≡ ordering_reverse o
+  front o e = complement_cmp x y (All-head (λ b. b < 256) x xs p) (All-head (λ b. b < 256) y ys q) ∙ ap ordering_reverse e
+  behind : (o : Ordering) → nat_cmp x y ≡ o → (c d : List ℕ) → ordering_then o (bytes_cmp (xs ++ c) (ys ++ d)) ≡ ordering_then r (bytes_cmp c d)
+  behind o e c d = ap (λ z. ordering_then z (bytes_cmp (xs ++ c) (ys ++ d))) (sym e) ∙ compares c d
+  decided : (o : Ordering) → nat_cmp x y ≡ o
+      → (((c d : List ℕ) → bytes_cmp (xs ++ c) (ys ++ d) ≡ ordering_then r (bytes_cmp c d)) → (c d : List ℕ) → bytes_cmp (complement xs ++ c) (complement ys ++ d) ≡ ordering_then (ordering_reverse r) (bytes_cmp c d))
+      → bytes_cmp (complement (x ∷ xs) ++ a) (complement (y ∷ ys) ++ b) ≡ ordering_then (ordering_reverse r) (bytes_cmp a b)
+  decided Less e more =
+      let less : Less ≡ r = behind Less e [] [] ∙ then-Equal r in
+      ap (λ o. ordering_then o (bytes_cmp (complement xs ++ a) (complement ys ++ b))) (front Less e) ∙ ap (λ o. ordering_then (ordering_reverse o) (bytes_cmp a b)) less
+  decided Equal e more = ap (λ o. ordering_then o (bytes_cmp (complement xs ++ a) (complement ys ++ b))) (front Equal e) ∙ more (behind Equal e) a b
+  decided Greater e more =
+      let greater : Greater ≡ r = behind Greater e [] [] ∙ then-Equal r in
+      ap (λ o. ordering_then o (bytes_cmp (complement xs ++ a) (complement ys ++ b))) (front Greater e) ∙ ap (λ o. ordering_then (ordering_reverse o) (bytes_cmp a b)) greater
 
 -- so what is written in its order, each byte taken from 255, is written in the other order
 pub complement-ordered : {A : Type 0} {cmp : A → A → Ordering} {Lawful : A → Type 0} {written : A → List ℕ} → IsOrderedBy cmp Lawful written
     → ((x : A) → Lawful x → All (λ b. b < 256) (written x)) → IsOrderedBy (λ x y. ordering_reverse (cmp x y)) Lawful (λ x. complement (written x))
 complement-ordered {cmp = cmp} {written = written} ordered bytes = record {
-  compares = λ x y a b p q. complements (written x) (written y) (cmp x y) (bytes x p) (bytes y q) (λ c d. ordered.compares x y c d p q) a b;
+  compares = λ x y a b p q. complements (written x) (written y) (cmp x y) (bytes x p) (bytes y q) (λ c d. ordered.compares x y c d p q) a b
 }

@@ -37,5 +37,5 @@ raised_cmp y z p q = sym (nat_cmp_is (raised y) (raised z) (int_cmp y z) (by (in
 pub signed-ordered : IsOrderedBy int_cmp (FitsSigned w64) (λ z. eight_bytes (raised z))
 signed-ordered = record {
   compares = λ y z a b p q.
-      eight_bytes-ordered.compares (raised y) (raised z) a b (raised-small y p) (raised-small z q) ∙ ap (λ r. ordering_then r (bytes_cmp a b)) (raised_cmp y z p q);
+    eight_bytes-ordered.compares (raised y) (raised z) a b (raised-small y p) (raised-small z q) ∙ ap (λ r. ordering_then r (bytes_cmp a b)) (raised_cmp y z p q)
 }

@@ -36,11 +36,7 @@ pub fn decode(alloc: Global, bytes: &[u8], descending: bool) -> Result<Option<De
 }
 
 /// The key whose encoding stands at the front of the bytes, as `decode` reads a value.
-pub fn decode_key(
-    alloc: Global,
-    bytes: &[u8],
-    descending: bool,
-) -> Result<Option<DecodedKey>, NoMemory>
+pub fn decode_key(alloc: Global, bytes: &[u8], descending: bool) -> Result<Option<DecodedKey>, NoMemory>
     ensures found { IfOk result (λ found. IfSome found (λ d. Begins (key_encoding descending) bytes.now d.key d.rest)) }
     ensures lawful { IfOk result (λ found. IfSome found (λ d. IsLawfulKey d.key)) }
     ensures none { IfOk result (λ found. IfNone found (NoneBegins IsLawfulKey (key_encoding descending) bytes.now)) }
@@ -51,11 +47,7 @@ pub fn decode_key(
     }
 }
 
-fn read_value(
-    alloc: Global,
-    bytes: &[u8],
-    descending: bool,
-) -> Result<Option<(IndexValue, usize)>, NoMemory>
+fn read_value(alloc: Global, bytes: &[u8], descending: bool) -> Result<Option<(IndexValue, usize)>, NoMemory>
     ensures { Reads IsLawfulValue value_bytes (directed descending bytes.now) result }
 {
     let Some(tag) = byte_at(bytes, 0, descending) else {
@@ -101,11 +93,7 @@ fn read_truth(rest: &[u8], descending: bool) -> Result<Option<(IndexValue, usize
 }
 
 /// The byte sequence whose escaped bytes stand behind its class.
-fn read_sequence(
-    alloc: Global,
-    rest: &[u8],
-    descending: bool,
-) -> Result<Option<(IndexValue, usize)>, NoMemory>
+fn read_sequence(alloc: Global, rest: &[u8], descending: bool) -> Result<Option<(IndexValue, usize)>, NoMemory>
     ensures { Reads IsLawfulValue value_bytes (0x40 ∷ directed descending rest.now) result }
 {
     match read_bytes(alloc, rest, descending)? {
@@ -115,11 +103,7 @@ fn read_sequence(
 }
 
 /// The key whose encoding stands behind its class.
-fn read_key_value(
-    alloc: Global,
-    rest: &[u8],
-    descending: bool,
-) -> Result<Option<(IndexValue, usize)>, NoMemory>
+fn read_key_value(alloc: Global, rest: &[u8], descending: bool) -> Result<Option<(IndexValue, usize)>, NoMemory>
     ensures { Reads IsLawfulValue value_bytes (0x50 ∷ directed descending rest.now) result }
 {
     match read_key(alloc, rest, descending)? {
@@ -145,11 +129,7 @@ fn read_key(alloc: Global, bytes: &[u8], descending: bool) -> Result<Option<(Key
 }
 
 /// The namespace before a path: the default one where no other stands there.
-fn read_namespace(
-    alloc: Global,
-    bytes: &[u8],
-    descending: bool,
-) -> Result<Option<(TextString, usize)>, NoMemory>
+fn read_namespace(alloc: Global, bytes: &[u8], descending: bool) -> Result<Option<(TextString, usize)>, NoMemory>
     ensures none { IfOk result (λ found. IfNone found ((s more : List ℕ) (es : List Elem) → IsText s → directed descending bytes.now ≡ namespace_bytes s ++ (path_bytes es ++ more) → ⊥)) }
     ensures found { IfOk result (λ found. IfSome found (λ x. Found IsText namespace_bytes (directed descending bytes.now) x.0 x.1)) }
 {
@@ -160,11 +140,7 @@ fn read_namespace(
 }
 
 /// The namespace whose escaped bytes stand behind the byte that announces it, and which is not the default one.
-fn read_named(
-    alloc: Global,
-    rest: &[u8],
-    descending: bool,
-) -> Result<Option<(TextString, usize)>, NoMemory>
+fn read_named(alloc: Global, rest: &[u8], descending: bool) -> Result<Option<(TextString, usize)>, NoMemory>
     ensures { Reads IsText namespace_bytes (0x03 ∷ directed descending rest.now) result }
 {
     match read_text(alloc, rest, descending)? {
@@ -180,11 +156,7 @@ fn read_named(
 }
 
 /// Elements up to the byte that ends a path.
-fn read_path(
-    alloc: Global,
-    bytes: &[u8],
-    descending: bool,
-) -> Result<Option<(Elems, usize)>, NoMemory>
+fn read_path(alloc: Global, bytes: &[u8], descending: bool) -> Result<Option<(Elems, usize)>, NoMemory>
     ensures { Reads (All IsLawfulElem) path_bytes (directed descending bytes.now) result }
 {
     let mut path = Vec::new(alloc);
@@ -205,11 +177,7 @@ fn read_path(
 }
 
 /// A kind and an identifier: an element without the byte in front of it.
-fn read_elem(
-    alloc: Global,
-    bytes: &[u8],
-    descending: bool,
-) -> Result<Option<(Elem, usize)>, NoMemory>
+fn read_elem(alloc: Global, bytes: &[u8], descending: bool) -> Result<Option<(Elem, usize)>, NoMemory>
     ensures { Reads IsLawfulElem elem_rest (directed descending bytes.now) result }
 {
     let Some((kind, before)) = read_text(alloc, bytes, descending)? else {
@@ -221,11 +189,7 @@ fn read_elem(
     Ok(Some((Elem { kind, ident }, before + taken)))
 }
 
-fn read_ident(
-    alloc: Global,
-    bytes: &[u8],
-    descending: bool,
-) -> Result<Option<(Ident, usize)>, NoMemory>
+fn read_ident(alloc: Global, bytes: &[u8], descending: bool) -> Result<Option<(Ident, usize)>, NoMemory>
     ensures { Reads IsLawfulIdent ident_bytes (directed descending bytes.now) result }
 {
     match byte_at(bytes, 0, descending) {
@@ -246,11 +210,7 @@ fn read_id(rest: &[u8], descending: bool) -> Result<Option<(Ident, usize)>, NoMe
 }
 
 /// The name whose escaped bytes stand behind the byte that announces it.
-fn read_name(
-    alloc: Global,
-    rest: &[u8],
-    descending: bool,
-) -> Result<Option<(Ident, usize)>, NoMemory>
+fn read_name(alloc: Global, rest: &[u8], descending: bool) -> Result<Option<(Ident, usize)>, NoMemory>
     ensures { Reads IsLawfulIdent ident_bytes (0x20 ∷ directed descending rest.now) result }
 {
     match read_text(alloc, rest, descending)? {

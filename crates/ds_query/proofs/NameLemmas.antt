@@ -37,7 +37,7 @@ pub has_name-insert_key : (keys : List (Bor (List ℕ))) (k : Bor (List ℕ)) (n
 has_name-insert_key [] k n = refl
 has_name-insert_key (x ∷ xs) k n = at (str_cmp k x) refl (has_name-insert_key xs k n) where
   at : (r : Ordering) → str_cmp k x ≡ r → has_name (map now_of (insert_key str_cmp xs k)) n ≡ (bytes_eq n k.now || has_name (map now_of xs) n)
-      → has_name (map now_of (match_ordering r (k ∷ x ∷ xs) (x ∷ xs) (x ∷ insert_key str_cmp xs k))) n ≡ (bytes_eq n k.now || (bytes_eq n x.now || has_name (map now_of xs) n))
+    → has_name (map now_of (match_ordering r (k ∷ x ∷ xs) (x ∷ xs) (x ∷ insert_key str_cmp xs k))) n ≡ (bytes_eq n k.now || (bytes_eq n x.now || has_name (map now_of xs) n))
   at Less e later = refl
   at Equal e later =
       rw (bytes_cmp-same k.now x.now e) (or_again (bytes_eq n x.now) (has_name (map now_of xs) n))
