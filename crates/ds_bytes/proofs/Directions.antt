@@ -19,7 +19,7 @@ module _ {A : Type 0} (descending : Bool) (written : A → List ℕ) (bytes : Li
   pub begins_directed : (v : A) (n : ℕ) → AreBytes bytes → Begins written (directed descending bytes) v n → Begins (λ x. directed descending (written x)) bytes v n
   begins_directed v n p begins = record {
     front = sym (directed-directed descending bytes p) ∙ ap (directed descending) begins.front ∙ directed-append descending (written v) (drop n (directed descending bytes))
-      ∙ ap (λ (xs : List ℕ). directed descending (written v) ++ xs) (directed-drop descending n (directed descending bytes) ∙ ap (drop n) (directed-directed descending bytes p));
+        ∙ ap (λ (xs : List ℕ). directed descending (written v) ++ xs) (directed-drop descending n (directed descending bytes) ∙ ap (drop n) (directed-directed descending bytes p));
     long = begins.long ∙ sym (length-directed descending (written v));
   }
 

@@ -1,5 +1,6 @@
 -- What the readers of elements and paths find.
-use Rattle.std.proofs.Common.{◌≡◌, ◌≢◌, ℕ, suc, ◌+◌, ◌<◌, ◌≤◌, Bool, List, [], ◌∷◌, ◌++◌, length, drop, length-append, append_assoc, append-nil, sym, ap, ◌∙◌, subst, arith, refl}
+use Rattle.std.proofs.Common.{◌≡◌, ◌≢◌, ℕ, suc, ◌+◌, ◌<◌, ◌≤◌, Bool, List, [], ◌∷◌, ◌++◌, length, drop, length-append, append_assoc}
+use Rattle.std.proofs.Common.{append-nil, sym, ap, ◌∙◌, subst, arith, refl}
 use Rattle.std.specs.Prelude.{flat_map, All}
 use Rattle.std.specs.FinMap.{slice_cmp-IsAntisymmetric}
 use Rattle.std.proofs.lemmas.List.{flat_map_more}
@@ -24,7 +25,7 @@ no_kind bytes none e more p is = none e.kind (ident_bytes e.ident ++ more) p.kin
 pub no_ident_behind : (bytes rest kind : List ℕ) (n : ℕ) → Found IsText escaped bytes kind n → rest ≡ drop n bytes → NoneBegins IsLawfulIdent ident_bytes rest → NoneBegins IsLawfulElem elem_rest bytes
 no_ident_behind bytes rest kind n found at none e more p is =
     let once = escaped-reads_once e.kind kind (ident_bytes e.ident ++ more) (drop n bytes)
-        (sym (append_assoc (escaped e.kind) (ident_bytes e.ident) more) ∙ sym is ∙ found.begins.front) in
+    (sym (append_assoc (escaped e.kind) (ident_bytes e.ident) more) ∙ sym is ∙ found.begins.front) in
     none e.ident more p.ident (at ∙ sym once.1)
 
 pub elem_found : (bytes rest : List ℕ) (e : Elem) (n m k : ℕ) → k ≡ n + m → Found IsText escaped bytes e.kind n → rest ≡ drop n bytes → Found IsLawfulIdent ident_bytes rest e.ident m
@@ -75,6 +76,7 @@ no_path_at_elem bytes rest path lawful so_far none = no_path_behind bytes (2 ∷
   by (e ∷ es) more p is = none e (path_bytes es ++ more) (All-head IsLawfulElem e es p) (sym (inside is) ∙ regrouped) where
     regrouped : ((elem_rest e ++ flat_map elem_bytes es) ++ 1 ∷ []) ++ more ≡ elem_rest e ++ (path_bytes es ++ more)
     regrouped = simp append_assoc
+
     inside : 2 ∷ (((elem_rest e ++ flat_map elem_bytes es) ++ 1 ∷ []) ++ more) ≡ 2 ∷ rest → ((elem_rest e ++ flat_map elem_bytes es) ++ 1 ∷ []) ++ more ≡ rest
     inside is = cc
 

@@ -1,5 +1,6 @@
 -- What the readers of keys find.
-use Rattle.std.proofs.Common.{◌≡◌, ◌≢◌, ℕ, suc, ◌+◌, ◌<◌, ◌≤◌, Bool, true, false, ◌==◌, List, [], ◌∷◌, ◌++◌, length, drop, slice_get, Some, length-append, append_assoc, append-nil, sym, ap, ◌∙◌, subst, arith, refl}
+use Rattle.std.proofs.Common.{◌≡◌, ◌≢◌, ℕ, suc, ◌+◌, ◌<◌, ◌≤◌, Bool, true, false, ◌==◌, List, [], ◌∷◌, ◌++◌, length, drop, slice_get, Some}
+use Rattle.std.proofs.Common.{length-append, append_assoc, append-nil, sym, ap, ◌∙◌, subst, arith, refl}
 use Rattle.std.specs.Prelude.{flat_map, All, IsTrue}
 use Rattle.ds_base.specs.declared.key.Elem.{Elem}
 use Rattle.std.proofs.Common.{◌⊎◌, inl, inr, Result, Ok, Err, Option, None}
@@ -26,7 +27,7 @@ no_default_path bytes none k more p is = none k.elems more p.lawful.elems (is �
 pub no_default_key : (bytes s : List ℕ) (path : List Elem) (n : ℕ) → Found (All IsLawfulElem) path_bytes bytes path n → s ≡ [] → (IsTrue (is_key (record { namespace = s; elems = path })) → ⊥) → NoneBegins IsDefaultKey key_bytes bytes
 no_default_key bytes s path n found empty refused k more p is =
     let once = path_bytes-reads_once k.elems path more (drop n bytes) p.lawful.elems found.lawful
-        (ap (λ (xs : List ℕ). xs ++ more) (sym (default_bytes k p.default)) ∙ sym is ∙ found.begins.front) in
+    (ap (λ (xs : List ℕ). xs ++ more) (sym (default_bytes k p.default)) ∙ sym is ∙ found.begins.front) in
     refused (subst (λ l. IsTrue (is_key l)) (λ i. record { namespace = (p.default ∙ sym empty) i; elems = once.0 i }) p.lawful.rules)
 
 empty_text : IsText []
@@ -52,8 +53,8 @@ named_bytes (b ∷ bs) not_empty = refl
 named_parts : (k : KeyParts) (bytes more : List ℕ) → (k.namespace ≢ []) → 3 ∷ bytes ≡ key_bytes k ++ more → bytes ≡ escaped k.namespace ++ (path_bytes k.elems ++ more)
 named_parts k bytes more named is =
     inside (is ∙ append_assoc (namespace_bytes k.namespace) (path_bytes k.elems) more ∙ ap (λ (xs : List ℕ). xs ++ (path_bytes k.elems ++ more)) (named_bytes k.namespace named)) where
-  inside : 3 ∷ bytes ≡ 3 ∷ (escaped k.namespace ++ (path_bytes k.elems ++ more)) → bytes ≡ escaped k.namespace ++ (path_bytes k.elems ++ more)
-  inside is = cc
+      inside : 3 ∷ bytes ≡ 3 ∷ (escaped k.namespace ++ (path_bytes k.elems ++ more)) → bytes ≡ escaped k.namespace ++ (path_bytes k.elems ++ more)
+      inside is = cc
 
 pub no_named_text : (bytes : List ℕ) → NoneBegins IsText escaped bytes → NoneBegins IsNamedKey key_bytes (0x03 ∷ bytes)
 no_named_text bytes none k more p is = none k.namespace (path_bytes k.elems ++ more) p.lawful.namespace (named_parts k bytes more p.named is)
@@ -84,9 +85,9 @@ named_found bytes rest s path k n m j text named at found of sum =
     let spelled : key_bytes parts ≡ (3 ∷ escaped s) ++ path_bytes path = ap (λ (xs : List ℕ). xs ++ path_bytes path) (named_bytes s named) in
     subst (λ l. Found IsNamedKey key_bytes (3 ∷ bytes) l j) (sym of.key) (record {
       begins = begins_from key_bytes (3 ∷ bytes) (drop m rest) parts j
-        (ap (λ (xs : List ℕ). 3 ∷ xs) (text.begins.front ∙ ap (λ (xs : List ℕ). escaped s ++ xs) (sym at ∙ found.begins.front) ∙ sym (append_assoc (escaped s) (path_bytes path) (drop m rest)))
+          (ap (λ (xs : List ℕ). 3 ∷ xs) (text.begins.front ∙ ap (λ (xs : List ℕ). escaped s ++ xs) (sym at ∙ found.begins.front) ∙ sym (append_assoc (escaped s) (path_bytes path) (drop m rest)))
           ∙ ap (λ (xs : List ℕ). xs ++ drop m rest) (sym spelled))
-        (omega (arith, text.begins.long, found.begins.long, ap length spelled, length-append (escaped s) (path_bytes path)));
+          (omega (arith, text.begins.long, found.begins.long, ap length spelled, length-append (escaped s) (path_bytes path)));
       lawful = record { lawful = record { rules = of.rules; namespace = text.lawful; elems = found.lawful }; named = named };
     })
 
@@ -125,6 +126,7 @@ no_key_at_end bytes ended k more p is = elim (default_or_named k.namespace) [
   no_path : (es : List Elem) → [] ≡ path_bytes es ++ more → ⊥
   no_path [] is = cc
   no_path (e ∷ es) is = cc
+
   apart : [] ≡ 3 ∷ (escaped k.namespace ++ (path_bytes k.elems ++ more)) → ⊥
   apart is = cc
 

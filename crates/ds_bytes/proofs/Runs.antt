@@ -1,5 +1,7 @@
 -- Runs without zero bytes, a block at a time; and escaped texts, a run at a time.
-use Rattle.std.proofs.Common.{◌≡◌, ◌≢◌, ℕ, zero, suc, ◌+◌, ◌-◌, ◌<◌, ◌≤◌, Bool, List, [], ◌∷◌, ◌++◌, length, take, drop, slice_get, Some, None, length-append, append_assoc, append-nil, sym, ap, ◌∙◌, subst, arith, refl, inl, inr, add_assoc, add-one, ◌⊎◌}
+use Rattle.std.proofs.Common.{◌≡◌, ◌≢◌, ℕ, zero, suc, ◌+◌, ◌-◌, ◌<◌, ◌≤◌, Bool, List, [], ◌∷◌, ◌++◌, length, take, drop, slice_get, Some}
+use Rattle.std.proofs.Common.{None, length-append, append_assoc, append-nil, sym, ap, ◌∙◌, subst, arith, refl, inl, inr, add_assoc, add-one}
+use Rattle.std.proofs.Common.{◌⊎◌}
 use Rattle.std.specs.Prelude.{flat_map, All}
 use Rattle.std.proofs.lemmas.List.{map-append, length-map, length-take-le}
 use Rattle.std.proofs.lemmas.Grind.{flat_map-append}
@@ -38,7 +40,7 @@ pub block_passes : (block behind rest : List ℕ) (n : ℕ) → block ++ behind 
 block_passes block behind rest n is run whole =
     let long : length (complement block) ≡ length block = length-map block (λ b. 255 - b) in
     let behind_it : first_zero (complement block ++ complement behind) ≡ length (complement block) + first_zero (complement behind) =
-        first_zero-behind (complement block) (complement behind) (omega arith) in
+    first_zero-behind (complement block) (complement behind) (omega arith) in
     ap (λ bs. first_zero (complement bs)) (sym is) ∙ ap first_zero (map-append (λ b. 255 - b) block behind) ∙ behind_it ∙ ap (λ (k : ℕ). k + first_zero (complement behind)) (long ∙ sym whole)
 
 pub block_more : (block behind rest text longer before whole : List ℕ) (run n : ℕ) → block ++ behind ≡ rest → n ≡ length block → longer ≡ text ++ take n (complement block)
@@ -48,7 +50,7 @@ block_more block behind rest text longer before whole run n is long more so_far 
     let same : length (complement block) ≡ n = length-map block (λ b. 255 - b) ∙ sym long in
     let all : take n (complement block) ≡ complement block = ap (λ (m : ℕ). take m (complement block)) (sym same) ∙ take-length (complement block) in
     let front : take (n + k) (complement rest) ≡ complement block ++ take k (complement behind) =
-        (λ i. take (sym same i + k) (sym turned i)) ∙ take-append-add (complement block) (complement behind) k in
+    (λ i. take (sym same i + k) (sym turned i)) ∙ take-append-add (complement block) (complement behind) k in
     ap (λ (xs : List ℕ). xs ++ take k (complement behind)) (more ∙ ap (λ (xs : List ℕ). text ++ xs) all)
     ∙ append_assoc text (complement block) (take k (complement behind))
     ∙ ap (λ (xs : List ℕ). text ++ xs) (sym front)
@@ -73,7 +75,7 @@ run_behind : (seen rest text longer : List ℕ) (run f : ℕ) → seen ≡ flat_
 run_behind seen rest text longer run f so_far first more found =
     let split : rest ≡ take run rest ++ 0 ∷ f ∷ drop (suc (suc run)) rest = zero_pair rest run f first (subst (λ (k : ℕ). slice_get rest k ≡ Some f) (add-one run) found) in
     let spelled : flat_map escaped_byte longer ≡ flat_map escaped_byte text ++ take run rest =
-        ap (flat_map escaped_byte) more ∙ flat_map-append escaped_byte text (take run rest) ∙ ap (λ (xs : List ℕ). flat_map escaped_byte text ++ xs) (flat-run rest run first) in
+    ap (flat_map escaped_byte) more ∙ flat_map-append escaped_byte text (take run rest) ∙ ap (λ (xs : List ℕ). flat_map escaped_byte text ++ xs) (flat-run rest run first) in
     let two : suc (suc run) ≡ run + 2 = omega arith in
     so_far ∙ ap (λ (xs : List ℕ). flat_map escaped_byte text ++ xs) (split ∙ ap (λ (k : ℕ). take run rest ++ 0 ∷ f ∷ drop k rest) two)
     ∙ sym (append_assoc (flat_map escaped_byte text) (take run rest) (0 ∷ f ∷ drop (run + 2) rest))
@@ -91,7 +93,7 @@ text_found seen rest text longer run taken n bytes so_far long first within more
     let spelled = run_behind seen rest text longer run 1 so_far first more found in
     record {
       begins = begins_from escaped seen (drop (run + 2) rest) longer n (spelled ∙ sym (append_assoc (flat_map escaped_byte longer) (0 ∷ 1 ∷ []) (drop (run + 2) rest)))
-        (omega (arith, run_length rest text longer run taken long first within more, length-append (flat_map escaped_byte longer) (0 ∷ 1 ∷ [])));
+          (omega (arith, run_length rest text longer run taken long first within more, length-append (flat_map escaped_byte longer) (0 ∷ 1 ∷ [])));
       lawful = text_of_bytes longer (0 ∷ 1 ∷ drop (run + 2) rest) (subst AreBytes spelled bytes);
     }
 
@@ -114,10 +116,10 @@ pub no_text : (seen rest text : List ℕ) (run : ℕ) → seen ≡ flat_map esca
 no_text seen rest text run so_far first not_end not_zero s more p is =
     let goes = text_begins text s more rest (sym is ∙ so_far) in
     by goes.rest (sym goes.bytes) where
-  by : (later : List ℕ) → rest ≡ escaped later ++ more → ⊥
-  by later at = elim (behind_zero later more run (first ∙ ap first_zero at)) [
-    | inl end ↦ not_end (back 1 end)
-    | inr zero_byte ↦ not_zero (back 255 zero_byte)
-  ] where
-    back : (f : ℕ) → slice_get (escaped later ++ more) (suc run) ≡ Some f → slice_get rest (run + 1) ≡ Some f
-    back f found = (λ i. slice_get (at i) (add-one run i)) ∙ found
+      by : (later : List ℕ) → rest ≡ escaped later ++ more → ⊥
+      by later at = elim (behind_zero later more run (first ∙ ap first_zero at)) [
+        | inl end ↦ not_end (back 1 end)
+        | inr zero_byte ↦ not_zero (back 255 zero_byte)
+      ] where
+        back : (f : ℕ) → slice_get (escaped later ++ more) (suc run) ≡ Some f → slice_get rest (run + 1) ≡ Some f
+        back f found = (λ i. slice_get (at i) (add-one run i)) ∙ found

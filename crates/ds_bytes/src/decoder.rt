@@ -37,7 +37,11 @@ pub fn decode(alloc: Global, bytes: &[u8], descending: bool) -> Result<Option<De
 }
 
 /// The key whose encoding stands at the front of the bytes, as `decode` reads a value.
-pub fn decode_key(alloc: Global, bytes: &[u8], descending: bool) -> Result<Option<DecodedKey>, NoMemory>
+pub fn decode_key(
+    alloc: Global,
+    bytes: &[u8],
+    descending: bool,
+) -> Result<Option<DecodedKey>, NoMemory>
     ensures found { IfOk result (λ found. IfSome found (λ d. Begins (key_encoding descending) bytes.now d.key d.rest)) }
     ensures lawful { IfOk result (λ found. IfSome found (λ d. IsLawfulKey d.key)) }
     ensures none { IfOk result (λ found. IfNone found (NoneBegins IsLawfulKey (key_encoding descending) bytes.now)) }
@@ -48,7 +52,11 @@ pub fn decode_key(alloc: Global, bytes: &[u8], descending: bool) -> Result<Optio
     }
 }
 
-fn read_value(alloc: Global, bytes: &[u8], descending: bool) -> Result<Option<(IndexValue, usize)>, NoMemory>
+fn read_value(
+    alloc: Global,
+    bytes: &[u8],
+    descending: bool,
+) -> Result<Option<(IndexValue, usize)>, NoMemory>
     ensures { Reads IsLawfulValue value_bytes (directed descending bytes.now) result }
 {
     let class = match byte_at(bytes, 0, descending) {
@@ -100,7 +108,11 @@ fn read_truth(rest: &[u8], descending: bool) -> Result<Option<(IndexValue, usize
 }
 
 /// The byte sequence whose escaped bytes stand behind its class.
-fn read_sequence(alloc: Global, rest: &[u8], descending: bool) -> Result<Option<(IndexValue, usize)>, NoMemory>
+fn read_sequence(
+    alloc: Global,
+    rest: &[u8],
+    descending: bool,
+) -> Result<Option<(IndexValue, usize)>, NoMemory>
     ensures { Reads IsLawfulValue value_bytes (0x40 ∷ directed descending rest.now) result }
 {
     match read_bytes(alloc, rest, descending)? {
@@ -110,7 +122,11 @@ fn read_sequence(alloc: Global, rest: &[u8], descending: bool) -> Result<Option<
 }
 
 /// The key whose encoding stands behind its class.
-fn read_key_value(alloc: Global, rest: &[u8], descending: bool) -> Result<Option<(IndexValue, usize)>, NoMemory>
+fn read_key_value(
+    alloc: Global,
+    rest: &[u8],
+    descending: bool,
+) -> Result<Option<(IndexValue, usize)>, NoMemory>
     ensures { Reads IsLawfulValue value_bytes (0x50 ∷ directed descending rest.now) result }
 {
     match read_key(alloc, rest, descending)? {
@@ -135,7 +151,11 @@ fn read_key(alloc: Global, bytes: &[u8], descending: bool) -> Result<Option<(Key
 }
 
 /// A path that makes a key of the default namespace.
-fn read_default_key(alloc: Global, bytes: &[u8], descending: bool) -> Result<Option<(Key, usize)>, NoMemory>
+fn read_default_key(
+    alloc: Global,
+    bytes: &[u8],
+    descending: bool,
+) -> Result<Option<(Key, usize)>, NoMemory>
     ensures { Reads IsDefaultKey key_bytes (directed descending bytes.now) result }
 {
     match read_path(alloc, bytes, descending)? {
@@ -145,7 +165,11 @@ fn read_default_key(alloc: Global, bytes: &[u8], descending: bool) -> Result<Opt
 }
 
 /// A namespace other than the default, behind the byte that announces it, and a path, which make a key.
-fn read_named_key(alloc: Global, rest: &[u8], descending: bool) -> Result<Option<(Key, usize)>, NoMemory>
+fn read_named_key(
+    alloc: Global,
+    rest: &[u8],
+    descending: bool,
+) -> Result<Option<(Key, usize)>, NoMemory>
     ensures { Reads IsNamedKey key_bytes (0x03 ∷ directed descending rest.now) result }
 {
     match read_text(alloc, rest, descending)? {
@@ -173,7 +197,11 @@ fn key_of(namespace: TextString, path: Elems, taken: usize) -> Option<(Key, usiz
 }
 
 /// Elements up to the byte that ends a path.
-fn read_path(alloc: Global, bytes: &[u8], descending: bool) -> Result<Option<(Elems, usize)>, NoMemory>
+fn read_path(
+    alloc: Global,
+    bytes: &[u8],
+    descending: bool,
+) -> Result<Option<(Elems, usize)>, NoMemory>
     ensures { Reads (All IsLawfulElem) path_bytes (directed descending bytes.now) result }
 {
     let mut path = Vec::new(alloc);
@@ -202,7 +230,11 @@ fn read_path(alloc: Global, bytes: &[u8], descending: bool) -> Result<Option<(El
 }
 
 /// A kind and an identifier: an element without the byte in front of it.
-fn read_elem(alloc: Global, bytes: &[u8], descending: bool) -> Result<Option<(Elem, usize)>, NoMemory>
+fn read_elem(
+    alloc: Global,
+    bytes: &[u8],
+    descending: bool,
+) -> Result<Option<(Elem, usize)>, NoMemory>
     ensures { Reads IsLawfulElem elem_rest (directed descending bytes.now) result }
 {
     match read_text(alloc, bytes, descending)? {
@@ -214,7 +246,11 @@ fn read_elem(alloc: Global, bytes: &[u8], descending: bool) -> Result<Option<(El
     }
 }
 
-fn read_ident(alloc: Global, bytes: &[u8], descending: bool) -> Result<Option<(Ident, usize)>, NoMemory>
+fn read_ident(
+    alloc: Global,
+    bytes: &[u8],
+    descending: bool,
+) -> Result<Option<(Ident, usize)>, NoMemory>
     ensures { Reads IsLawfulIdent ident_bytes (directed descending bytes.now) result }
 {
     let tag = match byte_at(bytes, 0, descending) {
@@ -242,7 +278,11 @@ fn read_id(rest: &[u8], descending: bool) -> Result<Option<(Ident, usize)>, NoMe
 }
 
 /// The name whose escaped bytes stand behind the byte that announces it.
-fn read_name(alloc: Global, rest: &[u8], descending: bool) -> Result<Option<(Ident, usize)>, NoMemory>
+fn read_name(
+    alloc: Global,
+    rest: &[u8],
+    descending: bool,
+) -> Result<Option<(Ident, usize)>, NoMemory>
     ensures { Reads IsLawfulIdent ident_bytes (0x20 ∷ directed descending rest.now) result }
 {
     match read_text(alloc, rest, descending)? {

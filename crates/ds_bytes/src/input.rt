@@ -53,7 +53,11 @@ pub(crate) fn read_number(bytes: &[u8], descending: bool) -> Option<u64>
 }
 
 /// The text at the front, with its zero bytes as they were before they were escaped.
-pub(crate) fn read_bytes(alloc: Global, bytes: &[u8], descending: bool) -> Result<Option<(ByteString, usize)>, NoMemory>
+pub(crate) fn read_bytes(
+    alloc: Global,
+    bytes: &[u8],
+    descending: bool,
+) -> Result<Option<(ByteString, usize)>, NoMemory>
     ensures { Reads AreBytes escaped (directed descending bytes.now) result }
 {
     let mut text = Vec::new(alloc);
@@ -127,7 +131,11 @@ fn append_block_run(bytes: &[u8], text: &mut Vec<u8>) -> Result<usize, NoMemory>
 }
 
 /// The text at the front, which is UTF-8.
-pub(crate) fn read_text(alloc: Global, bytes: &[u8], descending: bool) -> Result<Option<(TextString, usize)>, NoMemory>
+pub(crate) fn read_text(
+    alloc: Global,
+    bytes: &[u8],
+    descending: bool,
+) -> Result<Option<(TextString, usize)>, NoMemory>
     ensures { Reads IsText escaped (directed descending bytes.now) result }
 {
     match read_bytes(alloc, bytes, descending)? {

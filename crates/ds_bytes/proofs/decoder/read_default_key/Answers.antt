@@ -12,4 +12,4 @@ returns-in-Some c =
     let seen : List ℕ = directed c.args.descending c.args.bytes.now in
     let found : Found (All IsLawfulElem) path_bytes seen c.in-Some.path c.in-Some.taken = rw c.in-Some.is at c.in_ok-read_path.ensures in
     map_option c.key_of.result c.key_of.ensures (no_default_key seen c.new.result c.in-Some.path c.in-Some.taken found c.new.ensures)
-      (λ x of. default_found seen c.new.result c.in-Some.path x.0 c.in-Some.taken x.1 found c.new.ensures of.0 of.1)
+    (λ x of. default_found seen c.new.result c.in-Some.path x.0 c.in-Some.taken x.1 found c.new.ensures of.0 of.1)

@@ -30,4 +30,4 @@ returns-in-Some-2 c =
     let found : Found (All IsLawfulElem) path_bytes rest c.in-Some-2.path c.in-Some-2.taken = rw c.in-Some-2.is at c.in_ok-read_path-in-Some.ensures in
     let named : c.in-Some.namespace ≢ [] = not_empty c.in-Some.namespace c.bytes.result.now c.bytes.ensures.value c.if-is_empty.ensures in
     map_option c.key_of.result c.key_of.ensures (no_named_key seen rest c.in-Some.namespace c.in-Some-2.path c.in-Some.before c.in-Some-2.taken text at found)
-      (λ x of. named_found seen rest c.in-Some.namespace c.in-Some-2.path x.0 c.in-Some.before c.in-Some-2.taken x.1 text named at found of.0 of.1)
+    (λ x of. named_found seen rest c.in-Some.namespace c.in-Some-2.path x.0 c.in-Some.before c.in-Some-2.taken x.1 text named at found of.0 of.1)

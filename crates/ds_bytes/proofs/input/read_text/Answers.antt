@@ -12,5 +12,5 @@ returns c = λ s more p is.
     let found : Found AreBytes escaped seen c.in-Some.text c.in-Some.taken = rw c.in-Some.is at c.in_ok-read_bytes.ensures in
     let once = escaped-reads_once s c.in-Some.text more (drop c.in-Some.taken seen) (sym is ∙ found.begins.front) in
     apart (c.in-Err.ensures.succeeds (subst IsUtf8 (once.0 ∙ sym c.into_vec.ensures) p.utf8)) where
-  apart : false ≡ true → ⊥
-  apart e = cc
+      apart : false ≡ true → ⊥
+      apart e = cc
