@@ -15,9 +15,10 @@ use std::sync::ledger::Ledger;
 /// A join that goes on from its last answer, without being given it again. Contracts see the number of scans and where it
 /// stands, `last`.
 ///
-/// It carries the law that the bounds of successive answers add up. A caller keeps `IsWalked` from the walk's beginning on,
-/// which holds at once where it began; `walks_on` brings it to each answer. So whether the walk is stopped after m answers
-/// or goes to its end, its steps are within what `IsWalked` and `walk_within` say of the whole way, and not of each call.
+/// It carries the law that the bounds of successive answers add up. A caller keeps `IsWalked` from the walk's beginning on:
+/// it holds there (`begins`), and `walks_on` brings it to each answer. So where the walk is stopped after some answers its
+/// steps are within `steps_up_to` the last one, and at its end, or at a refusal, within `steps_to_end` (`walk_within`), which
+/// `stops` says too of each walk that is on its way.
 #[derive(Drop)]
 pub struct Walk {
     scans: usize,
@@ -49,6 +50,8 @@ impl Walk {
         ensures stands { IfOk result (λ walk. walk.last ≡ option_copied after.entry) }
         ensures begins { (start : Option (List ℕ)) (strings passed : List (List (List ℕ))) (now : ℕ) →
             IsWalked scans start start strings passed now now }
+        ensures stops { (start last : Option (List ℕ)) (strings passed : List (List (List ℕ))) (begun now : ℕ) →
+            IsWalked scans start last strings passed begun now → now ≤ begun + steps_to_end scans start strings passed }
     {
         let mut at = Vec::with_capacity(alloc, FIRST_ROOM)?;
         let mut stands = false;
