@@ -233,7 +233,7 @@ module _ {X : Type 0} {R : X → X → Ordering} (o : IsTotalOrder R) (same : Is
   none_later x y [] before rest = refl
   none_later x y (z ∷ zs) before rest =
       times-cons x z zs ∙ ap (λ r. cond (is_eq r) 1 0 + times x zs) (Less-later x y z before rest.0)
-          ∙ ap (λ n. 0 + n) (none_later x y zs before rest.1)
+      ∙ ap (λ n. 0 + n) (none_later x y zs before rest.1)
 
   none_at : (x y : X) (ys : List X) → R x y ≡ Less → NoneBefore R y ys → times x (y ∷ ys) ≡ 0
   none_at x y ys before rest =

@@ -77,10 +77,8 @@ impl Entity {
         requires ascending { IsTrue (names_ascend properties) }
         requires few { length properties < 2 ^ 32 }
         ensures ok { IfOk result (λ e. e ≡ record { key = key; properties = properties }) }
-        ensures refused {
-            (result_err result ≡ entity_refusal key properties)
-            ⊎ ((result_err result ≡ Some EntityRefused.NoMemory) × (entity_refusal key properties ≡ None))
-        }
+        ensures refused { (result_err result ≡ entity_refusal key properties)
+            ⊎ ((result_err result ≡ Some EntityRefused.NoMemory) × (entity_refusal key properties ≡ None)) }
     {
         if !key.writable() {
             return Err(EntityRefused::BadKey);

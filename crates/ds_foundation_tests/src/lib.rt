@@ -8,4 +8,10 @@
 #[cfg(test)]
 mod base;
 #[cfg(test)]
+mod indexdef;
+#[cfg(test)]
 mod io;
+#[cfg(test)]
+mod lanes;
+#[cfg(test)]
+mod zigzag;

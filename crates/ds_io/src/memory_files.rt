@@ -75,9 +75,7 @@ impl Files for MemoryFiles {
         ensures within { IfOk result (λ bytes. length bytes ≤ most_file_bytes) }
         ensures fails_when_due { IsTrue (is_due self.old.schedule) → result ≡ Err LoadFault.Failed }
         ensures fails_without_a_file { IsFalse (is_loadable (content_of self.old name.now)) → result ≡ Err LoadFault.Failed }
-        ensures fails_else_never {
-            IsFalse (is_due self.old.schedule) → IsTrue (is_loadable (content_of self.old name.now)) → result ≢ Err LoadFault.Failed
-        }
+        ensures fails_else_never { IsFalse (is_due self.old.schedule) → IsTrue (is_loadable (content_of self.old name.now)) → result ≢ Err LoadFault.Failed }
 
         ensures names { self.new.names ≡ self.old.names }
         ensures contents { self.new.contents ≡ self.old.contents }

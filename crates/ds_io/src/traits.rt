@@ -101,10 +101,8 @@ pub trait Files {
 
         ensures failed_by_a_fault { IsTrue (is_failed result) → Rose (faults self.old name.now) (faults self.new name.now) }
         ensures counts_a_failure { IsTrue (is_failed result) → faults self.new name.now ≡ next_count (faults self.old name.now) }
-        ensures counts_one_at_most {
-            (other : List ℕ)
-                → (faults self.new other ≡ faults self.old other) ⊎ (faults self.new other ≡ next_count (faults self.old other))
-        }
+        ensures counts_one_at_most { (other : List ℕ)
+            → (faults self.new other ≡ faults self.old other) ⊎ (faults self.new other ≡ next_count (faults self.old other)) }
         ensures counts_nothing_else { IsFalse (is_failed result) → (other : List ℕ) → faults self.new other ≡ faults self.old other }
         ensures faults_stay_counted { (other : List ℕ) → faults self.old other ≤ faults self.new other }
         ensures same_contents { (other : List ℕ) → content self.new other ≡ content self.old other };

@@ -1,5 +1,6 @@
 pub mod Branching
 pub mod ColumnLists
+pub mod Fields
 pub mod Filters
 pub mod Lawful
 pub mod Normals

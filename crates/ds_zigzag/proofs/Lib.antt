@@ -1,7 +1,5 @@
-pub mod CommonLaws
 pub mod Counts
 pub mod First
-pub mod Listings
 pub mod Order
 pub mod Progress
 pub mod Rounds

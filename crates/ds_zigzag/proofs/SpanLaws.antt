@@ -18,9 +18,9 @@ pub within-back : (last : Option (List ℕ)) (a x : List ℕ) → is_within last
 within-back None a x h g = refl
 within-back (Some b) a x h g = not_false (is_below b x) (upto_upto b a x (was_false (is_below b a) h) g)
 
-module _ (after : Option (List ℕ)) (a : List ℕ) (last : Option (List ℕ)) (above : is_above after a ≡ true) (within : is_within last a ≡ true) where
+module _ (after : Option (List ℕ)) (a : List ℕ) (last : Option (List ℕ)) (onward : (x : List ℕ) → is_below a x ≡ true → is_above after x ≡ true) (within : is_within last a ≡ true) where
   at_string : (x : List ℕ) → weight (is_above after x && is_within (Some a) x) + weight (is_above (Some a) x && is_within last x) ≡ weight (is_above after x && is_within last x)
-  at_string x = by (is_below a x) refl (above-onward after a x above) (within-back last a x within) where
+  at_string x = by (is_below a x) refl (onward x) (within-back last a x within) where
     by : (b : Bool) → is_below a x ≡ b → (is_below a x ≡ true → is_above after x ≡ true) → (is_below a x ≡ false → is_within last x ≡ true) → weight (is_above after x && is_within (Some a) x) + weight (is_above (Some a) x && is_within last x) ≡ weight (is_above after x && is_within last x)
     by true q up down =
         let here = up q in

@@ -1,4 +1,4 @@
 pub mod CommonStrings
-pub mod Listings
 pub mod Spans
 pub mod Targets
+pub mod Walks

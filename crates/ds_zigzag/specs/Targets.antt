@@ -1,5 +1,5 @@
 -- What a seek of the target at one scan tells.
-use Rattle.std.specs.Prelude.{◌≡◌, ℕ, List, [], ◌∷◌, ◌++◌, Option, Some, None, IsTrue, find}
+use Rattle.std.specs.Prelude.{◌≡◌, ℕ, List, [], ◌∷◌, ◌++◌, length, take, Option, Some, None, IsTrue, find}
 use Rattle.ds_zigzag.specs.declared.target.Sought.{Sought}
 use Rattle.ds_zigzag.specs.declared.target.Sought.TheVariants.{Nothing, Same, Greater}
 use Rattle.ds_zigzag.specs.Spans.{is_below, is_from}
@@ -8,6 +8,11 @@ use Rattle.ds_zigzag.specs.Spans.{is_below, is_from}
 abbrev pub first_above : Option (List ℕ) → List ℕ
 first_above None = []
 first_above (Some after) = after ++ 0 ∷ []
+
+-- the string that such a first string is above: all of it but its last byte, and none where it is empty
+abbrev pub string_below : List ℕ → Option (List ℕ)
+string_below [] = None
+string_below (b ∷ bs) = Some (take (length bs) (b ∷ bs))
 
 -- what was sought at a scan of these strings, what the target is then, and what was found
 abbrev pub IsSought : Sought → List ℕ → List ℕ → List (List ℕ) → Type 0

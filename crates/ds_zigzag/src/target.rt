@@ -1,9 +1,10 @@
 //! How a target is brought to a scan.
-ghost use Rattle.std.specs.Prelude.{◌≡◌, ℕ, ◌+◌, ◌≤◌, List, option_copied, None, IfOk, OnErr, OnOk};
+ghost use Rattle.std.specs.Prelude.{◌≡◌, ℕ, ◌+◌, ◌≤◌, List, [], option_copied, None, IsFalse, IfOk, OnErr, OnOk};
 ghost use Rattle.std.specs.List.Sorted.{IsStrictlySortedBy};
 ghost use Rattle.ds_base.specs.KeyOrder.{bytes_cmp};
 ghost use Rattle.ds_zigzag.specs.Spans.{count_from};
-ghost use Rattle.ds_zigzag.specs.Targets.{first_above, IsSought, sought_at};
+ghost use Rattle.ds_zigzag.specs.Walks.{standing_at};
+ghost use Rattle.ds_zigzag.specs.Targets.{first_above, string_below, IsSought, sought_at};
 
 use crate::scan::Scan;
 use ds_io::Steps;
@@ -23,11 +24,26 @@ pub enum Sought {
 /// The target is the first of all strings above `after`: that string and a zero byte. Without an `after` it is the empty
 /// string, the first of all.
 pub fn start_above(target: &mut Vec<u8>, after: Option<&[u8]>) -> Result<(), AllocError>
-    ensures { OnOk result (target.new.items ≡ first_above (option_copied after.entry)) }
+    ensures first { OnOk result (target.new.items ≡ first_above (option_copied after.entry)) }
+    ensures below { OnOk result (string_below target.new.items ≡ option_copied after.entry) }
 {
     target.clear();
-    if let Some(after) = after {
-        target.extend_from_slice(after)?;
+    match after {
+        Some(after) => {
+            target.extend_from_slice(after)?;
+            above_standing(target, true)
+        }
+        None => above_standing(target, false),
+    }
+}
+
+/// The target is the first of all strings above the one where it stands, or of all where it stands nowhere.
+pub fn above_standing(target: &mut Vec<u8>, stands: bool) -> Result<(), AllocError>
+    requires { IsFalse stands → target.old.items ≡ [] }
+    ensures first { OnOk result (target.new.items ≡ first_above (standing_at stands target.old.items)) }
+    ensures below { OnOk result (string_below target.new.items ≡ standing_at stands target.old.items) }
+{
+    if stands {
         target.push(0)?;
     }
     Ok(())
@@ -39,8 +55,9 @@ pub fn seek_target<S: Scan, L: Ledger>(
     scan: &mut S,
     steps: &mut Steps<L>,
 ) -> Result<Sought, AllocError>
+    requires its_ledger { L.name ≡ S.ledger }
     ensures sought { IfOk result (λ m. IsSought m target.old.items target.new.items (S.strings scan.old)) }
-    ensures strings_ascend { IsStrictlySortedBy bytes_cmp (S.strings scan.old) }
+    ensures strings_ascend { OnOk result (IsStrictlySortedBy bytes_cmp (S.strings scan.old)) }
     ensures same_strings { S.strings scan.new ≡ S.strings scan.old }
     ensures same_passed { S.passed scan.new ≡ S.passed scan.old }
 

@@ -1,0 +1,349 @@
+//! Joins and walks of lists in memory.
+ghost use Rattle.std.specs.Prelude.{◌≡◌, ◌+◌, ◌<◌, ◌≤◌, length, map, find, option_copied, None, IfOk, IsTrue};
+ghost use Rattle.std.specs.List.Sorted.{IsSorted, IsStrictlySortedBy};
+ghost use Rattle.ds_base.specs.KeyOrder.{bytes_cmp};
+ghost use Rattle.ds_zigzag.specs.Spans.{is_below, is_from, count_from};
+ghost use Rattle.ds_zigzag.specs.Walks.{steps_to_end};
+ghost use Rattle.ds_foundation_tests.specs.Listings.{seen_of, unseen_of, is_next, IsInOrder, IsPast};
+
+use ds_base::ByteString;
+use ds_io::Steps;
+use ds_zigzag::{Join, Scan, Walk};
+use std::alloc::{AllocError, Global};
+use std::marker::{Brand, Model, PhantomData};
+use std::sync::ledger::{Blank, Ledger};
+use std::test::Fail;
+
+/// Strings in order, each with whether it is seen. It counts the steps that its seeks take, and keeps where the last one
+/// began, so that the next one looks from there on.
+#[derive(Drop)]
+struct Listing<L> {
+    entries: Vec<(ByteString, bool)>,
+    near: usize,
+    taken: u64,
+    counted_on: PhantomData<L>,
+}
+
+impl<L> Model for Listing<L> {
+    ghost use Rattle.std.specs.Prelude.{ℕ, List, Bool};
+    ghost use Rattle.ds_foundation_tests.specs.Listings.{IsInOrder};
+
+    ghost Value = { List (List ℕ × Bool) };
+
+    ghost view = { λ l. l.entries.items };
+
+    ghost invariant = { λ l. IsInOrder l.entries.items };
+}
+
+impl<L> Listing<L> {
+    /// The listing of these words, of which those that begin with `-` are unseen; `None` where they aren't in order.
+    fn of(alloc: Global, words: &str) -> Result<Option<Listing<L>>, AllocError> {
+        let mut entries = Vec::new(alloc);
+        for word in words.split_whitespace() {
+            entries.push(entry(alloc, word)?)?;
+        }
+        if is_in_order(entries.as_slice()) {
+            Ok(Some(Listing {
+                entries,
+                near: 0,
+                taken: 0,
+                counted_on: PhantomData,
+            }))
+        } else {
+            Ok(None)
+        }
+    }
+}
+
+fn entry(alloc: Global, word: &str) -> Result<(ByteString, bool), AllocError> {
+    match word.strip_prefix("-") {
+        Some(unseen) => Ok((ByteString::of(alloc, unseen.as_bytes())?, false)),
+        None => Ok((ByteString::of(alloc, word.as_bytes())?, true)),
+    }
+}
+
+fn follows(before: &(ByteString, bool), entry: &(ByteString, bool)) -> bool
+    ensures { result ≡ is_next before.now entry.now }
+{
+    if entry.1 {
+        before.0.bytes().cmp(entry.0.bytes()).is_lt()
+    } else {
+        !entry.0.bytes().cmp(before.0.bytes()).is_lt()
+    }
+}
+
+fn is_in_order(entries: &[(ByteString, bool)]) -> bool
+    ensures { IsTrue result → IsInOrder entries.now }
+{
+    for i in 1..entries.len() {
+        if !follows(&entries[i - 1], &entries[i]) {
+            return false;
+        }
+    }
+    true
+}
+
+fn stands_before(entry: &(ByteString, bool), at_least: &[u8]) -> bool
+    ensures { result ≡ is_below entry.now.0 at_least.now }
+{
+    entry.0.bytes().cmp(at_least).is_lt()
+}
+
+/// Where to look from: at the hint, if all before it is below `at_least`, else at the front.
+fn start_near(entries: &[(ByteString, bool)], at_least: &[u8], near: usize) -> usize
+    ensures within { result ≤ length entries.now }
+    ensures past { IsPast at_least.now entries.now result }
+{
+    if 0 < near && near <= entries.len() && stands_before(&entries[near - 1], at_least) {
+        near
+    } else {
+        0
+    }
+}
+
+/// Halves what may be below `at_least`, from the hint on.
+fn first_place(entries: &[(ByteString, bool)], at_least: &[u8], near: usize) -> usize
+    ensures within { result ≤ length entries.now }
+    ensures past { IsPast at_least.now entries.now result }
+{
+    let mut low = start_near(entries, at_least, near);
+    let mut high = entries.len();
+    while low < high {
+        let middle = low + (high - low) / 2;
+        if stands_before(&entries[middle], at_least) {
+            low = middle + 1;
+        } else {
+            high = middle;
+        }
+    }
+    low
+}
+
+/// Walks from there to the first entry that is seen and not below `at_least`.
+fn first_from<'a, L: Ledger>(
+    entries: &'a [(ByteString, bool)],
+    at_least: &[u8],
+    from: usize,
+    taken: &mut u64,
+    steps: &mut Steps<L>,
+) -> Option<&'a [u8]>
+    requires in_order { IsInOrder entries.now }
+    requires within { from ≤ length entries.now }
+    requires past { IsPast at_least.now entries.now from }
+    ensures finds_the_first { option_copied result ≡ find (is_from at_least.now) (seen_of entries.now) }
+    ensures strings_ascend { IsStrictlySortedBy bytes_cmp (seen_of entries.now) }
+    ensures passed_do_not_fall { IsSorted bytes_cmp (unseen_of entries.now) }
+    ensures steps { steps.new ≤ steps.old + count_from at_least.now (option_copied result) (unseen_of entries.now) }
+    ensures steps_stay_counted { steps.old ≤ steps.new }
+{
+    for i in from..entries.len() {
+        let entry = &entries[i];
+        if !stands_before(entry, at_least) {
+            if entry.1 {
+                return Some(entry.0.bytes());
+            }
+            steps.tick();
+            *taken = taken.saturating_add(1);
+        }
+    }
+    None
+}
+
+impl<L: Ledger> Scan for Listing<L> {
+    ghost use Rattle.ds_foundation_tests.specs.Listings.{seen_of, unseen_of};
+
+    ghost ledger = { L.name };
+
+    ghost strings = { seen_of };
+
+    ghost passed = { unseen_of };
+
+    fn seek<M: Ledger>(
+        &mut self,
+        at_least: &[u8],
+        steps: &mut Steps<M>,
+    ) -> Result<Option<&[u8]>, AllocError> {
+        steps.tick();
+        self.taken = self.taken.saturating_add(1);
+        self.near = first_place(self.entries.as_slice(), at_least, self.near);
+        Ok(first_from(
+            self.entries.as_slice(),
+            at_least,
+            self.near,
+            &mut self.taken,
+            steps,
+        ))
+    }
+}
+
+/// Puts a string and a blank at the end.
+fn note(all: &mut ByteString, found: &[u8]) -> Result<(), AllocError> {
+    all.append(found)?;
+    all.append(b" ")
+}
+
+/// The strings above `after` that the scans have in common, each with a blank after it: at most nine of them. However many
+/// they are, it takes no more steps than a walk to the end.
+fn all_common<S: Scan, L: Ledger>(
+    alloc: Global,
+    scans: &mut [S],
+    after: Option<&[u8]>,
+    steps: &mut Steps<L>,
+) -> Result<ByteString, AllocError>
+    requires some { 0 < length scans.old }
+    requires its_ledger { L.name ≡ S.ledger }
+    ensures { steps.new ≤ steps.old + steps_to_end (length scans.old) (option_copied after.entry) (map S.strings scans.old) (map S.passed scans.old) }
+{
+    let mut walk = Walk::begin(alloc, scans.len(), after)?;
+    let mut all = ByteString::new(alloc);
+    for _ in 0..9 {
+        match walk.next(scans, steps)? {
+            None => return Ok(all),
+            Some(found) => note(&mut all, found)?,
+        }
+    }
+    Ok(all)
+}
+
+/// The listings of these words that are in order.
+fn listings<L>(alloc: Global, words: &[&str]) -> Result<Vec<Listing<L>>, AllocError> {
+    let mut scans = Vec::new(alloc);
+    for listed in words {
+        if let Some(listing) = Listing::of(alloc, listed)? {
+            scans.push(listing)?;
+        }
+    }
+    Ok(scans)
+}
+
+/// What a walk over the listings gives, and how many steps it took.
+fn walked<L: Ledger>(
+    blank: Blank,
+    alloc: Global,
+    words: &[&str],
+    after: Option<&[u8]>,
+) -> Result<(ByteString, u64), AllocError>
+    requires name { blank.name ≡ L.name }
+    requires parts { blank.parts ≡ L.parts }
+    requires some { 0 < blank.parts }
+{
+    let mut steps = Steps::<L>::new(blank);
+    let mut scans = listings::<L>(alloc, words)?;
+    if scans.is_empty() {
+        return Ok((ByteString::new(alloc), 0));
+    }
+    let all = all_common(alloc, scans.as_mut_slice(), after, &mut steps)?;
+    let mut taken = 0u64;
+    for listing in &scans {
+        taken = taken.saturating_add(listing.taken);
+    }
+    Ok((all, taken))
+}
+
+/// What one call of a join over the listings gives.
+fn joined<L: Ledger>(
+    blank: Blank,
+    alloc: Global,
+    words: &[&str],
+    after: &[u8],
+) -> Result<Option<ByteString>, AllocError>
+    requires name { blank.name ≡ L.name }
+    requires parts { blank.parts ≡ L.parts }
+    requires some { 0 < blank.parts }
+{
+    let mut steps = Steps::<L>::new(blank);
+    let mut scans = listings::<L>(alloc, words)?;
+    if scans.is_empty() {
+        return Ok(None);
+    }
+    let mut join = Join::make(alloc, scans.len())?;
+    match join.next(scans.as_mut_slice(), Some(after), &mut steps)? {
+        None => Ok(None),
+        Some(found) => Ok(Some(ByteString::of(alloc, found)?)),
+    }
+}
+
+#[test]
+fn walks_over_what_all_have(rt: HostRuntime) -> Result<(), Fail> {
+    for (words, want, steps) in [
+        (["a b c", "a b c", "a b c"], "a b c ", 10),
+        (["a b", "a c", "a d"], "a ", 7),
+        (["a m", "b m z", "c m"], "m ", 7),
+        (["a z", "b z", "c z"], "z ", 7),
+        (["a d", "b e", "c f"], "", 7),
+        (["a b", "", "a b"], "", 2),
+        (["a ab abc", "ab abc abcd", "a ab abc abcd"], "ab abc ", 8),
+        (["a b -b -b c", "-a b c", "b -c d"], "b ", 10),
+    ] {
+        let (all, taken) = walked::<Brand>(Blank::new(1), rt.alloc(), words.as_slice(), None)?;
+        assert_eq!(rt; all.bytes(), want.as_bytes(), "{words:?}");
+        assert_eq!(rt; taken, steps, "{words:?}");
+    }
+    Ok(())
+}
+
+#[test]
+fn counts_the_steps_of_two_scans(rt: HostRuntime) -> Result<(), Fail> {
+    for (words, steps) in [
+        (["a b c", "a b c"], 7),
+        (["a c e g", "b c f g"], 9),
+        (["a b c d e f", "f"], 4),
+        (["a -b -b c", "b c"], 7),
+    ] {
+        let (_, taken) = walked::<Brand>(Blank::new(1), rt.alloc(), words.as_slice(), None)?;
+        assert_eq!(rt; taken, steps, "{words:?}");
+    }
+    Ok(())
+}
+
+#[test]
+fn walks_over_one_scan_from_within(rt: HostRuntime) -> Result<(), Fail> {
+    for (after, want, steps) in [
+        ("", "a b d ", 5),
+        ("a", "b d ", 4),
+        ("b", "d ", 3),
+        ("c", "d ", 2),
+        ("d", "", 1),
+    ] {
+        let (all, taken) = walked::<Brand>(
+            Blank::new(1),
+            rt.alloc(),
+            ["a b -c d"].as_slice(),
+            Some(after.as_bytes()),
+        )?;
+        assert_eq!(rt; all.bytes(), want.as_bytes(), "after {after}");
+        assert_eq!(rt; taken, steps, "after {after}");
+    }
+    Ok(())
+}
+
+#[test]
+fn joins_above_any_string(rt: HostRuntime) -> Result<(), Fail> {
+    for (after, want) in [
+        ("", "b"),
+        ("a", "b"),
+        ("b", "ca"),
+        ("c", "ca"),
+        ("ca", "e"),
+        ("d", "e"),
+    ] {
+        let found = joined::<Brand>(
+            Blank::new(1),
+            rt.alloc(),
+            ["a b ca d e", "b c ca e"].as_slice(),
+            after.as_bytes(),
+        )?;
+        let Some(found) = found else {
+            panic!(rt; "nothing after {after}");
+        };
+        assert_eq!(rt; found.bytes(), want.as_bytes(), "after {after}");
+    }
+    let none = joined::<Brand>(
+        Blank::new(1),
+        rt.alloc(),
+        ["a b ca d e", "b c ca e"].as_slice(),
+        b"e",
+    )?;
+    assert!(rt; none.is_none(), "nothing is after e");
+    Ok(())
+}

@@ -1,5 +1,0 @@
-use Rattle.ds_zigzag.proofs.tests.counts_steps.Given as goal
-
--- the ledger is the one that the blank becomes
-abbrev pub ghosts-joined : goal.ghosts-joined
-ghosts-joined g a = record { name = a.blank.name; parts = a.blank.parts }
