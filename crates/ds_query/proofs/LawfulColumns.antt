@@ -34,17 +34,17 @@ module _ (dropped : List ℕ → Bool) (q : Query) (u : IsUnrefused q) (fewer : 
   after_orders r =
       let ordered : List Column = kept_orders dropped q.orders in
       let has : has_column ordered key_name ≡ true =
-        ap (λ cs. has_column cs key_name) r.whole ∙ list_any-append (λ (x : Column). bytes_eq key_name x.name) r.front (r.key ∷ []) ∙ (λ i. r.none i || ((ap (bytes_eq key_name) (key_is r.key.name r.is_key) ∙ name_itself key_name) i || false)) in
+      ap (λ cs. has_column cs key_name) r.whole ∙ list_any-append (λ (x : Column). bytes_eq key_name x.name) r.front (r.key ∷ []) ∙ (λ i. r.none i || ((ap (bytes_eq key_name) (key_is r.key.name r.is_key) ∙ name_itself key_name) i || false)) in
       let unprojected : projected q.select ≡ [] = no_projection_by_order q u (kept_orders-any dropped q.orders has) in
       let there : list_all (λ c. has_column (r.front ++ r.key ∷ []) c.name) (map ascending (option_to_list (inequality_of q.filters)) ++ ascending key_name ∷ []) ≡ true =
-        ap (λ cs. list_all (λ c. has_column cs c.name) (map ascending (option_to_list (inequality_of q.filters)) ++ ascending key_name ∷ [])) (sym r.whole) ∙ ranged has (inequality_of q.filters) refl in
+      ap (λ cs. list_all (λ c. has_column cs c.name) (map ascending (option_to_list (inequality_of q.filters)) ++ ascending key_name ∷ [])) (sym r.whole) ∙ ranged has (inequality_of q.filters) refl in
       let shape : wanted_columns dropped q ≡ r.front ++ r.key ∷ (map ascending (option_to_list (inequality_of q.filters)) ++ ascending key_name ∷ []) =
-        (λ i. r.whole i ++ map ascending (option_to_list (inequality_of q.filters)) ++ map ascending (unprojected i) ++ ascending key_name ∷ [])
-        ∙ simp (append-nil, append_assoc) in
+      (λ i. r.whole i ++ map ascending (option_to_list (inequality_of q.filters)) ++ map ascending (unprojected i) ++ ascending key_name ∷ [])
+      ∙ simp (append-nil, append_assoc) in
       ap (λ cs. ends_in_key (first_of_each_name cs)) shape ∙ ends_in_key-first r.front r.key (map ascending (option_to_list (inequality_of q.filters)) ++ ascending key_name ∷ []) r.none r.is_key there where
-    ranged : has_column (kept_orders dropped q.orders) key_name ≡ true → (o : Option (List ℕ)) → inequality_of q.filters ≡ o → list_all (λ c. has_column (kept_orders dropped q.orders) c.name) (map ascending (option_to_list o) ++ ascending key_name ∷ []) ≡ true
-    ranged has None e = λ i. has i && true
-    ranged has (Some p) e = λ i. key_after_inequality_by dropped q u fewer p e has i && (has i && true)
+        ranged : has_column (kept_orders dropped q.orders) key_name ≡ true → (o : Option (List ℕ)) → inequality_of q.filters ≡ o → list_all (λ c. has_column (kept_orders dropped q.orders) c.name) (map ascending (option_to_list o) ++ ascending key_name ∷ []) ≡ true
+        ranged has None e = λ i. has i && true
+        ranged has (Some p) e = λ i. key_after_inequality_by dropped q u fewer p e has i && (has i && true)
 
   -- no order is on the key
   without_orders : has_column (kept_orders dropped q.orders) key_name ≡ false → ends_in_key (first_of_each_name (wanted_columns dropped q)) ≡ true
@@ -53,18 +53,20 @@ module _ (dropped : List ℕ → Bool) (q : Query) (u : IsUnrefused q) (fewer : 
     at_the_end : (o : Option (List ℕ)) → has_column (map ascending (option_to_list o)) key_name ≡ false → ends_in_key (first_of_each_name (kept_orders dropped q.orders ++ map ascending (option_to_list o) ++ map ascending (projected q.select) ++ ascending key_name ∷ [])) ≡ true
     at_the_end o free =
         let before : has_column (kept_orders dropped q.orders ++ map ascending (option_to_list o) ++ map ascending (projected q.select)) key_name ≡ false =
-          list_any-append (λ (x : Column). bytes_eq key_name x.name) (kept_orders dropped q.orders ++ map ascending (option_to_list o)) (map ascending (projected q.select))
-          ∙ (λ i. (list_any-append (λ (x : Column). bytes_eq key_name x.name) (kept_orders dropped q.orders) (map ascending (option_to_list o)) ∙ (λ j. none j || free j)) i || projected_no_key q u i) in
+        list_any-append (λ (x : Column). bytes_eq key_name x.name) (kept_orders dropped q.orders ++ map ascending (option_to_list o)) (map ascending (projected q.select))
+        ∙ (λ i. (list_any-append (λ (x : Column). bytes_eq key_name x.name) (kept_orders dropped q.orders) (map ascending (option_to_list o)) ∙ (λ j. none j || free j)) i || projected_no_key q u i) in
         ends_in_key-first (kept_orders dropped q.orders ++ map ascending (option_to_list o) ++ map ascending (projected q.select)) (ascending key_name) [] before (name_itself key_name) refl
+
     -- the inequality is on the key
     on_key : (p : List ℕ) → inequality_of q.filters ≡ Some p → is_key_name p ≡ true → ends_in_key (first_of_each_name (kept_orders dropped q.orders ++ ascending p ∷ [] ++ map ascending (projected q.select) ++ ascending key_name ∷ [])) ≡ true
     on_key p e k =
         let unprojected : projected q.select ≡ [] = no_projection_by_filter q u (any_of_inequality is_key_name q.filters p e k) in
         let shape : kept_orders dropped q.orders ++ ascending p ∷ [] ++ map ascending (projected q.select) ++ ascending key_name ∷ [] ≡ kept_orders dropped q.orders ++ ascending p ∷ ascending key_name ∷ [] =
-          (λ i. kept_orders dropped q.orders ++ ascending p ∷ [] ++ map ascending (unprojected i) ++ ascending key_name ∷ []) ∙ simp (append-nil, append_assoc) in
+        (λ i. kept_orders dropped q.orders ++ ascending p ∷ [] ++ map ascending (unprojected i) ++ ascending key_name ∷ []) ∙ simp (append-nil, append_assoc) in
         let there : has_column (kept_orders dropped q.orders ++ ascending p ∷ []) key_name ≡ true =
-          list_any-append (λ (x : Column). bytes_eq key_name x.name) (kept_orders dropped q.orders) (ascending p ∷ []) ∙ (λ i. none i || ((name_symm key_name p ∙ k) i || false)) in
+        list_any-append (λ (x : Column). bytes_eq key_name x.name) (kept_orders dropped q.orders) (ascending p ∷ []) ∙ (λ i. none i || ((name_symm key_name p ∙ k) i || false)) in
         ap (λ cs. ends_in_key (first_of_each_name cs)) shape ∙ ends_in_key-first (kept_orders dropped q.orders) (ascending p) (ascending key_name ∷ []) none k (λ i. there i && true)
+
     at : (o : Option (List ℕ)) → inequality_of q.filters ≡ o → ends_in_key (first_of_each_name (kept_orders dropped q.orders ++ map ascending (option_to_list o) ++ map ascending (projected q.select) ++ ascending key_name ∷ [])) ≡ true
     at None e = at_the_end None refl
     at (Some p) e = by_key (is_key_name p) refl where
@@ -92,16 +94,16 @@ equal_no_column q u n e =
     let given : List Column = map ascending (projected q.select) in
     let orders_lack : has_column ordered n ≡ false = among-filter_out (λ (c : Column). c.name) (λ m. not (has_equality q.filters m)) (up_to_key q.orders) n (ap not e) in
     let projection_lacks : has_column given n ≡ false =
-      refuted (has_column given n) (λ h. true≢false (sym e ∙ none_among (λ (m : List ℕ). m) (has_equality q.filters) (projected q.select) n u.no_equal (sym (has_column-ascending (projected q.select) n) ∙ h))) in
+    refuted (has_column given n) (λ h. true≢false (sym e ∙ none_among (λ (m : List ℕ). m) (has_equality q.filters) (projected q.select) n u.no_equal (sym (has_column-ascending (projected q.select) n) ∙ h))) in
     let key_lacks : bytes_eq n key_name ≡ false = names_apart (has_equality q.filters) n key_name e (key_unequal q.filters) in
     has_column-first (wanted_columns (has_equality q.filters) q) n
     ∙ list_any-append (λ (x : Column). bytes_eq n x.name) (ordered ++ map ascending (option_to_list (inequality_of q.filters)) ++ given) (ascending key_name ∷ [])
     ∙ (λ i. list_any-append (λ (x : Column). bytes_eq n x.name) (ordered ++ map ascending (option_to_list (inequality_of q.filters))) given i || (key_lacks i || false))
     ∙ (λ i. (list_any-append (λ (x : Column). bytes_eq n x.name) ordered (map ascending (option_to_list (inequality_of q.filters))) i || projection_lacks i) || false)
     ∙ (λ i. ((orders_lack i || ranged (inequality_of q.filters) refl i) || false) || false) where
-  ranged : (o : Option (List ℕ)) → inequality_of q.filters ≡ o → has_column (map ascending (option_to_list o)) n ≡ false
-  ranged None h = refl
-  ranged (Some p) h = λ i. names_apart (has_equality q.filters) n p e (unequal_inequality q u p h) i || false
+      ranged : (o : Option (List ℕ)) → inequality_of q.filters ≡ o → has_column (map ascending (option_to_list o)) n ≡ false
+      ranged None h = refl
+      ranged (Some p) h = λ i. names_apart (has_equality q.filters) n p e (unequal_inequality q u p h) i || false
 
 -- ---- the merged columns without those on properties with an equality
 
@@ -113,7 +115,7 @@ columns_among_merged q u =
     let ranged : List Column = map ascending (option_to_list (inequality_of q.filters)) in
     let given : List Column = map ascending (projected q.select) in
     let orders_same : filter test (kept_orders stays q.orders) ≡ kept_orders (has_equality q.filters) q.orders =
-      filter_filter test (λ (c : Column). not (stays c.name)) (λ c h. ap not (ap (λ b. b && not (has_one_of q.filters c.name)) (not_true (has_equality q.filters c.name) h))) (up_to_key q.orders) in
+    filter_filter test (λ (c : Column). not (stays c.name)) (λ c h. ap not (ap (λ b. b && not (has_one_of q.filters c.name)) (not_true (has_equality q.filters c.name) h))) (up_to_key q.orders) in
     let key_same : filter test (ascending key_name ∷ []) ≡ ascending key_name ∷ [] = λ i. cond (not (key_unequal q.filters i)) (ascending key_name ∷ []) [] in
     filter-first unequal (wanted_columns stays q)
     ∙ ap first_of_each_name
@@ -121,14 +123,16 @@ columns_among_merged q u =
     ∙ (λ i. filter-append test (kept_orders stays q.orders ++ ranged) given i ++ key_same i)
     ∙ (λ i. filter-append test (kept_orders stays q.orders) ranged i ++ given_same i ++ ascending key_name ∷ [])
     ∙ (λ i. orders_same i ++ ranged_same (inequality_of q.filters) refl i ++ given ++ ascending key_name ∷ [])) where
-  ranged_same : (o : Option (List ℕ)) → inequality_of q.filters ≡ o → filter (λ c. not (has_equality q.filters c.name)) (map ascending (option_to_list o)) ≡ map ascending (option_to_list o)
-  ranged_same None e = refl
-  ranged_same (Some p) e = λ i. cond (not (unequal_inequality q u p e i)) (ascending p ∷ []) []
-  passing : (names : List (List ℕ)) → list_any (has_equality q.filters) names ≡ false → list_all (λ c. not (has_equality q.filters c.name)) (map ascending names) ≡ true
-  passing [] e = refl
-  passing (m ∷ ms) e = let neither = or_neither (has_equality q.filters m) (list_any (has_equality q.filters) ms) e in λ i. not (neither.0 i) && passing ms neither.1 i
-  given_same : filter (λ c. not (has_equality q.filters c.name)) (map ascending (projected q.select)) ≡ map ascending (projected q.select)
-  given_same = filter_all (λ c. not (has_equality q.filters c.name)) (map ascending (projected q.select)) (passing (projected q.select) u.no_equal)
+      ranged_same : (o : Option (List ℕ)) → inequality_of q.filters ≡ o → filter (λ c. not (has_equality q.filters c.name)) (map ascending (option_to_list o)) ≡ map ascending (option_to_list o)
+      ranged_same None e = refl
+      ranged_same (Some p) e = λ i. cond (not (unequal_inequality q u p e i)) (ascending p ∷ []) []
+
+      passing : (names : List (List ℕ)) → list_any (has_equality q.filters) names ≡ false → list_all (λ c. not (has_equality q.filters c.name)) (map ascending names) ≡ true
+      passing [] e = refl
+      passing (m ∷ ms) e = let neither = or_neither (has_equality q.filters m) (list_any (has_equality q.filters) ms) e in λ i. not (neither.0 i) && passing ms neither.1 i
+
+      given_same : filter (λ c. not (has_equality q.filters c.name)) (map ascending (projected q.select)) ≡ map ascending (projected q.select)
+      given_same = filter_all (λ c. not (has_equality q.filters c.name)) (map ascending (projected q.select)) (passing (projected q.select) u.no_equal)
 
 -- ---- the first column is the inequality's
 

@@ -41,6 +41,7 @@ split_by-All : (Q : Conditions → Type 0) (good : Value → Bool) (f : Filter) 
 split_by-All Q good f c all h = by_values f.values all where
   put : (w : Op × IndexValue) (rest : List (Op × IndexValue)) → Q (narrowed f.property c w) → All Q (map (narrowed f.property c) rest) → All Q (map (narrowed f.property c) (w ∷ rest))
   put w rest here later = All-cons Q (narrowed f.property c w) (map (narrowed f.property c) rest) here later
+
   of_ways : (v : Value) (rest : List (Op × IndexValue)) (o : Op) → ((w : Op × IndexValue) → asks_equal w.0 ≡ asks_equal o → w.1 ≡ as_indexed v → Q (narrowed f.property c w)) → All Q (map (narrowed f.property c) rest) → All Q (map (narrowed f.property c) (ways o (as_indexed v) ++ rest))
   of_ways v rest op.NotEqual g later = put (op.Less, as_indexed v) ((op.Greater, as_indexed v) ∷ rest) (g (op.Less, as_indexed v) refl refl) (put (op.Greater, as_indexed v) rest (g (op.Greater, as_indexed v) refl refl) later)
   of_ways v rest op.Equal g later = put (op.Equal, as_indexed v) rest (g (op.Equal, as_indexed v) refl refl) later
@@ -49,6 +50,7 @@ split_by-All Q good f c all h = by_values f.values all where
   of_ways v rest op.LessEqual g later = put (op.LessEqual, as_indexed v) rest (g (op.LessEqual, as_indexed v) refl refl) later
   of_ways v rest op.Greater g later = put (op.Greater, as_indexed v) rest (g (op.Greater, as_indexed v) refl refl) later
   of_ways v rest op.GreaterEqual g later = put (op.GreaterEqual, as_indexed v) rest (g (op.GreaterEqual, as_indexed v) refl refl) later
+
   by_values : (vs : List Value) → list_all good vs ≡ true → All Q (map (narrowed f.property c) (flat_map (λ v. ways f.op (as_indexed v)) vs))
   by_values [] all = All-nil Q
   by_values (v ∷ vs) all =
@@ -76,8 +78,8 @@ pairs_split n [] cs b h = All-weaker (λ c. has_pair c.equal n ≡ b) (λ c. has
 pairs_split n (f ∷ fs) cs b h =
     let here : Bool = is_equality f && bytes_eq n f.property in
     let once : All (λ c. has_pair c.equal n ≡ (b || here)) (split_all cs f) =
-      split_all-All (λ c. has_pair c.equal n ≡ b) (λ c. has_pair c.equal n ≡ (b || here)) f
-      (λ c e. split_by-All (λ d. has_pair d.equal n ≡ (b || here)) (λ v. true) f c (any_value f.values) (λ w v same is good. has_pair-narrowed f.property c w n ∙ (λ i. e i || ((same i && not (is_key_name f.property)) && bytes_eq n f.property)))) cs h in
+    split_all-All (λ c. has_pair c.equal n ≡ b) (λ c. has_pair c.equal n ≡ (b || here)) f
+    (λ c e. split_by-All (λ d. has_pair d.equal n ≡ (b || here)) (λ v. true) f c (any_value f.values) (λ w v same is good. has_pair-narrowed f.property c w n ∙ (λ i. e i || ((same i && not (is_key_name f.property)) && bytes_eq n f.property)))) cs h in
     All-weaker (λ c. has_pair c.equal n ≡ ((b || here) || has_equality fs n)) (λ c. has_pair c.equal n ≡ (b || (here || has_equality fs n))) (λ c e. e ∙ or_assoc b here (has_equality fs n)) (fold split_all (split_all cs f) fs)
     (pairs_split n fs (split_all cs f) (b || here) once)
 
@@ -179,6 +181,7 @@ narrowed-keys : (f : Filter) (c : Conditions) (w : Op × IndexValue) (v : Value)
 narrowed-keys f c w v keys same is key h = at (is_equality f) refl where
   narrow : Bool → Conditions
   narrow b = cond {A = Conditions} b (record { equal = c.equal ++ record { property = f.property; value = w.1 } ∷ []; range = c.range }) (record { equal = c.equal; range = within w.0 w.1 c.range })
+
   at : (b : Bool) → is_equality f ≡ b → bounds_are_keys (narrowed f.property c w).range ≡ true
   at true e = ap (λ b. bounds_are_keys (narrow b).range) (ap (λ b. b && not (is_key_name f.property)) same ∙ e) ∙ h
   at false e = ap (λ b. bounds_are_keys (narrow b).range) (ap (λ b. b && not (is_key_name f.property)) same ∙ e) ∙ within-keys w.0 w.1 c.range (ap is_key_index is ∙ key_index v (key e)) h
@@ -188,12 +191,13 @@ keys_split [] cs keys h = h
 keys_split (f ∷ fs) cs keys h =
     let both = and_both (bounds_keys f) (list_all bounds_keys fs) keys in
     keys_split fs (split_all cs f) both.1 (split_all-All P P f (λ c e. one c e (is_equality f) refl both.0) cs h) where
-  P : Conditions → Type 0
-  P c = bounds_are_keys c.range ≡ true
-  one : (c : Conditions) → P c → (b : Bool) → is_equality f ≡ b → bounds_keys f ≡ true → All P (split_by f c)
-  one c e true equal good = split_by-All P (λ v. true) f c (any_value f.values) (λ w v same is any. narrowed-keys f c w v good same is (λ no. absurd (true≢false (sym equal ∙ no))) e)
-  one c e false unequal good =
-      split_by-All P is_key_value f c (ap (λ b. b || list_all is_key_value f.values) (sym unequal) ∙ good) (λ w v same is key. narrowed-keys f c w v good same is (λ no. key) e)
+      P : Conditions → Type 0
+      P c = bounds_are_keys c.range ≡ true
+
+      one : (c : Conditions) → P c → (b : Bool) → is_equality f ≡ b → bounds_keys f ≡ true → All P (split_by f c)
+      one c e true equal good = split_by-All P (λ v. true) f c (any_value f.values) (λ w v same is any. narrowed-keys f c w v good same is (λ no. absurd (true≢false (sym equal ∙ no))) e)
+      one c e false unequal good =
+          split_by-All P is_key_value f c (ap (λ b. b || list_all is_key_value f.values) (sym unequal) ∙ good) (λ w v same is key. narrowed-keys f c w v good same is (λ no. key) e)
 
 -- where the first column is the key, each filter is an equality or has keys alone
 all_keys : (vs : List Value) → list_any (λ v. not (is_key_value v)) vs ≡ false → list_all is_key_value vs ≡ true
@@ -206,12 +210,12 @@ key_filters p k (f ∷ fs) one right =
     let ones = or_neither (is_inequality f && not (bytes_eq f.property p)) (list_any (λ g. is_inequality g && not (bytes_eq g.property p)) fs) one in
     let rights = or_neither (has_wrong_key f) (list_any has_wrong_key fs) right in
     λ i. at (is_equality f) refl ones.0 rights.0 i && key_filters p k fs ones.1 rights.1 i where
-  at : (b : Bool) → is_equality f ≡ b → (is_inequality f && not (bytes_eq f.property p)) ≡ false → has_wrong_key f ≡ false → (is_equality f || list_all is_key_value f.values) ≡ true
-  at true e one right = ap (λ b. b || list_all is_key_value f.values) e
-  at false e one right =
-      let same : f.property ≡ p = name_is f.property p (not_false (bytes_eq f.property p) (and_other (is_inequality f) (not (bytes_eq f.property p)) one (ap not e))) in
-      let on_key : is_key_name f.property ≡ true = ap is_key_name same ∙ k in
-      ap (λ b. b || list_all is_key_value f.values) e ∙ all_keys f.values (and_other (is_key_name f.property) (list_any (λ v. not (is_key_value v)) f.values) right on_key)
+      at : (b : Bool) → is_equality f ≡ b → (is_inequality f && not (bytes_eq f.property p)) ≡ false → has_wrong_key f ≡ false → (is_equality f || list_all is_key_value f.values) ≡ true
+      at true e one right = ap (λ b. b || list_all is_key_value f.values) e
+      at false e one right =
+          let same : f.property ≡ p = name_is f.property p (not_false (bytes_eq f.property p) (and_other (is_inequality f) (not (bytes_eq f.property p)) one (ap not e))) in
+          let on_key : is_key_name f.property ≡ true = ap is_key_name same ∙ k in
+          ap (λ b. b || list_all is_key_value f.values) e ∙ all_keys f.values (and_other (is_key_name f.property) (list_any (λ v. not (is_key_value v)) f.values) right on_key)
 
 pub equal_filters : (fs : List Filter) → inequality_of fs ≡ None → list_all bounds_keys fs ≡ true
 equal_filters [] e = refl

@@ -61,11 +61,11 @@ one_key_column (x ∷ xs) h =
     (λ i. fold with_column (key_order_is x both.0 i ∷ []) (xs ++ ascending key_name ∷ []))
     ∙ fold_kept (xs ++ ascending key_name ∷ []) (ascending key_name ∷ [])
     (list_all-append (λ c. has_column (ascending key_name ∷ []) c.name) xs (ascending key_name ∷ []) ∙ (λ i. all_there xs both.1 i && true)) where
-  all_there : (ys : List Column) → list_all is_key_order ys ≡ true → list_all (λ c. has_column (ascending key_name ∷ []) c.name) ys ≡ true
-  all_there [] h = refl
-  all_there (y ∷ ys) h =
-      let both = and_both (is_key_order y) (list_all is_key_order ys) h in
-      λ i. (or_false (is_key_name y.name) ∙ (and_both (is_key_name y.name) (not y.descending) both.0).0) i && all_there ys both.1 i
+      all_there : (ys : List Column) → list_all is_key_order ys ≡ true → list_all (λ c. has_column (ascending key_name ∷ []) c.name) ys ≡ true
+      all_there [] h = refl
+      all_there (y ∷ ys) h =
+          let both = and_both (is_key_order y) (list_all is_key_order ys) h in
+          λ i. (or_false (is_key_name y.name) ∙ (and_both (is_key_name y.name) (not y.descending) both.0).0) i && all_there ys both.1 i
 
 -- filters on `__key__` alone are no equalities
 no_equality : (filters : List Filter) → list_any (λ f. not (is_key_name f.property)) filters ≡ false → (n : List ℕ) → has_equality filters n ≡ false
@@ -73,10 +73,10 @@ no_equality [] e n = refl
 no_equality (f ∷ fs) e n =
     let neither = or_neither (not (is_key_name f.property)) (list_any (λ g. not (is_key_name g.property)) fs) e in
     λ i. no (asks_equal f.op) (bytes_eq n f.property) (is_key_name f.property) (not_false (is_key_name f.property) neither.0) i || no_equality fs neither.1 n i where
-  no : (a b k : Bool) → k ≡ true → ((a && not k) && b) ≡ false
-  no true b true h = refl
-  no false b true h = refl
-  no a b false h = absurd (true≢false (sym h))
+      no : (a b k : Bool) → k ≡ true → ((a && not k) && b) ≡ false
+      no true b true h = refl
+      no false b true h = refl
+      no a b false h = absurd (true≢false (sym h))
 
 no_names : (names : List (List ℕ)) → list_any is_key_name names ≡ false → list_any (λ n. not (is_key_name n)) names ≡ false → names ≡ []
 no_names [] e h = refl
@@ -93,15 +93,16 @@ kindless_branch q u c pairs none =
       no_pair = nothing_among (λ (p : Pair). p.property) (sorted_pairs c.equal) (λ n. has_pair-sorted c.equal n ∙ pairs n ∙ no_equality q.filters first.0 n);
       no_projection = unprojected;
       key_order = (λ i. first_of_each_name (kept_orders (has_equality q.filters) q.orders ++ map ascending (option_to_list (inequality_of q.filters)) ++ map ascending (unprojected i) ++ ascending key_name ∷ []))
-        ∙ one_key_column (kept_orders (has_equality q.filters) q.orders ++ map ascending (option_to_list (inequality_of q.filters)) ++ [])
+          ∙ one_key_column (kept_orders (has_equality q.filters) q.orders ++ map ascending (option_to_list (inequality_of q.filters)) ++ [])
           (list_all-append is_key_order (kept_orders (has_equality q.filters) q.orders ++ map ascending (option_to_list (inequality_of q.filters))) []
           ∙ (λ i. list_all-append is_key_order (kept_orders (has_equality q.filters) q.orders) (map ascending (option_to_list (inequality_of q.filters))) i && true)
-          ∙ (λ i. (list_all-filter is_key_order (λ (x : Column). not (has_equality q.filters x.name)) (up_to_key q.orders) (up_to_key-all q.orders (key_orders q.orders first.1)) i && ranged first.0 (inequality_of q.filters) refl i) && true)) } where
-  ranged : list_any (λ f. not (is_key_name f.property)) q.filters ≡ false → (o : Option (List ℕ)) → inequality_of q.filters ≡ o → list_all is_key_order (map ascending (option_to_list o)) ≡ true
-  ranged keys None e = refl
-  ranged keys (Some p) e =
-      let other : not (is_key_name p) ≡ false = refuted (not (is_key_name p)) (λ h. true≢false (sym (any_of_inequality (λ n. not (is_key_name n)) q.filters p e h) ∙ keys)) in
-      λ i. (not_false (is_key_name p) other i && true) && true
+          ∙ (λ i. (list_all-filter is_key_order (λ (x : Column). not (has_equality q.filters x.name)) (up_to_key q.orders) (up_to_key-all q.orders (key_orders q.orders first.1)) i && ranged first.0 (inequality_of q.filters) refl i) && true));
+    } where
+      ranged : list_any (λ f. not (is_key_name f.property)) q.filters ≡ false → (o : Option (List ℕ)) → inequality_of q.filters ≡ o → list_all is_key_order (map ascending (option_to_list o)) ≡ true
+      ranged keys None e = refl
+      ranged keys (Some p) e =
+          let other : not (is_key_name p) ≡ false = refuted (not (is_key_name p)) (λ h. true≢false (sym (any_of_inequality (λ n. not (is_key_name n)) q.filters p e h) ∙ keys)) in
+          λ i. (not_false (is_key_name p) other i && true) && true
 
 -- ---- a branch
 
@@ -118,7 +119,8 @@ lawful_branch q lawful u c pairs bounds =
       key_bounds = bounds;
       projected_columns = projected_are_columns q u;
       projected_once = ap not u.once;
-      kindless = kindless_branch q u c pairs }
+      kindless = kindless_branch q u c pairs;
+    }
 
 -- the filters bound the first column by keys, where it is the key
 key_first : (q : Query) → IsUnrefused q → starts_with_key (columns_of q) ≡ true → list_all bounds_keys q.filters ≡ true
@@ -161,12 +163,13 @@ lawful_normal q lawful operands none =
     record {
       some = subst (λ n. 0 < n) (sym (length-map found (branch_of q))) (conditions_some q.filters operands);
       lawful = All-map IsLawfulBranch (branch_of q) found
-        (λ k d inside. lawful_branch q lawful u (slice_index_or found k d) (λ n. pairs_of_equalities q.filters n k d inside) (λ h. key_bounds q.filters (key_first q u h) k d inside));
+          (λ k d inside. lawful_branch q lawful u (slice_index_or found k d) (λ n. pairs_of_equalities q.filters n k d inside) (λ h. key_bounds q.filters (key_first q u h) k d inside));
       alike = All-map (λ a. All (AreAlike a) (map (branch_of q) found)) (branch_of q) found
-        (each (λ c. All (AreAlike (branch_of q c)) (map (branch_of q) found)) (λ c. All-map (AreAlike (branch_of q c)) (branch_of q) found (each (λ d. AreAlike (branch_of q c) (branch_of q d)) (λ d. record { namespace = refl; kind = refl; ancestor = refl; columns = refl; select = refl }) found)) found);
+          (each (λ c. All (AreAlike (branch_of q c)) (map (branch_of q) found)) (λ c. All-map (AreAlike (branch_of q c)) (branch_of q) found (each (λ d. AreAlike (branch_of q c) (branch_of q d)) (λ d. record { namespace = refl; kind = refl; ancestor = refl; columns = refl; select = refl }) found)) found);
       single = λ e. length-map found (branch_of q) ∙ conditions_single q.filters operands e;
       single_columns = λ e. All-map (λ b. b.columns ≡ merged_of q) (branch_of q) found (each (λ c. columns_of q ≡ merged_of q) (λ c. same_columns q e) found);
       names_differ = names_differ-first (wanted_columns (λ n. has_equality q.filters n && not (has_one_of q.filters n)) q);
       key_last = merged_end_in_key q u;
       merged = All-map (λ b. filter (λ c. not (has_pair b.equal c.name)) (merged_of q) ≡ b.columns) (branch_of q) found
-        (λ k d inside. (λ i. filter (λ (c : Column). not ((has_pair-sorted (slice_index_or found k d).equal c.name ∙ pairs_of_equalities q.filters c.name k d inside) i)) (merged_of q)) ∙ columns_among_merged q u) }
+          (λ k d inside. (λ i. filter (λ (c : Column). not ((has_pair-sorted (slice_index_or found k d).equal c.name ∙ pairs_of_equalities q.filters c.name k d inside) i)) (merged_of q)) ∙ columns_among_merged q u);
+    }

@@ -10,6 +10,7 @@ use Rattle.std.specs.BTreeMap.{is_at}
 use Rattle.std.specs.BTreeSet.{insert_key}
 use Rattle.std.proofs.lemmas.Map.Text.{is_eq-slice_cmp}
 use Rattle.ds_base.specs.KeyOrderLaws.{bytes_cmp-same}
+use Rattle.ds_base.specs.SortingLaws.{list_any-insert_key}
 use Rattle.ds_query.specs.Reasons.{has_name}
 
 abbrev pub now_of : Bor (List ℕ) → List ℕ
@@ -22,23 +23,13 @@ pub contains-has_name : (keys : List (Bor (List ℕ))) (name : List ℕ) → lis
 contains-has_name [] name = refl
 contains-has_name (k ∷ ks) name = λ i. is_eq-slice_cmp name k.now i || contains-has_name ks name i
 
-pub or_again : (b r : Bool) → (b || r) ≡ (b || (b || r))
-or_again true r = refl
-or_again false r = refl
-
-pub or_swap : (a b r : Bool) → (a || (b || r)) ≡ (b || (a || r))
-or_swap true true r = refl
-or_swap true false r = refl
-or_swap false true r = refl
-or_swap false false r = refl
+has_name-map : (keys : List (Bor (List ℕ))) (n : List ℕ) → has_name (map now_of keys) n ≡ list_any (λ (k : Bor (List ℕ)). bytes_eq n k.now) keys
+has_name-map [] n = refl
+has_name-map (k ∷ ks) n = ap (λ b. bytes_eq n k.now || b) (has_name-map ks n)
 
 -- a set with one more name has it, and those from before
 pub has_name-insert_key : (keys : List (Bor (List ℕ))) (k : Bor (List ℕ)) (n : List ℕ) → has_name (map now_of (insert_key str_cmp keys k)) n ≡ (bytes_eq n k.now || has_name (map now_of keys) n)
-has_name-insert_key [] k n = refl
-has_name-insert_key (x ∷ xs) k n = at (str_cmp k x) refl (has_name-insert_key xs k n) where
-  at : (r : Ordering) → str_cmp k x ≡ r → has_name (map now_of (insert_key str_cmp xs k)) n ≡ (bytes_eq n k.now || has_name (map now_of xs) n)
-    → has_name (map now_of (match_ordering r (k ∷ x ∷ xs) (x ∷ xs) (x ∷ insert_key str_cmp xs k))) n ≡ (bytes_eq n k.now || (bytes_eq n x.now || has_name (map now_of xs) n))
-  at Less e later = refl
-  at Equal e later =
-      rw (bytes_cmp-same k.now x.now e) (or_again (bytes_eq n x.now) (has_name (map now_of xs) n))
-  at Greater e later = ap (λ b. bytes_eq n x.now || b) later ∙ or_swap (bytes_eq n x.now) (bytes_eq n k.now) (has_name (map now_of xs) n)
+has_name-insert_key keys k n =
+    has_name-map (insert_key str_cmp keys k) n
+    ∙ list_any-insert_key str_cmp (λ (x : Bor (List ℕ)). bytes_eq n x.now) (λ x y e. ap (bytes_eq n) (bytes_cmp-same x.now y.now e)) keys k
+    ∙ ap (λ b. bytes_eq n k.now || b) (sym (has_name-map keys n))

@@ -75,7 +75,7 @@ pub first_inequality : (g : List ℕ → Bool) (filters : List Filter) (p : List
 first_inequality g [] p e none = absurd (cc e)
 first_inequality g (f ∷ fs) p e none = at (is_inequality f) e none (first_inequality g fs p) where
   at : (b : Bool) → cond b (Some f.property) (inequality_of fs) ≡ Some p → ((b && g f.property) || list_any (λ h. is_inequality h && g h.property) fs) ≡ false
-    → (inequality_of fs ≡ Some p → list_any (λ h. is_inequality h && g h.property) fs ≡ false → g p ≡ false) → g p ≡ false
+      → (inequality_of fs ≡ Some p → list_any (λ h. is_inequality h && g h.property) fs ≡ false → g p ≡ false) → g p ≡ false
   at true e none later =
       let same : f.property ≡ p = cc in
       ap g (sym same) ∙ (or_neither (g f.property) (list_any (λ h. is_inequality h && g h.property) fs) none).0
@@ -108,7 +108,7 @@ first_left_is : (filters : List Filter) (orders : List Column) → first_left fi
 first_left_is filters [] = refl
 first_left_is filters (c ∷ cs) = at (has_equality filters c.name) refl (first_left_is filters cs) where
   at : (b : Bool) → has_equality filters c.name ≡ b → first_left filters cs ≡ head_name (kept_orders (has_equality filters) cs)
-    → cond b (first_left filters cs) (Some c.name) ≡ head_name (cond (not b) (c ∷ filter (λ (x : Column). not (has_equality filters x.name)) (cond (is_key_name c.name) [] (up_to_key cs))) (filter (λ (x : Column). not (has_equality filters x.name)) (cond (is_key_name c.name) [] (up_to_key cs))))
+      → cond b (first_left filters cs) (Some c.name) ≡ head_name (cond (not b) (c ∷ filter (λ (x : Column). not (has_equality filters x.name)) (cond (is_key_name c.name) [] (up_to_key cs))) (filter (λ (x : Column). not (has_equality filters x.name)) (cond (is_key_name c.name) [] (up_to_key cs))))
   at true e later = later ∙ ap (λ k. head_name (filter (λ (x : Column). not (has_equality filters x.name)) (cond k [] (up_to_key cs)))) (sym (equal_no_key filters c.name e))
   at false e later = refl
 
@@ -133,7 +133,7 @@ pub key_after_inequality_by : (dropped : List ℕ → Bool) (q : Query) → IsUn
 key_after_inequality_by dropped q u fewer p e h =
     let unequal : has_equality q.filters p ≡ false = unequal_inequality q u p e in
     let alike : (n : List ℕ) → has_equality q.filters n ≡ false → has_column (kept_orders dropped q.orders) n ≡ has_column (kept_orders (has_equality q.filters) q.orders) n =
-      λ n k. among-filter (λ (c : Column). c.name) (λ m. not (dropped m)) (up_to_key q.orders) n (ap not (fewer n k)) ∙ sym (among-filter (λ (c : Column). c.name) (λ m. not (has_equality q.filters m)) (up_to_key q.orders) n (ap not k)) in
+    λ n k. among-filter (λ (c : Column). c.name) (λ m. not (dropped m)) (up_to_key q.orders) n (ap not (fewer n k)) ∙ sym (among-filter (λ (c : Column). c.name) (λ m. not (has_equality q.filters m)) (up_to_key q.orders) n (ap not k)) in
     alike p unequal ∙ key_after_inequality q u p e (sym (alike key_name (key_unequal q.filters)) ∙ h)
 
 -- columns of which the last alone is on `__key__`
@@ -154,8 +154,9 @@ key_place dropped free (c ∷ cs) = at (is_key_name c.name) refl (dropped c.name
   more : (xs : List Column) → is_key_name c.name ≡ false → KeyPlace xs → KeyPlace (c ∷ xs)
   more xs k (inl none) = inl (λ i. (name_symm key_name c.name ∙ k) i || none i)
   more xs k (inr r) = inr (record { front = c ∷ r.front; key = r.key; whole = ap (λ ys. c ∷ ys) r.whole; none = λ i. (name_symm key_name c.name ∙ k) i || r.none i; is_key = r.is_key })
+
   at : (k : Bool) → is_key_name c.name ≡ k → (b : Bool) → dropped c.name ≡ b → KeyPlace (kept_orders dropped cs)
-    → KeyPlace (cond (not b) (c ∷ filter (λ (x : Column). not (dropped x.name)) (cond k [] (up_to_key cs))) (filter (λ (x : Column). not (dropped x.name)) (cond k [] (up_to_key cs))))
+      → KeyPlace (cond (not b) (c ∷ filter (λ (x : Column). not (dropped x.name)) (cond k [] (up_to_key cs))) (filter (λ (x : Column). not (dropped x.name)) (cond k [] (up_to_key cs))))
   at true k true e later = absurd (true≢false (sym e ∙ ap dropped (key_is c.name k) ∙ free))
   at true k false e later = inr (record { front = []; key = c; whole = refl; none = refl; is_key = k })
   at false k true e later = later
@@ -166,8 +167,8 @@ pub kept_orders-any : (dropped : List ℕ → Bool) (orders : List Column) → h
 kept_orders-any dropped [] h = absurd (true≢false (sym h))
 kept_orders-any dropped (c ∷ cs) h = at (is_key_name c.name) refl (dropped c.name) (kept_orders-any dropped cs) h where
   at : (k : Bool) → is_key_name c.name ≡ k → (b : Bool) → (has_column (kept_orders dropped cs) key_name ≡ true → list_any (λ x. is_key_name x.name) cs ≡ true)
-    → has_column (cond (not b) (c ∷ filter (λ (x : Column). not (dropped x.name)) (cond k [] (up_to_key cs))) (filter (λ (x : Column). not (dropped x.name)) (cond k [] (up_to_key cs)))) key_name ≡ true
-    → (k || list_any (λ x. is_key_name x.name) cs) ≡ true
+      → has_column (cond (not b) (c ∷ filter (λ (x : Column). not (dropped x.name)) (cond k [] (up_to_key cs))) (filter (λ (x : Column). not (dropped x.name)) (cond k [] (up_to_key cs)))) key_name ≡ true
+      → (k || list_any (λ x. is_key_name x.name) cs) ≡ true
   at true k b later h = refl
   at false k true later h = later h
   at false k false later h = later (sym (ap (λ b. b || has_column (kept_orders dropped cs) key_name) (name_symm key_name c.name ∙ k)) ∙ h)

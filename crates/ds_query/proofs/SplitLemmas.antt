@@ -1,6 +1,5 @@
 -- How many conditions a filter may ask, and how many ways there are to meet several.
 use Rattle.std.proofs.Common.{◌≡◌, ◌≢◌, ℕ, ◌+◌, ◌*◌, ◌-◌, ◌^◌, ◌<◌, ◌≤◌, min, List, [], ◌∷◌, ◌++◌, Bool, true, false, IsTrue, length, map, take, get_or, flat_map, fold, refl, sym, ap, ◌∙◌, subst, suc, lit≤, arith}
-
 use Rattle.std.specs.Prelude.{nat_le, ◌==◌}
 use Rattle.std.specs.List.{list_all, list_any}
 use Rattle.std.proofs.lemmas.List.{length-map, length-append}
@@ -31,14 +30,14 @@ length-choices : (o : Op) (vs : List Value) → length (flat_map (λ v. ways o (
 length-choices o [] = omega arith
 length-choices o (v ∷ vs) =
     length-append (ways o (as_indexed v)) (flat_map (λ w. ways o (as_indexed w)) vs) ∙ (λ i. length-ways o i + length-choices o vs i) ∙ one_more (length vs) (ways_count o) where
-  length-ways : (o : Op) → length (ways o (as_indexed v)) ≡ ways_count o
-  length-ways op.NotEqual = refl
-  length-ways op.Equal = refl
-  length-ways op.Less = refl
-  length-ways op.LessEqual = refl
-  length-ways op.Greater = refl
-  length-ways op.GreaterEqual = refl
-  length-ways op.OneOf = refl
+      length-ways : (o : Op) → length (ways o (as_indexed v)) ≡ ways_count o
+      length-ways op.NotEqual = refl
+      length-ways op.Equal = refl
+      length-ways op.Less = refl
+      length-ways op.LessEqual = refl
+      length-ways op.Greater = refl
+      length-ways op.GreaterEqual = refl
+      length-ways op.OneOf = refl
 
 is_one : (n : ℕ) → (n == 1) ≡ true → n ≡ 1
 is_one n h = grind (arith, nat_tests)
@@ -66,6 +65,7 @@ pub choices_some : (f : Filter) → IsTrue (has_operands f) → 1 ≤ length (ch
 choices_some f h = subst (λ n. 1 ≤ n) (sym (length-choices f.op f.values)) (some f.op (length f.values) h) where
   one : (n : ℕ) → (n == 1) ≡ true → 1 ≤ n * 1
   one n h = let e = is_one n h in omega arith
+
   some : (o : Op) (n : ℕ) → enough_values o n ≡ true → 1 ≤ n * ways_count o
   some op.NotEqual n h = let e = is_one n h in omega arith
   some op.Equal n h = one n h
@@ -91,7 +91,7 @@ length-conditions_more filters i d h =
 pub capped_product : (a k most top : ℕ) → 1 ≤ k → most ≤ top → min (min (min a most * k) top) most ≡ min (a * k) most
 capped_product a k most top some fits = at (nat_le a most) refl where
   at : (b : Bool) → nat_le a most ≡ b → min (min (min a most * k) top) most ≡ min (a * k) most
-  at true h = 
+  at true h =
       let e : min a most ≡ a = grind (arith, nat_tests) in
       rw e (omega arith)
   at false h =
@@ -125,6 +125,7 @@ pub conditions_some : (filters : List Filter) → IsTrue (list_all has_operands 
 conditions_some filters all = some filters (unasked ∷ []) (lit≤ tt) all where
   grown : (n k : ℕ) → 1 ≤ n → 1 ≤ k → 1 ≤ n * k
   grown n k h g = let e : 1 * 1 ≤ n * k = mul-le-mul h g in omega arith
+
   some : (fs : List Filter) (cs : List Conditions) → 1 ≤ length cs → list_all has_operands fs ≡ true → 1 ≤ length (fold split_all cs fs)
   some [] cs h all = h
   some (f ∷ fs) cs h all =
@@ -135,6 +136,7 @@ one_choice : (f : Filter) → IsTrue (has_operands f) → is_split f.op ≡ fals
 one_choice f h single = length-choices f.op f.values ∙ at f.op (length f.values) h single where
   one : (n : ℕ) → (n == 1) ≡ true → n * 1 ≡ 1
   one n h = let e = is_one n h in omega arith
+
   at : (o : Op) (n : ℕ) → enough_values o n ≡ true → is_split o ≡ false → n * ways_count o ≡ 1
   at op.NotEqual n h e = absurd (true≢false e)
   at op.OneOf n h e = absurd (true≢false e)

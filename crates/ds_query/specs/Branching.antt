@@ -1,5 +1,6 @@
 -- The branches of a query: one for each way to take its `!=` and `in` filters apart.
-use Rattle.std.specs.Prelude.{ℕ, Bool, true, false, ◌&&◌, not, List, [], ◌∷◌, ◌++◌, map, flat_map, fold, Option, Some, None, unwrap_or, cond}
+use Rattle.std.specs.Prelude.{ℕ, Bool, true, false, ◌&&◌, not, List, [], ◌∷◌, ◌++◌, map, flat_map, fold}
+use Rattle.std.specs.Prelude.{Option, Some, None, unwrap_or, cond}
 use Rattle.std.specs.Ordering.{ordering_then, match_ordering}
 use Rattle.std.specs.declared.cmp.Ordering.{Ordering}
 use Rattle.std.specs.BTreeSet.{insert_key}
@@ -105,5 +106,12 @@ sorted_pairs = fold (insert_key pair_cmp) []
 
 -- the branch of one way to meet the filters
 abbrev pub branch_of : Query → Conditions → Branch
-branch_of q c =
-    record { namespace = q.namespace; kind = q.kind; ancestor = q.ancestor; equal = sorted_pairs c.equal; range = c.range; columns = columns_of q; select = q.select }
+branch_of q c = record {
+  namespace = q.namespace;
+  kind = q.kind;
+  ancestor = q.ancestor;
+  equal = sorted_pairs c.equal;
+  range = c.range;
+  columns = columns_of q;
+  select = q.select;
+}

@@ -1,5 +1,6 @@
 -- What the rows of a query are sorted by.
-use Rattle.std.specs.Prelude.{◌≡◌, ℕ, Bool, true, false, ◌&&◌, not, bytes_eq, List, [], ◌∷◌, ◌++◌, map, filter, fold, cond}
+use Rattle.std.specs.Prelude.{◌≡◌, ℕ, Bool, false, ◌&&◌, not, bytes_eq, List, [], ◌∷◌, ◌++◌}
+use Rattle.std.specs.Prelude.{map, filter, fold, cond}
 use Rattle.std.specs.Option.{option_to_list}
 use Rattle.std.specs.List.{list_any}
 use Rattle.ds_base.specs.declared.column.Column.{Column}
@@ -35,7 +36,10 @@ up_to_key (c ∷ cs) = c ∷ cond (is_key_name c.name) [] (up_to_key cs)
 -- inequality, its projected properties, and the key
 abbrev pub wanted_columns : (List ℕ → Bool) → Query → List Column
 wanted_columns dropped q =
-    filter (λ c. not (dropped c.name)) (up_to_key q.orders) ++ map ascending (option_to_list (inequality_of q.filters)) ++ map ascending (projected q.select) ++ ascending key_name ∷ []
+    filter (λ c. not (dropped c.name)) (up_to_key q.orders)
+    ++ map ascending (option_to_list (inequality_of q.filters))
+    ++ map ascending (projected q.select)
+    ++ ascending key_name ∷ []
 
 -- the columns of each branch: an order on a property with an equality has no effect
 abbrev pub columns_of : Query → List Column

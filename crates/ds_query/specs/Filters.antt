@@ -1,5 +1,6 @@
 -- What the filters of a query ask: which are equalities, which inequalities, and of which property.
-use Rattle.std.specs.Prelude.{ℕ, Bool, true, false, ◌&&◌, not, ◌==◌, nat_le, bytes_eq, codes, List, [], ◌∷◌, length, Option, Some, None, cond}
+use Rattle.std.specs.Prelude.{ℕ, Bool, true, false, ◌&&◌, not, ◌==◌, nat_le, bytes_eq, codes, cond}
+use Rattle.std.specs.Prelude.{List, [], ◌∷◌, length, Option, Some, None}
 use Rattle.std.specs.List.{list_any}
 use Rattle.ds_query.specs.declared.query.Op.{Op}
 use Rattle.ds_query.specs.declared.query.Op.TheVariants as op

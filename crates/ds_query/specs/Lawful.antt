@@ -1,5 +1,6 @@
 -- What every branch, normal form and window keeps that a query is answered by.
-use Rattle.std.specs.Prelude.{◌≡◌, ℕ, ◌<◌, Bool, true, false, ◌&&◌, not, bytes_eq, IsTrue, List, [], ◌∷◌, length, filter, All, Option, Some, None}
+use Rattle.std.specs.Prelude.{◌≡◌, ℕ, ◌<◌, Bool, true, false, ◌&&◌, not, bytes_eq, IsTrue}
+use Rattle.std.specs.Prelude.{List, [], ◌∷◌, length, filter, All, Option, Some, None}
 use Rattle.std.specs.List.{list_all, list_any}
 use Rattle.std.specs.List.Sorted.{IsStrictlySortedBy}
 use Rattle.ds_base.specs.declared.index_value.IndexValue.{IndexValue}

@@ -18,7 +18,9 @@ normal_form q = record { branches = map (branch_of q) (conditions q.filters); me
 -- at most 30 branches; a greater number is told, up to 2^63 - 1
 abbrev pub few_branches : Query → Result Normal QueryRefused
 few_branches q =
-    cond (nat_lt most_branches (length (conditions q.filters))) (Err (refused.TooManySubqueries (min (length (conditions q.filters)) greatest_told))) (Ok (normal_form q))
+    cond (nat_lt most_branches (length (conditions q.filters)))
+    (Err (refused.TooManySubqueries (min (length (conditions q.filters)) greatest_told)))
+    (Ok (normal_form q))
 
 abbrev pub unless_reason : Option Reason → Result Normal QueryRefused → Result Normal QueryRefused
 unless_reason (Some reason) rest = Err (refused.Bad reason)

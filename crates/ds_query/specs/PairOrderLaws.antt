@@ -13,7 +13,9 @@ use Rattle.ds_query.specs.declared.branch.Pair.{Pair}
 use Rattle.ds_query.specs.Branching.{pair_cmp}
 
 pub pair_cmp-total : IsTotalOrder pair_cmp
-pair_cmp-total = then_total (on_total (λ (p : Pair). p.property) nat_list_cmp_total) (on_total (λ (p : Pair). p.value) index_value_cmp-total)
+pair_cmp-total =
+    then_total (on_total (λ (p : Pair). p.property) nat_list_cmp_total)
+    (on_total (λ (p : Pair). p.value) index_value_cmp-total)
 
 pub pair_cmp-same : IsAntisymmetric pair_cmp
 pair_cmp-same p q e =

@@ -1,5 +1,6 @@
 -- Why a query is refused for its form: each reason as a condition on the query as it is written, and their order.
-use Rattle.std.specs.Prelude.{ℕ, Bool, true, false, ◌&&◌, ◌||◌, not, bytes_eq, List, [], ◌∷◌, Option, Some, None, is_none, cond}
+use Rattle.std.specs.Prelude.{ℕ, Bool, true, false, ◌&&◌, ◌||◌, not, bytes_eq, cond}
+use Rattle.std.specs.Prelude.{List, [], ◌∷◌, Option, Some, None, is_none}
 use Rattle.std.specs.List.{list_any}
 use Rattle.ds_base.specs.declared.value.Value.{Value}
 use Rattle.ds_base.specs.declared.value.Value.TheVariants as value
@@ -40,7 +41,10 @@ needs_kind c = not (is_key_name c.name) || c.descending
 -- no kind, and a filter, an order or a projection that needs one
 abbrev pub lacks_kind : Query → Bool
 lacks_kind q =
-    is_none q.kind && (list_any (λ f. not (is_key_name f.property)) q.filters || list_any needs_kind q.orders || list_any (λ n. not (is_key_name n)) (projected q.select))
+    is_none q.kind
+    && (list_any (λ f. not (is_key_name f.property)) q.filters
+    || list_any needs_kind q.orders
+    || list_any (λ n. not (is_key_name n)) (projected q.select))
 
 -- ---- inequalities
 
@@ -78,7 +82,10 @@ is_projection _ = false
 -- a projection that names `__key__` in its selection, a filter or an order
 abbrev pub projects_key : Query → Bool
 projects_key q =
-    is_projection q.select && (list_any is_key_name (projected q.select) || list_any (λ f. is_key_name f.property) q.filters || list_any (λ c. is_key_name c.name) q.orders)
+    is_projection q.select
+    && (list_any is_key_name (projected q.select)
+    || list_any (λ f. is_key_name f.property) q.filters
+    || list_any (λ c. is_key_name c.name) q.orders)
 
 -- is the name among these?
 abbrev pub has_name : List (List ℕ) → List ℕ → Bool

@@ -4,9 +4,7 @@ ghost use Rattle.std.specs.List.{list_all};
 ghost use Rattle.ds_base.specs.Keys.{is_namespace};
 ghost use Rattle.ds_query.specs.Filters.{has_operands};
 
-use ds_base::{
-    Columns, Key, Names, Sequence, TextString, TryCopy, Values, is_namespace,
-};
+use ds_base::{Columns, Key, Names, Sequence, TextString, TryCopy, Values, is_namespace};
 use std::alloc::{AllocError, Global};
 
 /// How a filter compares a property with its values.
