@@ -1,7 +1,7 @@
 -- Columns of which each name's first is kept: their names differ, the first stays first, and a filter by name commutes.
-use Rattle.std.proofs.Common.{◌≡◌, ℕ, List, [], ◌∷◌, ◌++◌, Bool, true, false, ◌&&◌, ◌||◌, not, cond, map, filter, fold, refl, sym, ap, ◌∙◌, subst, append_assoc}
+use Rattle.std.proofs.Common.{◌≡◌, ℕ, List, [], ◌∷◌, ◌++◌, Bool, true, false, ◌&&◌, ◌||◌, not, cond, filter, fold, refl, sym, ap, ◌∙◌}
 use Rattle.std.specs.Prelude.{bytes_eq}
-use Rattle.std.specs.List.{list_any, list_all}
+use Rattle.std.specs.List.{list_all}
 use Rattle.std.proofs.lemmas.List.{append-nil}
 use Rattle.std.proofs.lemmas.List.Sums.{fold-append}
 use Rattle.std.proofs.lemmas.List.Folds.{list_any-append}
@@ -10,7 +10,7 @@ use Rattle.ds_base.specs.declared.column.Column.{Column}
 use Rattle.ds_query.specs.Filters.{key_name, is_key_name}
 use Rattle.ds_query.specs.ColumnLists.{has_column, with_column, first_of_each_name}
 use Rattle.ds_query.specs.Lawful.{names_differ, ends_in_key, starts_with_key}
-use Rattle.ds_query.proofs.Booleans.{or_false, and_false, or_assoc, and_both, name_is, name_itself, name_symm, among-filter}
+use Rattle.ds_query.proofs.Booleans.{or_false, and_false, or_assoc, and_both, name_is, name_symm, among-filter}
 
 -- ---- which names are there
 

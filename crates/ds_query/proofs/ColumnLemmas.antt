@@ -1,18 +1,12 @@
 -- Columns that are put together, of each name the first.
-use Rattle.std.proofs.Common.{◌≡◌, ℕ, List, [], ◌∷◌, ◌++◌, Bool, true, false, ◌&&◌, ◌||◌, not, cond, Option, map, filter, fold, refl, sym, ap, ◌∙◌, subst}
-use Rattle.std.specs.Prelude.{bytes_eq}
+use Rattle.std.proofs.Common.{◌≡◌, ℕ, List, [], ◌∷◌, ◌++◌, Bool, not, Option, map, filter, fold, sym, ap, ◌∙◌}
 use Rattle.std.specs.Option.{option_to_list}
-use Rattle.std.specs.List.{list_any, list_all}
-use Rattle.std.specs.Cmp.Lexicographic.{nat_list_eq_equiv}
 use Rattle.std.proofs.lemmas.List.Sums.{fold-append}
-use Rattle.std.proofs.lemmas.List.Folds.{list_any-append}
-use Rattle.std.proofs.lemmas.Slice.Eq.{bytes_eq-Decides}
 use Rattle.ds_base.specs.declared.column.Column.{Column}
 use Rattle.ds_query.specs.declared.query.Filter.{Filter}
 use Rattle.ds_query.specs.declared.query.Query.{Query}
-use Rattle.ds_query.specs.Filters.{key_name, is_key_name, inequality_of, projected}
-use Rattle.ds_query.specs.ColumnLists.{has_column, with_column, first_of_each_name, ascending, up_to_key, wanted_columns}
-use Rattle.ds_query.specs.Lawful.{names_differ, ends_in_key, starts_with_key}
+use Rattle.ds_query.specs.Filters.{key_name, inequality_of, projected}
+use Rattle.ds_query.specs.ColumnLists.{with_column, first_of_each_name, ascending, up_to_key, wanted_columns}
 
 -- ---- what the code puts together, step by step
 

@@ -1,17 +1,17 @@
 -- The columns of a query that isn't refused are lawful, and so are the merged ones.
-use Rattle.std.proofs.Common.{◌≡◌, ◌⊎◌, inl, inr, ℕ, List, [], ◌∷◌, ◌++◌, Bool, true, false, ◌&&◌, ◌||◌, not, cond, Option, Some, None, map, filter, fold, refl, sym, ap, ◌∙◌, subst, append_assoc}
-use Rattle.std.specs.Prelude.{bytes_eq, is_none}
+use Rattle.std.proofs.Common.{◌≡◌, inl, inr, ℕ, List, [], ◌∷◌, ◌++◌, Bool, true, false, ◌&&◌, ◌||◌, not, cond, Option, Some, None, map, filter, refl, sym, ap, ◌∙◌, append_assoc}
+use Rattle.std.specs.Prelude.{bytes_eq}
 use Rattle.std.specs.Option.{option_to_list}
 use Rattle.std.specs.List.{list_any, list_all}
 use Rattle.std.proofs.lemmas.List.{append-nil}
-use Rattle.std.proofs.lemmas.List.Folds.{list_any-append, list_all-append}
+use Rattle.std.proofs.lemmas.List.Folds.{list_any-append}
 use Rattle.std.proofs.lemmas.List.Elements.{filter-append}
 use Rattle.ds_base.specs.declared.column.Column.{Column}
 use Rattle.ds_query.specs.declared.query.Query.{Query}
-use Rattle.ds_query.specs.Filters.{key_name, is_key_name, is_inequality, has_equality, has_one_of, inequality_of, projected}
-use Rattle.ds_query.specs.ColumnLists.{has_column, with_column, first_of_each_name, ascending, up_to_key, wanted_columns, columns_of, merged_of}
-use Rattle.ds_query.specs.Reasons.{has_name, projects_equal}
-use Rattle.ds_query.specs.Lawful.{names_differ, ends_in_key, starts_with_key}
+use Rattle.ds_query.specs.Filters.{key_name, is_key_name, has_equality, has_one_of, inequality_of, projected}
+use Rattle.ds_query.specs.ColumnLists.{has_column, first_of_each_name, ascending, up_to_key, wanted_columns, columns_of, merged_of}
+use Rattle.ds_query.specs.Reasons.{has_name}
+use Rattle.ds_query.specs.Lawful.{ends_in_key, starts_with_key}
 use Rattle.ds_query.proofs.Booleans.{or_true, or_neither, not_true, refuted, true≢false, name_itself, name_symm, names_apart, none_among, all_from_among, among-filter_out, filter_filter, filter_all}
 use Rattle.ds_query.proofs.ColumnLaws.{has_column-first, starts_with_key-fold, ends_in_key-first, filter-first}
 use Rattle.ds_query.proofs.ReasonLaws.{IsUnrefused, key_is, key_unequal, unequal_inequality, any_of_inequality, kept_orders, first_counts, key_after_inequality_by, EndsWithKey, KeyPlace, key_place, kept_orders-any, no_projection_by_filter, no_projection_by_order, projects_no_key}

@@ -22,9 +22,9 @@ use Rattle.ds_query.specs.declared.branch.Pair.{Pair}
 use Rattle.ds_query.specs.declared.branch.Bound.{Bound}
 use Rattle.ds_query.specs.declared.branch.Range.{Range}
 use Rattle.ds_query.specs.declared.conditions.Conditions.{Conditions}
-use Rattle.ds_query.specs.Filters.{key_name, is_key_name, asks_equal, is_equality, is_inequality, has_equality, inequality_of}
-use Rattle.ds_query.specs.Reasons.{is_key_value, has_wrong_key, two_inequalities, another_inequality}
-use Rattle.ds_query.specs.Branching.{stricter, greater_bound, lesser_bound, with_bound, at_bound, from_bound, up_to_bound, within, unasked, narrowed, as_indexed, ways, choices, split_by, split_all, conditions, pair_cmp, sorted_pairs}
+use Rattle.ds_query.specs.Filters.{is_key_name, asks_equal, is_equality, is_inequality, has_equality, inequality_of}
+use Rattle.ds_query.specs.Reasons.{is_key_value, has_wrong_key}
+use Rattle.ds_query.specs.Branching.{stricter, greater_bound, lesser_bound, with_bound, at_bound, from_bound, up_to_bound, within, unasked, narrowed, as_indexed, ways, split_by, split_all, conditions, pair_cmp, sorted_pairs}
 use Rattle.ds_query.specs.PairOrderLaws.{pair_cmp-total, pair_cmp-same}
 use Rattle.ds_query.specs.Lawful.{has_pair, is_key_bound, bounds_are_keys}
 use Rattle.ds_query.proofs.Booleans.{or_false, or_assoc, or_neither, and_both, and_other, not_false, true≢false, name_is}

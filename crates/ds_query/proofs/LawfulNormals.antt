@@ -1,5 +1,5 @@
 -- The normal form of a query that isn't refused is lawful.
-use Rattle.std.proofs.Common.{◌≡◌, ℕ, ◌<◌, List, [], ◌∷◌, ◌++◌, Bool, true, false, IsTrue, ◌&&◌, ◌||◌, not, cond, Option, Some, None, length, map, filter, fold, refl, sym, ap, ◌∙◌, subst}
+use Rattle.std.proofs.Common.{◌≡◌, ℕ, ◌<◌, List, [], ◌∷◌, ◌++◌, Bool, true, false, IsTrue, ◌&&◌, ◌||◌, not, cond, Option, Some, None, map, filter, fold, refl, sym, ap, ◌∙◌, subst}
 use Rattle.std.specs.Prelude.{bytes_eq, is_none, All}
 use Rattle.std.specs.Option.{option_to_list}
 use Rattle.std.specs.List.{list_any, list_all, slice_index_or}
@@ -13,15 +13,14 @@ use Rattle.ds_query.specs.declared.query.Op.TheVariants as op
 use Rattle.ds_query.specs.declared.query.Filter.{Filter}
 use Rattle.ds_query.specs.declared.query.Query.{Query}
 use Rattle.ds_query.specs.declared.branch.Pair.{Pair}
-use Rattle.ds_query.specs.declared.branch.Branch.{Branch}
 use Rattle.ds_query.specs.declared.conditions.Conditions.{Conditions}
-use Rattle.ds_query.specs.Filters.{key_name, is_key_name, asks_equal, is_equality, has_equality, is_one_of, has_one_of, inequality_of, has_operands, is_split, is_several, projected}
+use Rattle.ds_query.specs.Filters.{key_name, is_key_name, asks_equal, has_equality, is_one_of, has_one_of, inequality_of, has_operands, is_split, is_several, projected}
 use Rattle.ds_query.specs.Reasons.{another_inequality, needs_kind, reason_of}
 use Rattle.ds_query.specs.ColumnLists.{has_column, with_column, first_of_each_name, ascending, up_to_key, wanted_columns, columns_of, merged_of}
 use Rattle.ds_query.specs.Branching.{conditions, sorted_pairs, branch_of}
 use Rattle.ds_query.specs.Normals.{normal_form}
-use Rattle.ds_query.specs.Lawful.{has_pair, names_differ, starts_with_key, bounds_are_keys, IsKindless, IsLawfulBranch, AreAlike, IsLawfulNormal}
-use Rattle.ds_query.proofs.Booleans.{or_false, or_neither, and_both, and_other, not_false, not_true, refuted, true≢false, name_itself, all_from_among, nothing_among, list_all-filter, filter_all}
+use Rattle.ds_query.specs.Lawful.{has_pair, starts_with_key, bounds_are_keys, IsKindless, IsLawfulBranch, AreAlike, IsLawfulNormal}
+use Rattle.ds_query.proofs.Booleans.{or_false, or_neither, and_both, not_false, not_true, refuted, true≢false, all_from_among, nothing_among, list_all-filter}
 use Rattle.ds_query.proofs.ColumnLaws.{names_differ-first, fold_kept}
 use Rattle.ds_query.proofs.ReasonLaws.{IsUnrefused, unrefused, key_is, equal_no_key, any_of_inequality, projects_no_key, kept_orders}
 use Rattle.ds_query.proofs.SplitLemmas.{conditions_some, conditions_single}

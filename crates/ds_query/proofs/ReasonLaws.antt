@@ -1,17 +1,16 @@
 -- What holds of a query that no reason refuses.
-use Rattle.std.proofs.Common.{◌≡◌, ◌≢◌, ◌⊎◌, inl, inr, ℕ, List, [], ◌∷◌, ◌++◌, Bool, true, false, ◌&&◌, ◌||◌, not, cond, Option, Some, None, map, filter, refl, sym, ap, ◌∙◌, subst}
-use Rattle.std.specs.Prelude.{bytes_eq, is_none}
-use Rattle.std.specs.Option.{option_to_list}
-use Rattle.std.specs.List.{list_any, list_all}
+use Rattle.std.proofs.Common.{◌≡◌, ◌⊎◌, inl, inr, ℕ, List, [], ◌∷◌, ◌++◌, Bool, true, false, ◌&&◌, ◌||◌, not, cond, Option, Some, None, filter, refl, sym, ap, ◌∙◌}
+use Rattle.std.specs.Prelude.{bytes_eq}
+use Rattle.std.specs.List.{list_any}
 use Rattle.ds_base.specs.declared.column.Column.{Column}
 use Rattle.ds_query.specs.declared.query.Filter.{Filter}
 use Rattle.ds_query.specs.declared.query.Select.{Select}
 use Rattle.ds_query.specs.declared.query.Select.TheVariants as select
 use Rattle.ds_query.specs.declared.query.Query.{Query}
 use Rattle.ds_query.specs.declared.refusal.Reason.{Reason}
-use Rattle.ds_query.specs.Filters.{key_name, is_key_name, asks_equal, is_equality, is_inequality, has_equality, inequality_of, is_several, projected}
+use Rattle.ds_query.specs.Filters.{key_name, is_key_name, asks_equal, is_equality, is_inequality, has_equality, inequality_of, projected}
 use Rattle.ds_query.specs.Reasons.{has_wrong_key, has_unindexed, lacks_kind, two_inequalities, equal_and_range, first_left, are_apart, first_order_apart, is_projection, projects_key, repeats, projects_equal, reason_of}
-use Rattle.ds_query.specs.ColumnLists.{has_column, ascending, up_to_key}
+use Rattle.ds_query.specs.ColumnLists.{has_column, up_to_key}
 use Rattle.ds_query.proofs.Booleans.{or_true, or_neither, and_first, not_false, refuted, true≢false, name_is, name_itself, name_symm, among-filter}
 
 -- ---- each reason fails

@@ -1,5 +1,5 @@
 -- The normal form of a query, or why it has none.
-use Rattle.std.specs.Prelude.{Bool, nat_lt, min, length, map, Option, Some, None, Result, Ok, Err, cond}
+use Rattle.std.specs.Prelude.{nat_lt, min, length, map, Option, Some, None, Result, Ok, Err, cond}
 use Rattle.ds_base.specs.Limits.{most_branches, greatest_told}
 use Rattle.ds_query.specs.declared.query.Query.{Query}
 use Rattle.ds_query.specs.declared.branch.Normal.{Normal}

@@ -1,4 +1,4 @@
-use Rattle.std.proofs.Common.{◌≡◌, ◌∙◌, ◌&&◌, not}
+use Rattle.std.proofs.Common.{◌∙◌, ◌&&◌, not}
 use Rattle.ds_query.specs.Reasons.{has_name}
 use Rattle.ds_query.proofs.ColumnLemmas.{columns_put}
 use Rattle.ds_query.proofs.columns.columns_without.Goals as goal

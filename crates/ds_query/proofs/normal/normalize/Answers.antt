@@ -1,4 +1,4 @@
-use Rattle.std.proofs.Common.{◌≡◌, ◌∙◌, sym, subst}
+use Rattle.std.proofs.Common.{◌∙◌, sym, subst}
 use Rattle.ds_query.specs.Lawful.{IsLawfulNormal}
 use Rattle.ds_query.proofs.LawfulNormals.{lawful_normal}
 use Rattle.ds_query.proofs.normal.normalize.Goals as goal

@@ -1,4 +1,4 @@
-use Rattle.std.proofs.Common.{◌≡◌, [], arith}
+use Rattle.std.proofs.Common.{[], arith}
 use Rattle.std.proofs.lemmas.Grind.{common_steps}
 use Rattle.ds_query.proofs.RepeatLemmas.{repeats-start, repeats-more}
 use Rattle.ds_query.proofs.reasons.repeats.Goals as goal

@@ -1,4 +1,4 @@
-use Rattle.std.proofs.Common.{◌≡◌, ◌∙◌}
+use Rattle.std.proofs.Common.{◌∙◌}
 use Rattle.ds_query.proofs.SplitLemmas.{length-choices_unequal, length-choices_other}
 use Rattle.ds_query.proofs.splitting.count_choices.Goals as goal
 

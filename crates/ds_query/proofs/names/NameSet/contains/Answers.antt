@@ -1,4 +1,4 @@
-use Rattle.std.proofs.Common.{◌≡◌, ◌∙◌}
+use Rattle.std.proofs.Common.{◌∙◌}
 use Rattle.ds_query.proofs.NameLemmas.{contains-has_name}
 use Rattle.ds_query.proofs.names.NameSet.contains.Goals as goal
 

@@ -1,7 +1,5 @@
-use Rattle.std.proofs.Common.{◌≡◌, ◌∙◌, not, ap, ◌||◌, List, ℕ, sym}
-use Rattle.std.specs.Prelude.{bytes_eq}
-use Rattle.ds_query.specs.Reasons.{has_name}
-use Rattle.ds_query.proofs.NameLemmas.{contains-has_name, has_name-insert_key, now_of}
+use Rattle.std.proofs.Common.{◌∙◌, not, ap}
+use Rattle.ds_query.proofs.NameLemmas.{contains-has_name, has_name-insert_key}
 use Rattle.ds_query.proofs.names.NameSet.insert.Goals as goal
 
 pub returns-clause-new : goal.returns-clause-new

@@ -1,4 +1,3 @@
-use Rattle.std.proofs.Common.{◌≡◌}
 use Rattle.ds_query.specs.PairOrderLaws.{pair_cmp-Equal}
 use Rattle.ds_query.proofs.pair_order.PairOrd.cmp.Goals as goal
 
