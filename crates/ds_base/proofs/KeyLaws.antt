@@ -8,7 +8,7 @@ use Rattle.std.specs.List.{list_all, list_any}
 use Rattle.ds_base.specs.declared.key.Ident.{Ident}
 use Rattle.ds_base.specs.declared.key.Ident.TheVariants.{Id, Name}
 use Rattle.ds_base.specs.declared.key.Elem.{Elem}
-use Rattle.ds_base.specs.declared.limits.TheConstants.{MAX_ID, MAX_PATH_LENGTH}
+use Rattle.ds_base.specs.Limits.{greatest_id, most_elements}
 use Rattle.ds_base.specs.Keys.{KeyParts, is_key, is_path, is_namespace, is_elem, is_ident, is_name, is_reserved_elem, is_writable, ends_in_id, with_last_id, renumbered}
 use Rattle.ds_base.specs.Entities.{elem_size, entity_size, entity_refusal, IsEntity, property_size, refusal_by, is_faulty_property}
 use Rattle.ds_base.specs.declared.entity.Property.{Property}
@@ -18,10 +18,10 @@ length-with_last_id [] id = refl
 length-with_last_id (e ∷ []) id = refl
 length-with_last_id (e ∷ f ∷ es) id = omega (arith, length-with_last_id (f ∷ es) id)
 
-is_ident-Id : (id : ℕ) → 1 ≤ id → id ≤ MAX_ID → is_ident (Id id) ≡ true
+is_ident-Id : (id : ℕ) → 1 ≤ id → id ≤ greatest_id → is_ident (Id id) ≡ true
 is_ident-Id id low high = grind (arith, common_steps)
 
-pub all_elems-with_last_id : (es : List Elem) (id : ℕ) → 1 ≤ id → id ≤ MAX_ID → list_all is_elem es ≡ true → list_all is_elem (with_last_id es id) ≡ true
+pub all_elems-with_last_id : (es : List Elem) (id : ℕ) → 1 ≤ id → id ≤ greatest_id → list_all is_elem es ≡ true → list_all is_elem (with_last_id es id) ≡ true
 all_elems-with_last_id [] id low high all = refl
 all_elems-with_last_id (e ∷ []) id low high all =
     and_from (is_elem (record e { ident = Id id })) true
@@ -60,12 +60,12 @@ pub ends_in_id-positive : (es : List Elem) → ends_in_id es ≡ true → 0 < le
 ends_in_id-positive [] ends = cc
 ends_in_id-positive (e ∷ es) ends = omega arith
 
-pub is_key-renumbered : (k : KeyParts) (id : ℕ) → 1 ≤ id → id ≤ MAX_ID → is_key k ≡ true → is_key (renumbered k id) ≡ true
+pub is_key-renumbered : (k : KeyParts) (id : ℕ) → 1 ≤ id → id ≤ greatest_id → is_key k ≡ true → is_key (renumbered k id) ≡ true
 is_key-renumbered k id low high lawful =
     let parts = and_parts (is_namespace k.namespace) (is_path k.elems) lawful in
-    let path = and_parts (nat_le 1 (length k.elems) && nat_le (length k.elems) MAX_PATH_LENGTH) (list_all is_elem k.elems) parts.1 in
+    let path = and_parts (nat_le 1 (length k.elems) && nat_le (length k.elems) most_elements) (list_all is_elem k.elems) parts.1 in
     and_from (is_namespace k.namespace) (is_path (with_last_id k.elems id)) parts.0
-    (and_from (nat_le 1 (length (with_last_id k.elems id)) && nat_le (length (with_last_id k.elems id)) MAX_PATH_LENGTH) (list_all is_elem (with_last_id k.elems id))
+    (and_from (nat_le 1 (length (with_last_id k.elems id)) && nat_le (length (with_last_id k.elems id)) most_elements) (list_all is_elem (with_last_id k.elems id))
     (rw length-with_last_id path.0)
     (all_elems-with_last_id k.elems id low high path.1))
 
@@ -74,7 +74,7 @@ entity_refusal-renumbered k ps id ends =
     ap (λ writable. refusal_by writable (position is_faulty_property ps) (entity_size (renumbered k id) ps)) (ap not (reserved-with_last_id k.elems id ends))
     ∙ ap (λ size. refusal_by (is_writable k) (position is_faulty_property ps) (length k.namespace + size + sum_by property_size ps)) (sizes-with_last_id k.elems id ends)
 
-pub IsEntity-renumbered : (k : KeyParts) (ps : List Property) (id : ℕ) → ends_in_id k.elems ≡ true → 1 ≤ id → id ≤ MAX_ID → IsEntity k ps → IsEntity (renumbered k id) ps
+pub IsEntity-renumbered : (k : KeyParts) (ps : List Property) (id : ℕ) → ends_in_id k.elems ≡ true → 1 ≤ id → id ≤ greatest_id → IsEntity k ps → IsEntity (renumbered k id) ps
 IsEntity-renumbered k ps id ends low high kept = record {
   lawful_key = is_key-renumbered k id low high kept.lawful_key;
   not_refused = entity_refusal-renumbered k ps id ends ∙ kept.not_refused;

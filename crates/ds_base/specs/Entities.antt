@@ -1,7 +1,8 @@
 -- The size of an entity, and why one is refused.
-use Rattle.std.specs.Prelude.{ℕ, ◌+◌, ◌^◌, min, Bool, true, false, ◌&&◌, ◌||◌, not, ◌==◌, nat_lt, List, [], ◌∷◌, length, sum_by, Option, Some, None, position, cond, ◌≡◌, ◌<◌, IsTrue}
+use Rattle.std.specs.Prelude.{ℕ, ◌+◌, ◌^◌, min, Bool, true, false, ◌&&◌, ◌||◌, not, ◌==◌, nat_lt, List, [], ◌∷◌, length, sum_by}
+use Rattle.std.specs.Prelude.{Option, Some, None, position, cond, ◌≡◌, ◌<◌, IsTrue}
 use Rattle.std.specs.List.{list_any}
-use Rattle.ds_base.specs.declared.limits.TheConstants.{MAX_NAME_BYTES, MAX_RATING, MAX_ENTITY_SIZE, MAX_TOLD_SIZE}
+use Rattle.ds_base.specs.Limits.{most_name_bytes, greatest_rating, greatest_entity_size, greatest_told}
 use Rattle.ds_base.specs.declared.key.Ident.{Ident}
 use Rattle.ds_base.specs.declared.key.Ident.TheVariants.{Id, Name}
 use Rattle.ds_base.specs.declared.key.Elem.{Elem}
@@ -51,9 +52,9 @@ entity_size key properties = key_size key + sum_by property_size properties
 
 -- a rating above 100, or an indexed string or byte string of more than 1,500 bytes
 abbrev pub is_faulty_value : Bool → Value → Bool
-is_faulty_value indexed (value.Rating n) = nat_lt MAX_RATING n
-is_faulty_value indexed (value.Bytes s) = indexed && nat_lt MAX_NAME_BYTES (length s)
-is_faulty_value indexed (value.Str s) = indexed && nat_lt MAX_NAME_BYTES (length s)
+is_faulty_value indexed (value.Rating n) = nat_lt greatest_rating n
+is_faulty_value indexed (value.Bytes s) = indexed && nat_lt most_name_bytes (length s)
+is_faulty_value indexed (value.Str s) = indexed && nat_lt most_name_bytes (length s)
 is_faulty_value indexed _ = false
 
 -- a name that is empty, too long or reserved; no value; or a faulty value
@@ -65,7 +66,7 @@ is_faulty_property p =
 abbrev pub refusal_by : Bool → Option ℕ → ℕ → Option EntityRefused
 refusal_by false faulty size = Some refused.BadKey
 refusal_by true (Some i) size = Some (refused.BadValue i)
-refusal_by true None size = cond (nat_lt MAX_ENTITY_SIZE size) (Some (refused.TooLarge (min size MAX_TOLD_SIZE))) None
+refusal_by true None size = cond (nat_lt greatest_entity_size size) (Some (refused.TooLarge (min size greatest_told))) None
 
 -- the first that holds: the key isn't writable; a property is faulty; the size is above 1,048,576
 abbrev pub entity_refusal : KeyParts → List Property → Option EntityRefused

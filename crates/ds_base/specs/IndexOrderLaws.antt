@@ -10,7 +10,8 @@ use Rattle.std.specs.Ordering.{nat_cmp, int_cmp, bool_cmp, on, then_cmp, eq_by_c
 use Rattle.std.specs.FinMap.{IsAntisymmetric, int_cmp-IsAntisymmetric}
 use Rattle.ds_base.specs.Keys.{KeyParts}
 use Rattle.ds_base.specs.KeyOrder.{bytes_cmp, key_cmp}
-use Rattle.ds_base.specs.KeyOrderLaws.{then-Equal, bytes_cmp-same, key_cmp-total, key_cmp-same, Equal-same, eq_by_cmp-decides}
+use Rattle.ds_base.specs.KeyOrderLaws.{bytes_cmp-same, key_cmp-total, key_cmp-same}
+use Rattle.ds_base.specs.OrderLaws.{then-Equal, Equal-same, eq_by_cmp-decides}
 use Rattle.ds_base.specs.IndexOrder.{class_of, index_value_cmp}
 use Rattle.ds_base.specs.declared.index_value.IndexValue.{IndexValue}
 use Rattle.ds_base.specs.declared.index_value.IndexValue.TheVariants as class
@@ -43,7 +44,9 @@ columns_cmp =
 columns_cmp-total : IsTotalOrder columns_cmp
 columns_cmp-total =
     then_total (on_total class_of nat_cmp_total)
-    (then_total (on_total number_of int_cmp_total) (then_total (on_total truth_of bool_cmp_total) (then_total (on_total bytes_of nat_list_cmp_total) (on_total key_of key_cmp-total))))
+    (then_total (on_total number_of int_cmp_total)
+    (then_total (on_total truth_of bool_cmp_total)
+    (then_total (on_total bytes_of nat_list_cmp_total) (on_total key_of key_cmp-total))))
 
 columns_cmp-index_value_cmp : (v w : IndexValue) → columns_cmp v w ≡ index_value_cmp v w
 unfolding number_of truth_of bytes_of key_of no_key

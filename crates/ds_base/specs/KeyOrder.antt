@@ -1,5 +1,5 @@
 -- How keys compare, and how they lie under one another.
-use Rattle.std.specs.Prelude.{ℕ, List, Bool, ◌&&◌}
+use Rattle.std.specs.Prelude.{ℕ, List, Bool, ◌&&◌, bytes_eq}
 use Rattle.std.specs.List.{starts_with}
 use Rattle.std.specs.Cmp.Lexicographic.{slice_cmp}
 use Rattle.std.specs.declared.cmp.Ordering.{Ordering}
@@ -8,7 +8,7 @@ use Rattle.std.specs.Ordering.{ordering_then, nat_cmp, eq_by_cmp}
 use Rattle.ds_base.specs.declared.key.Ident.{Ident}
 use Rattle.ds_base.specs.declared.key.Ident.TheVariants.{Id, Name}
 use Rattle.ds_base.specs.declared.key.Elem.{Elem}
-use Rattle.ds_base.specs.Keys.{KeyParts, same_bytes}
+use Rattle.ds_base.specs.Keys.{KeyParts}
 
 -- byte sequences compare byte by byte, and one that another begins with comes first
 abbrev pub bytes_cmp : List ℕ → List ℕ → Ordering
@@ -35,4 +35,4 @@ same_key = eq_by_cmp key_cmp
 
 -- one namespace, and the path of the one begins the path of the other; each key is its own ancestor
 abbrev pub is_ancestor : KeyParts → KeyParts → Bool
-is_ancestor k of = same_bytes k.namespace of.namespace && starts_with (eq_by_cmp elem_cmp) of.elems k.elems
+is_ancestor k of = bytes_eq k.namespace of.namespace && starts_with (eq_by_cmp elem_cmp) of.elems k.elems

@@ -2,17 +2,18 @@
 use Rattle.std.specs.Prelude.{◌≡◌, ◌↔◌, ℕ, List, [], refl}
 use Rattle.std.proofs.Common.{ap, subst}
 use Rattle.std.specs.Bool.{Decides}
-use Rattle.std.specs.Cmp.{IsTotalOrder, IsPartialOrder, on_total, then_total, nat_cmp_total, po, tied_itself, Equal-is}
+use Rattle.std.specs.Cmp.{IsTotalOrder, on_total, then_total, nat_cmp_total}
 use Rattle.std.specs.Cmp.Lexicographic.{slice_cmp, lists_total, nat_list_cmp_total}
 use Rattle.std.specs.declared.cmp.Ordering.{Ordering}
-use Rattle.std.specs.declared.cmp.Ordering.TheVariants.{Less, Equal, Greater}
-use Rattle.std.specs.Ordering.{ordering_then, nat_cmp, on, then_cmp, eq_by_cmp, as_partial_cmp}
+use Rattle.std.specs.declared.cmp.Ordering.TheVariants.{Equal}
+use Rattle.std.specs.Ordering.{nat_cmp, on, then_cmp, eq_by_cmp}
 use Rattle.std.specs.FinMap.{IsAntisymmetric, nat_cmp-IsAntisymmetric, slice_cmp-IsAntisymmetric}
 use Rattle.ds_base.specs.declared.key.Ident.{Ident}
 use Rattle.ds_base.specs.declared.key.Ident.TheVariants.{Id, Name}
 use Rattle.ds_base.specs.declared.key.Elem.{Elem}
 use Rattle.ds_base.specs.Keys.{KeyParts}
 use Rattle.ds_base.specs.KeyOrder.{bytes_cmp, ident_cmp, elem_cmp, key_cmp, same_key}
+use Rattle.ds_base.specs.OrderLaws.{then-Equal, both_Equal, Equal-same, eq_by_cmp-decides}
 
 -- an order over three columns that an identifier is read as: whether it is a name, its id, its name
 rank_of : Ident → ℕ
@@ -29,12 +30,6 @@ name_of (Name x) = x
 
 abbrev columns_cmp : Ident → Ident → Ordering
 columns_cmp = then_cmp (on rank_of nat_cmp) (then_cmp (on id_of nat_cmp) (on name_of bytes_cmp))
-
--- first and second answers put together
-pub then-Equal : (r : Ordering) → ordering_then r Equal ≡ r
-then-Equal Less = refl
-then-Equal Equal = refl
-then-Equal Greater = refl
 
 columns_cmp-ident_cmp : (x y : Ident) → columns_cmp x y ≡ ident_cmp x y
 unfolding rank_of id_of name_of
@@ -53,17 +48,8 @@ elem_cmp-total = then_total (on_total (λ (e : Elem). e.kind) nat_list_cmp_total
 
 pub key_cmp-total : IsTotalOrder key_cmp
 key_cmp-total =
-    then_total (on_total (λ (k : KeyParts). k.namespace) nat_list_cmp_total) (on_total (λ (k : KeyParts). k.elems) (lists_total elem_cmp-total))
-
--- a chain of two comparisons answers Equal only where both do
-pub both_Equal : (r s : Ordering) → ordering_then r s ≡ Equal → (r ≡ Equal) × (s ≡ Equal)
-both_Equal Less s e = (e, absurd (Less≢Equal e)) where
-  Less≢Equal : Less ≡ Equal → ⊥
-  Less≢Equal e = cc
-both_Equal Equal s e = (refl, e)
-both_Equal Greater s e = (e, absurd (Greater≢Equal e)) where
-  Greater≢Equal : Greater ≡ Equal → ⊥
-  Greater≢Equal e = cc
+    then_total (on_total (λ (k : KeyParts). k.namespace) nat_list_cmp_total)
+    (on_total (λ (k : KeyParts). k.elems) (lists_total elem_cmp-total))
 
 pub bytes_cmp-same : IsAntisymmetric bytes_cmp
 bytes_cmp-same = slice_cmp-IsAntisymmetric nat_cmp-IsAntisymmetric
@@ -82,22 +68,10 @@ elem_cmp-same x y e =
 pub key_cmp-same : IsAntisymmetric key_cmp
 key_cmp-same x y e =
     let both = both_Equal (bytes_cmp x.namespace y.namespace) (slice_cmp elem_cmp x.elems y.elems) e in
-    λ i. record { namespace = bytes_cmp-same x.namespace y.namespace both.0 i; elems = slice_cmp-IsAntisymmetric elem_cmp-same x.elems y.elems both.1 i }
-
--- a partial order and an equality from a total order
-pub partial_from_total : {K : Type 0} {R : K → K → Ordering} → IsTotalOrder R → IsPartialOrder (eq_by_cmp R) (as_partial_cmp R)
-partial_from_total o = po o (λ x y. refl)
-
--- a total order that answers Equal for equal values alone answers it exactly for them
-pub Equal-same : {K : Type 0} {R : K → K → Ordering} → IsTotalOrder R → IsAntisymmetric R → (x y : K) → (R x y ≡ Equal) ↔ (x ≡ y)
-Equal-same {R = R} o same x y = (same x y, λ e. subst (λ z. R x z ≡ Equal) e (tied_itself o x))
-
--- so its test of equality decides whether two values are equal
-pub eq_by_cmp-decides : {K : Type 0} {R : K → K → Ordering} → IsTotalOrder R → IsAntisymmetric R → (x y : K) → Decides (eq_by_cmp R x y) (x ≡ y)
-eq_by_cmp-decides {R = R} o same x y =
-    let tied = Equal-same o same x y in
-    let test = Equal-is (R x y) in
-    (λ e. tied.0 (test.0 e), λ e. test.1 (tied.1 e))
+    λ i. record {
+      namespace = bytes_cmp-same x.namespace y.namespace both.0 i;
+      elems = slice_cmp-IsAntisymmetric elem_cmp-same x.elems y.elems both.1 i;
+    }
 
 pub ident_cmp-Equal : (x y : Ident) → (ident_cmp x y ≡ Equal) ↔ (x ≡ y)
 ident_cmp-Equal = Equal-same ident_cmp-total ident_cmp-same

@@ -1,8 +1,7 @@
 -- What a key is, which keys there are, and how keys lie under one another.
-use Rattle.std.specs.Prelude.{ℕ, ◌-◌, Bool, true, false, ◌&&◌, ◌||◌, not, ◌==◌, nat_le, nat_eq, List, [], ◌∷◌, length, take, drop, codes}
-use Rattle.std.specs.List.{list_all, list_any, starts_with}
-use Rattle.std.specs.Cmp.Lexicographic.{pointwise}
-use Rattle.ds_base.specs.declared.limits.TheConstants.{MAX_PATH_LENGTH, MAX_ID, MAX_NAME_BYTES, MAX_NAMESPACE_BYTES}
+use Rattle.std.specs.Prelude.{ℕ, Bool, true, false, ◌&&◌, ◌||◌, not, ◌==◌, nat_le, nat_eq, List, [], ◌∷◌, length, take, codes}
+use Rattle.std.specs.List.{list_all, list_any, starts_with, ends_with}
+use Rattle.ds_base.specs.Limits.{most_elements, greatest_id, most_name_bytes, most_namespace_bytes}
 use Rattle.ds_base.specs.declared.key.Ident.{Ident}
 use Rattle.ds_base.specs.declared.key.Ident.TheVariants.{Id, Name}
 use Rattle.ds_base.specs.declared.key.Elem.{Elem}
@@ -12,17 +11,13 @@ pub record KeyParts : Type 0 where
   pub namespace : List ℕ
   pub elems : List Elem
 
--- two texts, or two byte strings, of the same bytes
-abbrev pub same_bytes : List ℕ → List ℕ → Bool
-same_bytes = pointwise nat_eq
-
 -- a name of at least one byte and at most 1,500
 abbrev pub is_name : List ℕ → Bool
-is_name name = nat_le 1 (length name) && nat_le (length name) MAX_NAME_BYTES
+is_name name = nat_le 1 (length name) && nat_le (length name) most_name_bytes
 
 -- an id from 1 to 2^63 - 1, or a name
 abbrev pub is_ident : Ident → Bool
-is_ident (Id n) = nat_le 1 n && nat_le n MAX_ID
+is_ident (Id n) = nat_le 1 n && nat_le n greatest_id
 is_ident (Name name) = is_name name
 
 abbrev pub is_elem : Elem → Bool
@@ -30,7 +25,7 @@ is_elem e = is_name e.kind && is_ident e.ident
 
 -- 1 to 100 elements
 abbrev pub is_path : List Elem → Bool
-is_path path = nat_le 1 (length path) && nat_le (length path) MAX_PATH_LENGTH && list_all is_elem path
+is_path path = nat_le 1 (length path) && nat_le (length path) most_elements && list_all is_elem path
 
 -- the characters of a namespace: ASCII letters and digits, and ". _ -"
 abbrev pub is_namespace_byte : ℕ → Bool
@@ -39,7 +34,7 @@ is_namespace_byte b =
 
 -- at most 100 such characters; the empty namespace is the default
 abbrev pub is_namespace : List ℕ → Bool
-is_namespace namespace = nat_le (length namespace) MAX_NAMESPACE_BYTES && list_all is_namespace_byte namespace
+is_namespace namespace = nat_le (length namespace) most_namespace_bytes && list_all is_namespace_byte namespace
 
 abbrev pub is_key : KeyParts → Bool
 is_key k = is_namespace k.namespace && is_path k.elems
@@ -47,7 +42,7 @@ is_key k = is_namespace k.namespace && is_path k.elems
 -- a name of at least four bytes that begins and ends with two underscores
 abbrev pub is_reserved : List ℕ → Bool
 is_reserved name =
-    nat_le 4 (length name) && starts_with nat_eq name (codes "__") && starts_with nat_eq (drop (length name - 2) name) (codes "__")
+    nat_le 4 (length name) && starts_with nat_eq name (codes "__") && ends_with nat_eq name (codes "__")
 
 abbrev pub is_reserved_ident : Ident → Bool
 is_reserved_ident (Id n) = false

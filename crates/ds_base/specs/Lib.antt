@@ -1,4 +1,6 @@
 pub mod Buffers
+pub mod ColumnLaws
+pub mod Columns
 pub mod Entities
 pub mod IndexOrder
 pub mod IndexOrderLaws
@@ -8,4 +10,7 @@ pub mod KeyOrderLaws
 pub mod Keys
 pub mod LimitLaws
 pub mod Limits
+pub mod OrderLaws
+pub mod Sorting
+pub mod SortingLaws
 pub mod Values

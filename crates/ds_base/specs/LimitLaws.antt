@@ -1,10 +1,17 @@
 -- Each constant of the code is the number of the definitions: a change of one alone is refused.
 use Rattle.std.specs.Prelude.{◌≡◌, refl}
-use Rattle.ds_base.specs.declared.limits.TheConstants.{MAX_PATH_LENGTH, MAX_ID, FIRST_DRAWN_ID, MAX_NAME_BYTES, MAX_NAMESPACE_BYTES, MAX_RATING, MAX_ENTITY_SIZE, MAX_TOLD_SIZE}
-use Rattle.ds_base.specs.declared.limits.TheConstants.{MAX_INDEX_ROWS, MAX_DEFINITIONS, MAX_BRANCHES, MAX_RESULTS, MAX_WRITES, MAX_GROUPS, MAX_COMMITS, MAX_CLIENT}
-use Rattle.ds_base.specs.declared.limits.TheConstants.{MAX_SHARDS, MAX_APPLIERS, MAX_WINDOW, MAX_LINE_BYTES, MAX_ROUND_LINES, MAX_ROUND_BYTES, MAX_INPUT_BYTES, MAX_FILE_BYTES}
-use Rattle.ds_base.specs.Limits.{most_elements, greatest_id, first_drawn_id, most_name_bytes, most_namespace_bytes, greatest_rating, greatest_entity_size, greatest_told, most_index_rows, most_definitions, most_branches, most_results}
-use Rattle.ds_base.specs.Limits.{most_writes, most_groups, most_commits, greatest_client, most_shards, most_appliers, greatest_window, most_line_bytes, most_round_lines, most_round_bytes, most_input_bytes, most_file_bytes}
+use Rattle.ds_base.specs.declared.limits.TheConstants.{MAX_PATH_LENGTH, MAX_ID, FIRST_DRAWN_ID, MAX_NAME_BYTES, MAX_NAMESPACE_BYTES}
+use Rattle.ds_base.specs.declared.limits.TheConstants.{MAX_RATING, MAX_ENTITY_SIZE, MAX_TOLD_SIZE}
+use Rattle.ds_base.specs.declared.limits.TheConstants.{MAX_INDEX_ROWS, MAX_DEFINITIONS, MAX_BRANCHES, MAX_RESULTS, MAX_WRITES}
+use Rattle.ds_base.specs.declared.limits.TheConstants.{MAX_GROUPS, MAX_COMMITS, MAX_CLIENT}
+use Rattle.ds_base.specs.declared.limits.TheConstants.{MAX_SHARDS, MAX_APPLIERS, MAX_WINDOW, MAX_LINE_BYTES, MAX_ROUND_LINES}
+use Rattle.ds_base.specs.declared.limits.TheConstants.{MAX_ROUND_BYTES, MAX_INPUT_BYTES, MAX_FILE_BYTES}
+use Rattle.ds_base.specs.Limits.{most_elements, greatest_id, first_drawn_id, most_name_bytes, most_namespace_bytes, greatest_rating}
+use Rattle.ds_base.specs.Limits.{greatest_entity_size, greatest_told, most_index_rows, most_definitions, most_branches}
+use Rattle.ds_base.specs.Limits.{most_results}
+use Rattle.ds_base.specs.Limits.{most_writes, most_groups, most_commits, greatest_client, most_shards, most_appliers}
+use Rattle.ds_base.specs.Limits.{greatest_window, most_line_bytes, most_round_lines, most_round_bytes, most_input_bytes}
+use Rattle.ds_base.specs.Limits.{most_file_bytes}
 
 pub same_most_elements : MAX_PATH_LENGTH ≡ most_elements
 same_most_elements = refl

@@ -23,9 +23,9 @@ impl Model for Buffer {
 }
 
 impl Buffer {
-    /// The empty buffer. It takes no memory.
+    /// The empty buffer, without room. It takes no memory.
     pub fn new(alloc: Global) -> Buffer
-        ensures { result.bytes ≡ [] }
+        ensures { result ≡ record { bytes = []; spare = 0 } }
     {
         Buffer {
             bytes: Vec::new(alloc),
@@ -63,10 +63,9 @@ impl Buffer {
         self.bytes.reserve(more)
     }
 
-    /// Takes the bytes out and keeps the room that they had.
+    /// Takes the bytes out and keeps the room that they had. It takes no memory.
     pub fn clear(&mut self)
-        ensures emptied { self.new.bytes ≡ [] }
-        ensures room { self.old.spare ≤ self.new.spare }
+        ensures { self.new ≡ record { bytes = []; spare = self.old.spare + length self.old.bytes } }
     {
         self.bytes.clear()
     }
@@ -75,6 +74,7 @@ impl Buffer {
 impl From<ByteString> for Buffer {
     ghost from_gives = { λ s b. b.bytes ≡ s };
 
+    /// The buffer of these bytes, moved in; how much room there is isn't known. It takes no memory.
     fn from(bytes: ByteString) -> Buffer {
         Buffer {
             bytes: bytes.into_vec(),
@@ -85,6 +85,7 @@ impl From<ByteString> for Buffer {
 impl From<Buffer> for ByteString {
     ghost from_gives = { λ b s. s ≡ b.bytes };
 
+    /// The bytes of the buffer, moved out. It takes no memory.
     fn from(buffer: Buffer) -> ByteString {
         ByteString::from_vec(buffer.bytes)
     }

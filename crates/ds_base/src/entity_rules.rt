@@ -1,11 +1,13 @@
 //! The conditions of an entity: which properties are faulty, and what its size is.
 ghost use Rattle.std.specs.Prelude.{◌≡◌, ◌+◌, ◌≤◌, min, position, sum_by};
 ghost use Rattle.std.specs.List.{list_any};
-ghost use Rattle.ds_base.specs.Entities.{is_faulty_value, is_faulty_property, elem_size, key_size, value_size, content_size, property_size, entity_size};
+ghost use Rattle.ds_base.specs.Limits.{greatest_told};
+ghost use Rattle.ds_base.specs.Entities.{is_faulty_value, is_faulty_property, elem_size, key_size, value_size, content_size};
+ghost use Rattle.ds_base.specs.Entities.{property_size, entity_size};
 
 use crate::entity::Property;
 use crate::key::{Elem, Ident, Key, is_name, is_reserved};
-use crate::limits::{MAX_NAME_BYTES, MAX_RATING, MAX_TOLD_SIZE};
+use crate::limits::MAX_TOLD_SIZE;
 use crate::value::Value;
 
 /// The place of the first property that no entity may have.
@@ -30,23 +32,12 @@ fn is_faulty_property(property: &Property) -> bool
 fn any_faulty(indexed: bool, values: &[Value]) -> bool
     ensures { result ≡ list_any (is_faulty_value indexed) values.now }
 {
-    values.iter().any(|value| is_faulty_value(indexed, value))
-}
-
-fn is_faulty_value(indexed: bool, value: &Value) -> bool
-    ensures { result ≡ is_faulty_value indexed value.now }
-{
-    match value {
-        Value::Rating(n) => *n > MAX_RATING,
-        Value::Bytes(bytes) => indexed && bytes.bytes().len() > MAX_NAME_BYTES,
-        Value::Str(text) => indexed && text.bytes().len() > MAX_NAME_BYTES,
-        _ => false,
-    }
+    values.iter().any(|value| value.is_faulty(indexed))
 }
 
 /// The size of an entity of this key and these properties, or 2^63 - 1 where it is larger.
 pub(crate) fn size_of(key: &Key, properties: &[Property]) -> u64
-    ensures { result ≡ min (entity_size key.now properties.now) MAX_TOLD_SIZE }
+    ensures { result ≡ min (entity_size key.now properties.now) greatest_told }
 {
     let mut size = size_of_key(key);
     for property in properties {
@@ -56,7 +47,7 @@ pub(crate) fn size_of(key: &Key, properties: &[Property]) -> u64
 }
 
 fn size_of_property(property: &Property) -> u64
-    ensures { result ≡ min (property_size property.now) MAX_TOLD_SIZE }
+    ensures { result ≡ min (property_size property.now) greatest_told }
 {
     let mut size = capped_sum(16, property.name.bytes().len() as u64);
     for value in property.values.as_slice() {
@@ -66,13 +57,13 @@ fn size_of_property(property: &Property) -> u64
 }
 
 fn size_of_value(value: &Value) -> u64
-    ensures { result ≡ min (value_size value.now) MAX_TOLD_SIZE }
+    ensures { result ≡ min (value_size value.now) greatest_told }
 {
     capped_sum(16, size_of_content(value))
 }
 
 fn size_of_content(value: &Value) -> u64
-    ensures { result ≡ min (content_size value.now) MAX_TOLD_SIZE }
+    ensures { result ≡ min (content_size value.now) greatest_told }
 {
     match value {
         Value::Bytes(bytes) | Value::Blob(bytes) => capped_sum(0, bytes.bytes().len() as u64),
@@ -83,7 +74,7 @@ fn size_of_content(value: &Value) -> u64
 }
 
 fn size_of_key(key: &Key) -> u64
-    ensures { result ≡ min (key_size key.now) MAX_TOLD_SIZE }
+    ensures { result ≡ min (key_size key.now) greatest_told }
 {
     let mut size = capped_sum(0, key.namespace().bytes().len() as u64);
     for elem in key.elems().as_slice() {
@@ -93,7 +84,7 @@ fn size_of_key(key: &Key) -> u64
 }
 
 fn size_of_elem(elem: &Elem) -> u64
-    ensures { result ≡ min (elem_size elem.now) MAX_TOLD_SIZE }
+    ensures { result ≡ min (elem_size elem.now) greatest_told }
 {
     let ident = match &elem.ident {
         Ident::Id(_) => 8,
@@ -104,7 +95,7 @@ fn size_of_elem(elem: &Elem) -> u64
 
 /// The sum, or 2^63 - 1 where it is larger.
 fn capped_sum(a: u64, b: u64) -> u64
-    ensures { result ≡ min (a + b) MAX_TOLD_SIZE }
+    ensures { result ≡ min (a + b) greatest_told }
 {
     a.saturating_add(b).min(MAX_TOLD_SIZE)
 }

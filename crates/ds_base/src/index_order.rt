@@ -1,8 +1,7 @@
 //! How index values compare, with the laws of a total order.
 ghost use Rattle.std.specs.Prelude.{◌≡◌, ◌↔◌, IsTrue, refl};
-ghost use Rattle.std.specs.Cmp.{eq_by_cmp_equiv, partial_equiv_from_equiv};
+ghost use Rattle.std.specs.Cmp.{eq_by_cmp_equiv, partial_equiv_from_equiv, partial_order_from_total};
 ghost use Rattle.std.specs.Ordering.{eq_by_cmp, as_partial_cmp};
-ghost use Rattle.ds_base.specs.KeyOrderLaws.{partial_from_total};
 ghost use Rattle.ds_base.specs.IndexOrder.{index_value_cmp, class_of};
 ghost use Rattle.ds_base.specs.IndexOrderLaws.{index_value_cmp-total};
 
@@ -29,7 +28,7 @@ impl Eq for IndexValue {
 impl PartialOrd for IndexValue {
     ghost partial_cmp = { as_partial_cmp index_value_cmp };
 
-    ghost laws = { partial_from_total index_value_cmp-total };
+    ghost laws = { partial_order_from_total index_value_cmp-total };
 
     fn partial_cmp(&self, other: &IndexValue) -> Option<Ordering> {
         Some(self.cmp(other))

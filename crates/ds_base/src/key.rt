@@ -55,6 +55,7 @@ impl Model for Key {
 
 impl Key {
     ghost use Rattle.std.specs.Prelude.{[], IsOk};
+    ghost use Rattle.ds_base.specs.Limits.{greatest_id};
     ghost use Rattle.ds_base.specs.Keys.{KeyParts, is_key, is_path, is_namespace, is_writable, root_of, renumbered};
     ghost use Rattle.ds_base.specs.KeyOrder.{is_ancestor};
 
@@ -137,14 +138,15 @@ impl Key {
     pub fn renumber(&mut self, id: u64)
         requires ends_in_id { IsTrue (ends_in_id self.old.elems) }
         requires positive { 1 ≤ id }
-        requires bounded { id ≤ MAX_ID }
+        requires bounded { id ≤ greatest_id }
         ensures { self.new ≡ renumbered self.old id }
     {
         set_last_id(&mut self.path, id);
     }
 }
 
-ghost use Rattle.ds_base.specs.Keys.{is_name, is_ident, is_elem, is_path, is_namespace, is_namespace_byte, is_reserved, is_reserved_elem, ends_in_id, with_last_id};
+ghost use Rattle.ds_base.specs.Keys.{is_name, is_ident, is_elem, is_path, is_namespace, is_namespace_byte, is_reserved};
+ghost use Rattle.ds_base.specs.Keys.{is_reserved_elem, ends_in_id, with_last_id};
 ghost use Rattle.std.specs.List.{list_all, list_any};
 
 /// Whether a kind, a key name or a property name has 1 to 1,500 bytes.
@@ -158,7 +160,7 @@ pub fn is_name(name: &[u8]) -> bool
 pub fn is_reserved(name: &[u8]) -> bool
     ensures { result ≡ is_reserved name.now }
 {
-    name.len() >= 4 && name.starts_with(b"__") && name[name.len() - 2..].starts_with(b"__")
+    name.len() >= 4 && name.starts_with(b"__") && name.ends_with(b"__")
 }
 
 /// Whether a namespace has at most 100 bytes, each an ASCII letter, a digit, `.`, `_` or `-`.

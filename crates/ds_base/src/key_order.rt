@@ -1,12 +1,12 @@
 //! How keys compare, are equal and are hashed, with the laws of a total order.
 //!
 //! Two identifiers, elements or keys are equal exactly where they compare as equal, and then they are the same.
-ghost use Rattle.std.specs.Prelude.{◌≡◌, ◌↔◌, IsTrue, Some, refl};
-ghost use Rattle.std.specs.Cmp.{eq_by_cmp_equiv, partial_equiv_from_equiv};
+ghost use Rattle.std.specs.Prelude.{◌≡◌, ◌↔◌, IsTrue, Some, fold, refl};
+ghost use Rattle.std.specs.Cmp.{eq_by_cmp_equiv, partial_equiv_from_equiv, partial_order_from_total};
 ghost use Rattle.std.specs.Ordering.{eq_by_cmp, as_partial_cmp};
 ghost use Rattle.ds_base.specs.KeyOrder.{ident_cmp, elem_cmp, key_cmp, same_key};
 ghost use Rattle.ds_base.specs.KeyHash.{ident_writes, elem_writes, key_writes, ident-alike, elem-alike, key-alike};
-ghost use Rattle.ds_base.specs.KeyOrderLaws.{ident_cmp-total, elem_cmp-total, key_cmp-total, partial_from_total};
+ghost use Rattle.ds_base.specs.KeyOrderLaws.{ident_cmp-total, elem_cmp-total, key_cmp-total};
 
 use crate::key::{Elem, Ident, Key};
 use std::cmp::Ordering;
@@ -29,7 +29,7 @@ impl Eq for Ident {
 impl PartialOrd for Ident {
     ghost partial_cmp = { as_partial_cmp ident_cmp };
 
-    ghost laws = { partial_from_total ident_cmp-total };
+    ghost laws = { partial_order_from_total ident_cmp-total };
 
     fn partial_cmp(&self, other: &Ident) -> Option<Ordering> {
         Some(self.cmp(other))
@@ -72,7 +72,7 @@ impl Eq for Elem {
 impl PartialOrd for Elem {
     ghost partial_cmp = { as_partial_cmp elem_cmp };
 
-    ghost laws = { partial_from_total elem_cmp-total };
+    ghost laws = { partial_order_from_total elem_cmp-total };
 
     fn partial_cmp(&self, other: &Elem) -> Option<Ordering> {
         Some(self.cmp(other))
@@ -115,7 +115,7 @@ impl Eq for Key {
 impl PartialOrd for Key {
     ghost partial_cmp = { as_partial_cmp key_cmp };
 
-    ghost laws = { partial_from_total key_cmp-total };
+    ghost laws = { partial_order_from_total key_cmp-total };
 
     fn partial_cmp(&self, other: &Key) -> Option<Ordering> {
         Some(self.cmp(other))
@@ -153,7 +153,10 @@ impl Hash for Ident {
 
     ghost respects_eq = { ident-alike };
 
-    fn hash<H: Hasher>(&self, state: &mut H) {
+    /// Feeds a byte that tells ids from names, and then the one or the other.
+    fn hash<H: Hasher>(&self, state: &mut H)
+        ensures { state.new ≡ fold H.write state.old (ident_writes self.now) }
+    {
         match self {
             Ident::Id(id) => {
                 state.write_u8(0);
@@ -172,7 +175,10 @@ impl Hash for Elem {
 
     ghost respects_eq = { elem-alike };
 
-    fn hash<H: Hasher>(&self, state: &mut H) {
+    /// Feeds the kind, and then the identifier.
+    fn hash<H: Hasher>(&self, state: &mut H)
+        ensures { state.new ≡ fold H.write state.old (elem_writes self.now) }
+    {
         self.kind.hash(state);
         self.ident.hash(state);
     }
@@ -183,7 +189,10 @@ impl Hash for Key {
 
     ghost respects_eq = { key-alike };
 
-    fn hash<H: Hasher>(&self, state: &mut H) {
+    /// Feeds the namespace, how many elements there are, and each of them.
+    fn hash<H: Hasher>(&self, state: &mut H)
+        ensures { state.new ≡ fold H.write state.old (key_writes self.now) }
+    {
         self.namespace().hash(state);
         self.elems().as_slice().hash(state);
     }

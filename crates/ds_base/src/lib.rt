@@ -2,11 +2,14 @@
 //! orders and limits.
 //!
 //! It stands on std alone. Begin with `sequence` (the one list type) and `key`; the definitions that the contracts
-//! cite are in `specs/`: `Keys` (what a key is, reserved names, ancestors), `KeyOrder` and `IndexOrder` (how
-//! keys and index values compare), `Values` (index values) and `Entities` (sizes and the refusals of an entity).
+//! cite are in `specs/`: `Limits` (each number once), `Keys` (what a key is, reserved names), `KeyOrder` and
+//! `IndexOrder` (how keys and index values compare, what lies under a key), `KeyHash` (what hashing a key feeds),
+//! `Values` (index values), `Entities` (sizes and the refusals of an entity), `Buffers`, and `Sorting` (putting a list
+//! in order, for the crates above). What is proved of them stands apart, in the files whose names end in `Laws`.
 #![tactic(auto)]
 
 pub mod buffer;
+pub mod column;
 pub mod entity;
 mod entity_rules;
 mod index_order;
@@ -14,21 +17,21 @@ pub mod index_value;
 pub mod key;
 mod key_order;
 pub mod limits;
+pub mod lists;
+pub mod named_value;
 pub mod results;
 pub mod sequence;
-#[cfg(test)]
-mod tests;
 pub mod text;
 pub mod value;
 
 pub use buffer::Buffer;
+pub use column::{Column, Columns};
 pub use entity::{Entities, Entity, EntityRefused, Properties, Property};
 pub use index_value::{IndexValue, IndexValues};
-pub use key::{BadKey, Elem, Elems, Ident, Key};
-pub use results::{
-    ByteStrings, Column, Columns, Counts, Item, NamedValue, NamedValues, Names, Numbers, Results,
-    Seen,
-};
+pub use key::{BadKey, Elem, Elems, Ident, Key, is_name, is_namespace, is_reserved};
+pub use lists::{ByteStrings, Counts, Names, Numbers};
+pub use named_value::{NamedValue, NamedValues};
+pub use results::{Item, Results, Seen};
 pub use sequence::{Sequence, TryCopy};
 pub use text::{ByteString, TextString};
 pub use value::{Value, Values};

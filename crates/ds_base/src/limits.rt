@@ -5,7 +5,7 @@
 /// The most elements of a key's path.
 pub const MAX_PATH_LENGTH: usize = 100;
 
-/// The greatest id of a key element, and the greatest number that a refusal tells of a size or a count.
+/// The greatest id of a key element, 2^63 - 1.
 pub const MAX_ID: u64 = 9_223_372_036_854_775_807;
 
 /// The first id that is drawn automatically, 2^52: from here on a written id must have been issued.

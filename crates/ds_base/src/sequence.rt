@@ -7,7 +7,8 @@ use std::marker::Model;
 
 /// A value that can be copied, where memory suffices.
 pub trait TryCopy: Drop {
-    /// Gives an equal value with memory of its own.
+    /// Gives an equal value, which lives on without this one. What nothing changes may be shared, as an entity's
+    /// properties; all else gets memory of its own.
     fn copy(&self, alloc: Global) -> Result<Self, AllocError>
         ensures copied { IfOk result (λ c. c ≡ self.now) };
 }

@@ -1,7 +1,8 @@
 //! Byte strings and texts.
-ghost use Rattle.std.specs.Prelude.{◌≡◌, ◌↔◌, IsTrue, [], refl, IsUtf8, ◌++◌, OnOk, OnErr, IfOk, List, ℕ, nat_eq, Some};
+ghost use Rattle.std.specs.Prelude.{◌≡◌, ◌↔◌, IsTrue, [], refl, IsUtf8, ◌++◌, OnOk, OnErr, IfOk, List, ℕ, nat_eq, fold, Some};
 ghost use Rattle.std.specs.String.{string_bytes};
-ghost use Rattle.std.specs.Cmp.Lexicographic.{slice_cmp, pointwise, nat_list_cmp_total, nat_list_eq_equiv, texts_ties, texts_po, bytes_decides};
+ghost use Rattle.std.specs.Cmp.Lexicographic.{slice_cmp, pointwise, nat_list_cmp_total, nat_list_eq_equiv, texts_ties, texts_po};
+ghost use Rattle.std.specs.Cmp.Lexicographic.{bytes_decides};
 ghost use Rattle.std.specs.Cmp.{partial_equiv_from_equiv};
 ghost use Rattle.std.specs.Ordering.{nat_cmp};
 ghost use Rattle.std.specs.Hash as fed;
@@ -70,17 +71,6 @@ impl ByteString {
         ensures err { OnErr result (self.new ≡ self.old) }
     {
         self.bytes.extend_from_slice(piece)
-    }
-
-    /// Makes room for `bytes` more: after it so many bytes are appended without memory. The bytes stay as they are.
-    /// `Buffer` tells contracts how much room there is.
-    pub fn make_room(&mut self, bytes: u64) -> Result<(), AllocError>
-        ensures { self.new ≡ self.old }
-    {
-        if bytes > usize::MAX as u64 {
-            return Err(AllocError);
-        }
-        self.bytes.reserve(bytes as usize)
     }
 }
 
@@ -198,7 +188,10 @@ impl Hash for TextString {
 
     ghost respects_eq = { (fed.same_Alike fed.str bytes_decides).fed };
 
-    fn hash<H: Hasher>(&self, state: &mut H) {
+    /// Feeds the bytes, and then a byte that no text has.
+    fn hash<H: Hasher>(&self, state: &mut H)
+        ensures { state.new ≡ fold H.write state.old (fed.str self.now) }
+    {
         self.text().hash(state);
     }
 }

@@ -3,6 +3,7 @@ ghost use Rattle.std.specs.Prelude.{◌≡◌, IfOk};
 
 use crate::index_value::IndexValue;
 use crate::key::Key;
+use crate::limits::{MAX_NAME_BYTES, MAX_RATING};
 use crate::sequence::{Sequence, TryCopy};
 use crate::text::{ByteString, TextString};
 use std::alloc::{AllocError, Global};
@@ -37,6 +38,7 @@ pub type Values = Sequence<Value>;
 
 impl Value {
     ghost use Rattle.ds_base.specs.Values.{index_of};
+    ghost use Rattle.ds_base.specs.Entities.{is_faulty_value};
 
     /// The value as an index holds it: integers, dates and ratings as numbers, strings and byte strings as byte
     /// sequences; `None` exactly for long text and blobs.
@@ -54,6 +56,19 @@ impl Value {
             Value::Key(key) => IndexValue::Key(key.copy(alloc)?),
         };
         Ok(Some(index))
+    }
+
+    /// Whether no entity may have this value in a property that is indexed, or isn't: true exactly of a rating above 100,
+    /// and where `indexed` is set, of a string or byte string of more than 1,500 bytes.
+    pub fn is_faulty(&self, indexed: bool) -> bool
+        ensures { result ≡ is_faulty_value indexed self.now }
+    {
+        match self {
+            Value::Rating(n) => *n > MAX_RATING,
+            Value::Bytes(bytes) => indexed && bytes.bytes().len() > MAX_NAME_BYTES,
+            Value::Str(text) => indexed && text.bytes().len() > MAX_NAME_BYTES,
+            _ => false,
+        }
     }
 }
 

@@ -1,7 +1,14 @@
-//! Tests of the public calls of the lowest crates, each in a module named for its crate. They stand here and not in the
-//! libraries, since a crate that has tests is proved twice.
+//! Tests of the public calls of the crates that everything stands on: each call once where it succeeds, and tables of
+//! limits and orders with values that were worked out by hand. There is no code but tests, so that the libraries are
+//! proved once.
+//!
+//! One module for each library, named for what it holds; begin with `base`.
 #![tactic(auto)]
 
+#[cfg(test)]
+mod base;
+#[cfg(test)]
+mod io;
 #[cfg(test)]
 mod lanes;
 #[cfg(test)]

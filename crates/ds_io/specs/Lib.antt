@@ -1,2 +1,5 @@
+pub mod FaultLaws
 pub mod Faults
+pub mod KnownBytesLaws
 pub mod Memory
+pub mod Standard

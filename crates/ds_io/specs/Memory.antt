@@ -1,10 +1,9 @@
 -- What is known of the forms in memory: their bytes, and which of their calls fail.
-use Rattle.std.specs.Prelude.{ℕ, Bool, true, false, cond, ◌==◌, nat_le, bytes_eq, List, length, Option, Some, None, Result, Ok, Err, position, slice_get, option_and_then}
+use Rattle.std.specs.Prelude.{ℕ, Bool, false, cond, ◌==◌, nat_le, bytes_eq, List, length, Option, Some, None}
+use Rattle.std.specs.Prelude.{position, slice_get, option_and_then}
 use Rattle.std.specs.List.{list_any}
+use Rattle.ds_base.specs.Limits.{most_file_bytes}
 use Rattle.ds_io.specs.Faults.{next_count}
-use Rattle.ds_io.specs.declared.traits.LoadFault.{LoadFault}
-use Rattle.ds_io.specs.declared.traits.LoadFault.TheVariants.{Failed, NoMemory}
-use Rattle.ds_io.specs.declared.traits.TheConstants.{MAX_FILE_BYTES}
 
 -- The calls of a form in memory: how many there were, the numbers of those that fail, where the first call is 1, and
 -- the count of faults.
@@ -54,10 +53,4 @@ content_of s name = content_at s.names s.contents name
 -- there is a file, and it isn't too large to be loaded
 abbrev pub is_loadable : Option (List ℕ) → Bool
 is_loadable None = false
-is_loadable (Some bytes) = nat_le (length bytes) MAX_FILE_BYTES
-
--- a load answered that it failed, which is a fault; want of memory is none
-abbrev pub is_failed : Result (List ℕ) LoadFault → Bool
-is_failed (Ok bytes) = false
-is_failed (Err Failed) = true
-is_failed (Err NoMemory) = false
+is_loadable (Some bytes) = nat_le (length bytes) most_file_bytes

@@ -1,11 +1,11 @@
 //! The outside of a program as traits: where bytes come from, where they go, and files that are loaded whole, with
 //! the causes of each refusal; and counted steps.
 //!
-//! Each trait has a count of faults that never falls, and a call answers a failure only where that count rose. What a
-//! source has left, what a sink holds and what a file contains is told by the forms in memory, and not by those over
-//! std. It stands on `ds_base` alone. Begin with `traits`; the definitions that the contracts cite are in `specs/`:
-//! `Faults` (when a count rose) and `Memory` (what the forms in memory tell). `steps` says how a call's bound on steps
-//! is stated.
+//! Each trait has a count of faults that never falls: a call that answers a failure raises it by one, and nothing else
+//! raises it. What a source has left, what a sink holds and what a file contains is told by the forms in memory; those
+//! over std tell what std tells, which of a terminal or a file is nothing. It stands on `ds_base` alone. Begin with
+//! `traits`; the definitions that the contracts cite are in `specs/`: `Faults` (counts of faults), `Memory` (what the
+//! forms in memory tell) and `Standard` (what those over std tell). `steps` says how a call's bound on steps is stated.
 #![tactic(auto)]
 
 pub mod memory_files;
@@ -14,8 +14,6 @@ pub mod memory_source;
 pub mod schedule;
 pub mod standard;
 pub mod steps;
-#[cfg(test)]
-mod tests;
 pub mod traits;
 
 pub use memory_files::MemoryFiles;
@@ -24,4 +22,4 @@ pub use memory_source::MemorySource;
 pub use schedule::Schedule;
 pub use standard::{StdFiles, StdSink, StdSource};
 pub use steps::Steps;
-pub use traits::{Failed, Files, Gate, LoadFault, MAX_FILE_BYTES, NoGate, Sink, Source};
+pub use traits::{Failed, Files, Gate, LoadFault, NoGate, Sink, Source};

@@ -1,9 +1,12 @@
 //! Files in memory.
 ghost use Rattle.std.specs.Prelude.{◌≡◌, ◌≢◌, ◌≤◌, length, IfOk, IsTrue, IsFalse, AllPairs, Err, Some, bytes_eq, option_copied, position};
-ghost use Rattle.ds_io.specs.Memory.{after_call, fresh, is_due, content_at, content_of, is_failed, is_loadable};
+ghost use Rattle.ds_base.specs.Limits.{most_file_bytes};
+ghost use Rattle.ds_io.specs.Faults.{is_failed};
+ghost use Rattle.ds_io.specs.Memory.{after_call, fresh, is_due, content_at, content_of, is_loadable};
 
 use crate::schedule::Schedule;
-use crate::traits::{Files, LoadFault, MAX_FILE_BYTES};
+use crate::traits::{Files, LoadFault};
+use ds_base::limits::MAX_FILE_BYTES;
 use ds_base::{ByteString, ByteStrings, Names, Numbers, TextString};
 use std::alloc::Global;
 use std::marker::Model;
@@ -66,10 +69,10 @@ impl Files for MemoryFiles {
     ghost faults = { λ s _. s.schedule.faults };
 
     /// Gives a copy of the content of that name. `Failed`: exactly where this call is one that fails, where there is
-    /// no such file, and where it has more than `MAX_FILE_BYTES`. `NoMemory`: want of memory for the copy.
+    /// no such file, and where it has more than 2^30 bytes. `NoMemory`: want of memory for the copy.
     fn load(&mut self, alloc: Global, name: &str) -> Result<ByteString, LoadFault>
         ensures gives_the_content { IfOk result (λ bytes. content_of self.old name.now ≡ Some bytes) }
-        ensures within { IfOk result (λ bytes. length bytes ≤ MAX_FILE_BYTES) }
+        ensures within { IfOk result (λ bytes. length bytes ≤ most_file_bytes) }
         ensures fails_when_due { IsTrue (is_due self.old.schedule) → result ≡ Err LoadFault.Failed }
         ensures fails_without_a_file { IsFalse (is_loadable (content_of self.old name.now)) → result ≡ Err LoadFault.Failed }
         ensures fails_else_never { IsFalse (is_due self.old.schedule) → IsTrue (is_loadable (content_of self.old name.now)) → result ≢ Err LoadFault.Failed }

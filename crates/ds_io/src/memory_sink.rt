@@ -1,5 +1,6 @@
 //! A sink in memory.
-ghost use Rattle.std.specs.Prelude.{◌≡◌, ◌<◌, ◌≤◌, ◌++◌, [], length, take, min, IfOk, OnErr, IsErr, IsTrue, is_err, Some, false};
+ghost use Rattle.std.specs.Prelude.{◌≡◌, ◌<◌, ◌≤◌, [], length, min, IfOk, IsOk, IsErr, IsTrue, is_err, Some, false};
+ghost use Rattle.std.specs.Io.KnownBytes.{WriteAppends};
 ghost use Rattle.ds_io.specs.Memory.{after_call, fresh, is_due};
 
 use crate::schedule::Schedule;
@@ -51,8 +52,7 @@ impl MemorySink {
         ensures fails_when_due { IsTrue (is_due self.old.schedule) → IsErr result }
         ensures amount { IfOk result (λ n. n ≡ min self.old.most (length piece.now)) }
         ensures takes_some { IfOk result (λ n. 0 < length piece.now → 0 < n) }
-        ensures holds_what_it_took { IfOk result (λ n. self.new.held ≡ self.old.held ++ take n piece.now) }
-        ensures takes_nothing { OnErr result (self.new.held ≡ self.old.held) }
+        ensures bytes { WriteAppends (Some self.old.held) (Some self.new.held) result piece.now }
         ensures most { self.new.most ≡ self.old.most }
         ensures schedule { self.new.schedule ≡ after_call self.old.schedule false }
     {
@@ -78,8 +78,7 @@ impl Sink for MemorySink {
         ensures fails_when_due { IsTrue (is_due self.old.schedule) → IsErr result }
         ensures amount { IfOk result (λ n. n ≡ min self.old.most (length piece.now)) }
         ensures takes_some { IfOk result (λ n. 0 < length piece.now → 0 < n) }
-        ensures holds_what_it_took { IfOk result (λ n. self.new.held ≡ self.old.held ++ take n piece.now) }
-        ensures takes_nothing { OnErr result (self.new.held ≡ self.old.held) }
+        ensures bytes { WriteAppends (Some self.old.held) (Some self.new.held) result piece.now }
 
         ensures most { self.new.most ≡ self.old.most }
         ensures schedule { self.new.schedule ≡ after_call self.old.schedule (is_err result) }
@@ -90,5 +89,13 @@ impl Sink for MemorySink {
             self.schedule.raise();
         }
         taken
+    }
+
+    /// There is nothing to send on: it never fails, and isn't counted among the calls.
+    fn flush(&mut self) -> Result<(), Failed>
+        ensures succeeds { IsOk result }
+        ensures same { self.new ≡ self.old }
+    {
+        Ok(())
     }
 }

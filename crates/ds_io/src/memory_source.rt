@@ -1,5 +1,6 @@
 //! A source in memory.
-ghost use Rattle.std.specs.Prelude.{◌≡◌, ◌<◌, ◌≤◌, ◌↔◌, [], length, take, drop, min, IfOk, OnErr, IsErr, IsTrue, is_err, Some};
+ghost use Rattle.std.specs.Prelude.{◌≡◌, ◌<◌, ◌≤◌, ◌↔◌, length, take, min, IfOk, IsErr, IsTrue, is_err, Some};
+ghost use Rattle.std.specs.Io.KnownBytes.{ReadConsumes};
 ghost use Rattle.ds_io.specs.Memory.{after_call, fresh, is_due};
 
 use crate::schedule::Schedule;
@@ -55,10 +56,7 @@ impl Source for MemorySource {
     fn read(&mut self, buf: &mut [u8]) -> Result<usize, Failed>
         ensures fails_when_due { IsErr result ↔ IsTrue (is_due self.old.schedule) }
         ensures amount { IfOk result (λ n. n ≡ min self.old.most (min (length self.old.left) (length buf.new))) }
-        ensures gives_the_next { IfOk result (λ n. take n buf.new ≡ take n self.old.left) }
-        ensures leaves_the_rest { IfOk result (λ n. self.new.left ≡ drop n self.old.left) }
-        ensures zero_is_the_end { IfOk result (λ n. n ≡ 0 → 0 < length buf.new → self.old.left ≡ []) }
-        ensures loses_nothing { OnErr result (self.new.left ≡ self.old.left) }
+        ensures bytes { ReadConsumes (Some self.old.left) (Some self.new.left) result buf.new }
 
         ensures most { self.new.most ≡ self.old.most }
         ensures schedule { self.new.schedule ≡ after_call self.old.schedule (is_err result) }
@@ -68,10 +66,19 @@ impl Source for MemorySource {
             self.schedule.raise();
             return Err(Failed);
         }
-        let left = &self.bytes.bytes()[self.at..];
-        let n = self.most.min(left.len().min(buf.len()));
-        buf[..n].copy_from_slice(&left[..n]);
+        let (_, left) = self.bytes.bytes().split_at(self.at);
+        let n = copy_front(left, self.most, buf);
         self.at += n;
         Ok(n)
     }
+}
+
+// Copies the first bytes into the front of `buf`, as many as there are, fit and are at most `most`.
+fn copy_front(bytes: &[u8], most: usize, buf: &mut [u8]) -> usize
+    ensures amount { result ≡ min most (min (length bytes.now) (length buf.new)) }
+    ensures front { take result buf.new ≡ take result bytes.now }
+{
+    let n = most.min(bytes.len().min(buf.len()));
+    buf[..n].copy_from_slice(&bytes[..n]);
+    n
 }

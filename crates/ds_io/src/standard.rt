@@ -1,19 +1,23 @@
 //! The forms over std: a reader, a writer, and the file system.
 //!
-//! They tell no bytes, since nobody knows what a terminal or a file gives. Each error of std is counted as a fault, in a
-//! count that stays at its last value. A `read` or `write` that a signal interrupts is a fault too, and not repeated: a
-//! program that installs no signal handler, as the server, isn't interrupted. A load repeats what was interrupted.
+//! They tell the bytes that std tells of their reader or writer: those of a slice or a vector, and none of a terminal or a
+//! file. Each error of std is counted as a fault, in a count that stays at its last value. A `read`, `write` or `flush`
+//! that a signal interrupts is a fault too, and not repeated: a program that installs no signal handler, as the server,
+//! isn't interrupted. A load repeats what was interrupted.
 ghost use Rattle.std.specs.Prelude.{◌≡◌, ◌≤◌, length, IfOk, None};
+ghost use Rattle.ds_base.specs.Limits.{most_file_bytes};
+ghost use Rattle.ds_io.specs.Standard.{Wrapped};
 
-use crate::traits::{Failed, Files, LoadFault, MAX_FILE_BYTES, Sink, Source};
+use crate::traits::{Failed, Files, LoadFault, Sink, Source};
 use ds_base::ByteString;
+use ds_base::limits::MAX_FILE_BYTES;
 use std::alloc::Global;
 use std::fs::{File, OpenFile};
 use std::io::{ErrorKind, Read, Write};
 use std::marker::Model;
 use std::rt;
 
-/// A source over a reader of std. Contracts see its count of faults.
+/// A source over a reader of std. Contracts see the reader and the count of faults.
 #[derive(Drop)]
 pub struct StdSource<R> {
     reader: R,
@@ -21,26 +25,26 @@ pub struct StdSource<R> {
 }
 
 impl<R> Model for StdSource<R> {
-    ghost use Rattle.std.specs.Prelude.{ℕ};
+    ghost use Rattle.ds_io.specs.Standard.{Wrapped};
 
-    ghost Value = { ℕ };
+    ghost Value = { Wrapped R };
 
-    ghost view = { λ s. s.faults };
+    ghost view = { λ s. record { inner = s.reader; faults = s.faults } };
 }
 
 impl<R> StdSource<R> {
     /// A source over this reader, with no fault so far.
     pub fn new(reader: R) -> StdSource<R>
-        ensures { result ≡ 0 }
+        ensures { result ≡ record { inner = reader; faults = 0 } }
     {
         StdSource { reader, faults: 0 }
     }
 }
 
 impl<R: Read> Source for StdSource<R> {
-    ghost left = { λ _. None };
+    ghost left = { λ s. R.remaining s.inner };
 
-    ghost faults = { λ s. s };
+    ghost faults = { λ s. s.faults };
 
     /// One `read` of the reader.
     fn read(&mut self, buf: &mut [u8]) -> Result<usize, Failed> {
@@ -54,7 +58,7 @@ impl<R: Read> Source for StdSource<R> {
     }
 }
 
-/// A sink over a writer of std. Contracts see its count of faults.
+/// A sink over a writer of std. Contracts see the writer and the count of faults.
 #[derive(Drop)]
 pub struct StdSink<W> {
     writer: W,
@@ -62,37 +66,47 @@ pub struct StdSink<W> {
 }
 
 impl<W> Model for StdSink<W> {
-    ghost use Rattle.std.specs.Prelude.{ℕ};
+    ghost use Rattle.ds_io.specs.Standard.{Wrapped};
 
-    ghost Value = { ℕ };
+    ghost Value = { Wrapped W };
 
-    ghost view = { λ s. s.faults };
+    ghost view = { λ s. record { inner = s.writer; faults = s.faults } };
 }
 
 impl<W> StdSink<W> {
     /// A sink over this writer, with no fault so far.
     pub fn new(writer: W) -> StdSink<W>
-        ensures { result ≡ 0 }
+        ensures { result ≡ record { inner = writer; faults = 0 } }
     {
         StdSink { writer, faults: 0 }
     }
 }
 
 impl<W: Write> Sink for StdSink<W> {
-    ghost held = { λ _. None };
+    ghost held = { λ s. W.contents s.inner };
 
-    ghost faults = { λ s. s };
+    ghost faults = { λ s. s.faults };
 
-    /// One `write` of the writer and one `flush`, so that what is taken is on its way also where the writer keeps a
-    /// buffer.
+    /// One `write` of the writer.
     fn write(&mut self, piece: &[u8]) -> Result<usize, Failed> {
-        if let Ok(n) = self.writer.write(piece) {
-            if (n > 0 || piece.is_empty()) && self.writer.flush().is_ok() {
-                return Ok(n);
+        match self.writer.write(piece) {
+            Ok(n) if n > 0 || piece.is_empty() => Ok(n),
+            _ => {
+                self.faults = self.faults.saturating_add(1);
+                Err(Failed)
             }
         }
-        self.faults = self.faults.saturating_add(1);
-        Err(Failed)
+    }
+
+    /// One `flush` of the writer.
+    fn flush(&mut self) -> Result<(), Failed> {
+        match self.writer.flush() {
+            Ok(()) => Ok(()),
+            Err(_) => {
+                self.faults = self.faults.saturating_add(1);
+                Err(Failed)
+            }
+        }
     }
 }
 
@@ -123,7 +137,7 @@ impl<R> StdFiles<R> {
 // All bytes of a file. One that is too large is refused by its length before it is read; where the length is not
 // known, as for a device, at most one byte more is read than is given, so that a file without an end ends too.
 fn load_file<R: rt::Files>(runtime: &R, alloc: Global, name: &str) -> Result<ByteString, LoadFault>
-    ensures { IfOk result (λ bytes. length bytes ≤ MAX_FILE_BYTES) }
+    ensures { IfOk result (λ bytes. length bytes ≤ most_file_bytes) }
 {
     let Ok(file) = File::open(runtime, name) else {
         return Err(LoadFault::Failed);

@@ -40,9 +40,9 @@ abbrev pub entries_from : ℕ → List Commit → List Entry
 entries_from n [] = []
 entries_from n (c ∷ cs) = commit_entries n c ++ entries_from (n + 1) cs
 
--- the entries of one shard, in journal order
-abbrev pub shard_list : ℕ → List Commit → ℕ → List Entry
-shard_list shards journal shard = filter (λ e. shard_of shards e.group == shard) (entries_from 1 journal)
+-- the entries of one shard out of so many, in journal order
+abbrev pub shard_list : List Commit → ℕ → ℕ → List Entry
+shard_list journal shard shards = filter (λ e. shard_of e.group shards == shard) (entries_from 1 journal)
 
 -- all writes of a journal, in their order
 abbrev pub writes_of : List Commit → List Write

@@ -9,5 +9,5 @@ fnv1a_step hash byte = bit_xor hash byte * 1099511628211 % 2 ^ 64
 abbrev pub fnv1a : List ℕ → ℕ
 fnv1a = fold fnv1a_step 14695981039346656037
 
-abbrev pub shard_of : ℕ → KeyParts → ℕ
-shard_of shards group = fnv1a (key_bytes group) % shards
+abbrev pub shard_of : KeyParts → ℕ → ℕ
+shard_of group shards = fnv1a (key_bytes group) % shards

@@ -132,7 +132,7 @@ pub record IdNotIssuedAnswers (s : Session) (key : KeyParts) (id next : ℕ) : T
 pub record SettleAnswers (w : World) (s : Session) (m : ℕ) (counts : List ℕ) : Type 0 where
   pub seen : s.place ≤ m
   pub within : m ≤ length w.journal
-  pub applied : CountsWithin (λ shard. length (shard_list w.shards (take m w.journal) shard)) 0 s.counts w.lists counts
+  pub applied : CountsWithin (λ shard. length (shard_list (take m w.journal) shard w.shards)) 0 s.counts w.lists counts
 
 -- a query without an ancestor answers over the counted entries
 pub record KindAnswers (w : World) (s : Session) (namespace kind : List ℕ) (results : List Item) (counts : List ℕ) : Type 0 where

@@ -93,7 +93,7 @@ pub record IdsDrawn (replies : List Reply) : Type 0 where
 
 -- one list of entries per shard
 abbrev pub shard_lists : ℕ → List Commit → List (List Entry)
-shard_lists shards journal = map (λ shard. shard_list shards journal shard) (numbers_from 0 shards)
+shard_lists shards journal = map (λ shard. shard_list journal shard shards) (numbers_from 0 shards)
 
 abbrev pub world_of : List IndexDef → ℕ → Option ℕ → List Commit → World
 world_of definitions shards window journal =

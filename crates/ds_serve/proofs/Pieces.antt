@@ -1,8 +1,8 @@
 -- What is read and what is written, piece by piece.
 use Rattle.std.proofs.Common.{◌≡◌, ℕ, ◌+◌, ◌-◌, ◌≤◌, List, [], ◌++◌, length, take, drop, refl, ap, sym, ◌∙◌, append_assoc, arith, Option, Some, None}
 use Rattle.std.specs.Prelude.{option_map, IfSome}
-use Rattle.ds_io.specs.Faults.{Rose}
-use Rattle.std.proofs.Common.{subst, length-append, length-drop, inl, inr}
+use Rattle.ds_serve.specs.Runs.{HasTaken, HasTakenFewer}
+use Rattle.std.proofs.Common.{subst, length-append, length-drop, ◌<◌}
 use Rattle.std.proofs.Math.Seq.{take-add}
 use Rattle.std.proofs.lemmas.List.{drop-drop, length-take-le, take-append-le, take_all}
 
@@ -64,12 +64,21 @@ read_whole (Some all) now next bytes n so_far ended none left =
       left ∙ ap (λ k. option_map (drop k) now) none ∙ ap (option_map (drop 0)) (so_far.rest ∙ ap Some empty),
     )
 
--- a source has at least what was read of it
-pub at_least : (first now : Option (List ℕ)) (bytes : List ℕ) (limit : ℕ) → ReadSoFar first now bytes → limit ≤ length bytes → IfSome first (λ all. limit ≤ length all)
-at_least None now bytes limit so_far reached = tt
-at_least (Some all) now bytes limit so_far reached = omega (arith, so_far.same.0)
+-- what was taken of a source
+pub taken_so_far : (first now : Option (List ℕ)) (bytes : List ℕ) → ReadSoFar first now bytes → HasTaken (length bytes) first now
+taken_so_far None now bytes so_far = (tt, so_far.rest)
+taken_so_far (Some all) now bytes so_far = (so_far.same.0, so_far.rest)
 
--- a count that rose since a later value rose since an earlier one
-pub rose_since : (first before after : ℕ) → first ≤ before → Rose before after → Rose first after
-rose_since first before after grown (inl more) = inl (omega arith)
-rose_since first before after grown (inr last) = inr last
+pub taken_fewer : (first now : Option (List ℕ)) (bytes : List ℕ) (limit : ℕ) → ReadSoFar first now bytes → length bytes < limit → HasTakenFewer limit first now
+taken_fewer first now bytes limit so_far fewer = (length bytes, fewer, taken_so_far first now bytes so_far)
+
+-- a failed read took nothing more
+pub failed_read : (first now next : Option (List ℕ)) (bytes : List ℕ) → ReadSoFar first now bytes → next ≡ now → ReadSoFar first next bytes
+failed_read first now next bytes so_far same = record { rest = same ∙ so_far.rest; same = so_far.same }
+
+-- the last read took nothing
+pub empty_read : (first now next : Option (List ℕ)) (bytes : List ℕ) (n : ℕ) → ReadSoFar first now bytes → n ≡ 0 → next ≡ option_map (drop n) now → ReadSoFar first next bytes
+empty_read first now next bytes n so_far none left = record { rest = left ∙ ap (λ k. option_map (drop k) now) none ∙ nothing now ∙ so_far.rest; same = so_far.same } where
+  nothing : (o : Option (List ℕ)) → option_map (drop 0) o ≡ o
+  nothing None = refl
+  nothing (Some l) = refl

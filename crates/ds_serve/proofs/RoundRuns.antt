@@ -17,7 +17,7 @@ use Rattle.ds_model.specs.Sessions.{Session, first_id, first_session, first_sess
 use Rattle.ds_single.specs.State.{SingleParts, session_of, world, default_window}
 use Rattle.ds_single.specs.Answered.{Answered, no_memory_reply}
 use Rattle.ds_serve.specs.Rounds.{Ran, first_state, rooms}
-use Rattle.ds_serve.specs.Runs.{line_of, WereRun, Wrote, IsLegalRun, status_of}
+use Rattle.ds_serve.specs.Runs.{line_of, WereRun, HasTaken, HasTakenFewer, Wrote, IsLegalRun, status_of}
 use Rattle.ds_serve.specs.declared.input.ReadRefused.{ReadRefused}
 use Rattle.ds_serve.specs.declared.input.ReadRefused.TheVariants as read
 use Rattle.ds_serve.specs.declared.lines.NumberedLine.{NumberedLine}
@@ -176,33 +176,47 @@ legal_none = record {
   };
 }
 
--- no round was run
-pub legal_nothing : (s r : Status) (journal : Option (List Commit)) (left held : Option (List ℕ)) (unsent : List ℕ) → r ≡ s → ((input : List ℕ) → WereRun s input []) → journal ≡ Some [] → unsent ≡ [] → IfSome journal (λ journal. IsLegalRun r left journal held held unsent)
-legal_nothing s r journal left held unsent same_status run same_journal none =
-    subst (λ (o : Option (List Commit)). IfSome o (λ journal. IsLegalRun r left journal held held unsent)) (sym same_journal)
-    (subst (λ (t : Status). IsLegalRun t left [] held held unsent) (sym same_status)
-    (subst (λ (rest : List ℕ). IsLegalRun s left [] held held rest) (sym none) (of_left left))) where
-      of_left : (o : Option (List ℕ)) → IsLegalRun s o [] held held []
-      of_left None = record { input = []; told = tt; rounds = []; replies = []; run = run []; legal = legal_none; written = refl }
-      of_left (Some bytes) = record { input = bytes; told = refl; rounds = []; replies = []; run = run bytes; legal = legal_none; written = refl }
+-- no round was run: nothing was taken, or some bytes of what the source told
+pub legal_nothing : (s r : Status) (journal : Option (List Commit)) (left rest held : Option (List ℕ)) (unsent : List ℕ) → r ≡ s → ((input : List ℕ) (taken : ℕ) → WereRun s input taken []) → journal ≡ Some [] → unsent ≡ [] → (n : ℕ) × HasTaken n left rest →
+    IfSome journal (λ journal. IsLegalRun r left rest journal held held unsent)
+legal_nothing s r journal left rest held unsent same_status run same_journal none taken =
+    subst (λ (o : Option (List Commit)). IfSome o (λ journal. IsLegalRun r left rest journal held held unsent)) (sym same_journal)
+    (subst (λ (t : Status). IsLegalRun t left rest [] held held unsent) (sym same_status)
+    (subst (λ (behind : List ℕ). IsLegalRun s left rest [] held held behind) (sym none) (of_left left taken.1))) where
+      of_left : (o : Option (List ℕ)) → HasTaken taken.0 o rest → IsLegalRun s o rest [] held held []
+      of_left None took = record { input = []; told = tt; taken = taken.0; took = took; rounds = []; replies = []; run = run [] taken.0; legal = legal_none; written = refl }
+      of_left (Some bytes) took = record { input = bytes; told = refl; taken = taken.0; took = took; rounds = []; replies = []; run = run bytes taken.0; legal = legal_none; written = refl }
 
-pub none_run : (refused : ReadRefused) (bytes : List ℕ) → WereRun (status_of refused) bytes []
-none_run read.ReadFault bytes = refl
-none_run read.InputLimit bytes = refl
-none_run read.NoMemory bytes = (0, refl)
+pub none_run : (refused : ReadRefused) (bytes : List ℕ) (taken : ℕ) → WereRun (status_of refused) bytes taken []
+none_run read.ReadFault bytes taken = refl
+none_run read.InputLimit bytes taken = refl
+none_run read.NoMemory bytes taken = refl
+
+-- nothing was taken
+pub none_taken : (left : Option (List ℕ)) → (n : ℕ) × HasTaken n left left
+none_taken None = (0, (tt, refl))
+none_taken (Some bytes) = (0, (omega arith, refl))
+
+-- some bytes were taken by a reading that ended early
+pub some_taken : (P : Type 0) (limit : ℕ) (left rest : Option (List ℕ)) → (P → HasTaken limit left rest) → P ⊎ HasTakenFewer limit left rest → (n : ℕ) × HasTaken n left rest
+some_taken P limit left rest whole (inl reached) = (limit, whole reached)
+some_taken P limit left rest whole (inr (n, fewer, took)) = (n, took)
 
 -- the one round was run, and its text sent as far as it was taken
-pub legal_sent : (r : Status) (journal : Option (List Commit)) (left old new : Option (List ℕ)) (unsent input : List ℕ) (single : SingleParts) (text : List ℕ) → (r ≡ status.Done) ⊎ (r ≡ status.WriteFault) → journal ≡ Some single.journal → Wrote old new unsent text → IfSome left (λ bytes. input ≡ bytes) → Ran first_state single (filled (numbered 1 (lines_of input))) text → IfSome journal (λ journal. IsLegalRun r left journal old new unsent)
-legal_sent r journal left old new unsent input single text ended same_journal wrote whole ran =
-    subst (λ (o : Option (List Commit)). IfSome o (λ journal. IsLegalRun r left journal old new unsent)) (sym same_journal) (record {
+pub legal_sent : (r : Status) (journal : Option (List Commit)) (left rest old new : Option (List ℕ)) (unsent input : List ℕ) (single : SingleParts) (text : List ℕ) → (r ≡ status.Done) ⊎ (r ≡ status.WriteFault) → journal ≡ Some single.journal → Wrote old new unsent text → IfSome left (λ bytes. input ≡ bytes) → HasTaken (length input) left rest → Ran first_state single (filled (numbered 1 (lines_of input))) text →
+    IfSome journal (λ journal. IsLegalRun r left rest journal old new unsent)
+legal_sent r journal left rest old new unsent input single text ended same_journal wrote whole took ran =
+    subst (λ (o : Option (List Commit)). IfSome o (λ journal. IsLegalRun r left rest journal old new unsent)) (sym same_journal) (record {
       input = input;
       told = whole;
+      taken = length input;
+      took = took;
       rounds = rounds_of input;
       replies = ran.replies;
       run = all_run ended;
       legal = legal single (filled (numbered 1 (lines_of input))) text ran;
       written = subst (λ (bs : List ℕ). Wrote old new unsent bs) ran.printed wrote;
     }) where
-      all_run : (ended : (r ≡ status.Done) ⊎ (r ≡ status.WriteFault)) → WereRun r input (rounds_of input)
-      all_run (inl done) = subst (λ (t : Status). WereRun t input (rounds_of input)) (sym done) refl
-      all_run (inr fault) = subst (λ (t : Status). WereRun t input (rounds_of input)) (sym fault) (1, refl)
+      all_run : (ended : (r ≡ status.Done) ⊎ (r ≡ status.WriteFault)) → WereRun r input (length input) (rounds_of input)
+      all_run (inl done) = subst (λ (t : Status). WereRun t input (length input) (rounds_of input)) (sym done) (refl, refl)
+      all_run (inr fault) = subst (λ (t : Status). WereRun t input (length input) (rounds_of input)) (sym fault) (1, refl)

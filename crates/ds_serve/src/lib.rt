@@ -10,11 +10,8 @@ mod lines;
 pub mod outcome;
 mod output;
 mod round;
-#[cfg(test)]
-mod tests;
 pub mod top;
 mod words;
 
-pub use input::INPUT_LIMIT;
 pub use outcome::{Run, Status, Unsent};
 pub use top::serve;

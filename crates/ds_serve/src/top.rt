@@ -1,12 +1,13 @@
 //! The top call, whose clause `legal` is the main theorem.
 //!
 //! `specs/Runs` has the words of its clauses: begin there with `IsLegalRun`.
-ghost use Rattle.std.specs.Prelude.{◌≡◌, ◌<◌, ◌≤◌, ◌⊎◌, [], ◌++◌, length, drop, map, true, false, option_map, IfSome, Some, None};
+ghost use Rattle.std.specs.Prelude.{◌≡◌, ◌<◌, ◌⊎◌, [], length, map, true, false, option_map, IfSome, IsSome, Some};
 ghost use Rattle.std.specs.String.{string_bytes};
-ghost use Rattle.ds_io.specs.Faults.{Rose};
-ghost use Rattle.ds_serve.specs.Runs.{is_form, IsLegalRun, IsUntouched, WasReadWhole, HasNoFiles, IsBelow, IsSteady, Wrote, status_of};
+ghost use Rattle.ds_base.specs.Limits.{most_round_bytes};
+ghost use Rattle.ds_io.specs.Faults.{next_count};
+ghost use Rattle.ds_serve.specs.Runs.{is_form, HasTaken, HasTakenFewer, IsLegalRun, IsUntouched, WasReadWhole, HasNoFiles, IsBelow, IsSteady, Wrote, status_of};
 
-use crate::input::{INPUT_LIMIT, ReadRefused, read_all};
+use crate::input::{ReadRefused, read_all};
 use crate::outcome::{Run, Status, Unsent};
 use crate::output::write_all;
 use crate::round::{Round, run_round};
@@ -21,21 +22,22 @@ use std::thread::Threads;
 /// around each answer. `rt` and `files` are for words that are still to come: background appliers and an index file.
 ///
 /// The main theorem is `legal`: whatever the source, the sink and the gate do, the bytes that were written in this call, followed
-/// by the unsent ones, are the replies of one legal run of the rounds that were run, over the journal that is given. It stands
-/// wherever there is a journal. The input is the one that the source tells, or some one where it tells none; a sink that doesn't
+/// by the unsent ones, are the replies of one legal run of the rounds that were run, over the journal that is given. There is a
+/// journal with every status. The input is the one that the source tells, or some one where it tells none; a sink that doesn't
 /// tell what it holds lets nothing be said of the bytes.
 ///
-/// How a run ends, and when (a count of faults rose where it is greater than before, or stands at its last value):
+/// How a run ends, and when:
 ///
 /// - `Done`: the input was read to its end, and every reply was taken.
 /// - `Usage`: exactly where the words leave their form. Nothing is read or written, and the journal is empty.
-/// - `ReadFault`: a read failed, so the source's count of faults rose. No line is answered.
-/// - `WriteFault`: a write failed, so the sink's count of faults rose. `unsent` is the rest of the text, and nothing more is run.
-/// - `InputLimit`: the input has at least `INPUT_LIMIT` bytes, and just so many were taken. No line is answered.
+/// - `ReadFault`: exactly where a read failed; the source counts that one fault and no other. No line is answered.
+/// - `WriteFault`: exactly where a write failed; the sink counts that one fault and no other. `unsent` is the rest of the text, and
+///   nothing more is run.
+/// - `InputLimit`: exactly where `MAX_ROUND_BYTES` bytes were taken, while the whole input is one round. No line is answered.
 /// - `NoMemory`: there was no memory to hold the input, or for a reply to each line that there was none. No line is answered.
 ///
 /// Where the words have their form, the input tells that it is below the limit and no count of faults rose, the run ends `Done` or
-/// `NoMemory` (`complete`).
+/// `NoMemory` (`complete`). No file is loaded, since no words name one.
 pub fn serve<Rt: Threads + Wait + Sync, F: Files, I: Source, O: Sink, G: Gate + Sync>(
     rt: &Rt,
     alloc: Global,
@@ -45,34 +47,39 @@ pub fn serve<Rt: Threads + Wait + Sync, F: Files, I: Source, O: Sink, G: Gate + 
     output: &mut O,
     gate: &G,
 ) -> Run
-    ensures legal { IfSome result.journal (λ journal. IsLegalRun result.status (I.left input.old) journal (O.held output.old) (O.held output.new) result.unsent) }
-    ensures no_journal { result.journal ≡ None → result.status ≡ Status.NoMemory }
+    ensures legal { IfSome result.journal (λ journal. IsLegalRun result.status (I.left input.old) (I.left input.new) journal (O.held output.old) (O.held output.new) result.unsent) }
+    ensures journal { IsSome result.journal }
     ensures unsent { (result.status ≡ Status.WriteFault) ⊎ (result.unsent ≡ []) }
     ensures some_unsent { result.status ≡ Status.WriteFault → 0 < length result.unsent }
 
     ensures usage { result.status ≡ Status.Usage → is_form (map string_bytes words.now) ≡ false }
     ensures form { is_form (map string_bytes words.now) ≡ false → result.status ≡ Status.Usage }
-    ensures untouched_input { IsUntouched result.status → I.left input.new ≡ I.left input.old }
-    ensures untouched_output { IsUntouched result.status → O.held output.new ≡ O.held output.old }
+    ensures untouched_input { IsUntouched result.status → input.new ≡ input.old }
+    ensures untouched_output { IsUntouched result.status → output.new ≡ output.old }
     ensures untouched_journal { IsUntouched result.status → result.journal ≡ Some [] }
     ensures no_files { HasNoFiles result.status }
+    ensures untouched_files { files.new ≡ files.old }
 
-    ensures read_fault { result.status ≡ Status.ReadFault → Rose (I.faults input.old) (I.faults input.new) }
-    ensures write_fault { result.status ≡ Status.WriteFault → Rose (O.faults output.old) (O.faults output.new) }
-    ensures input_limit { result.status ≡ Status.InputLimit → IfSome (I.left input.old) (λ bytes. INPUT_LIMIT ≤ length bytes) }
-    ensures limit_taken { result.status ≡ Status.InputLimit → I.left input.new ≡ option_map (drop INPUT_LIMIT) (I.left input.old) }
-    ensures below_limit { WasReadWhole result.status → IfSome (I.left input.old) (λ bytes. length bytes < INPUT_LIMIT) }
+    ensures read_fault { result.status ≡ Status.ReadFault → I.faults input.new ≡ next_count (I.faults input.old) }
+    ensures no_read_fault { (result.status ≡ Status.ReadFault) ⊎ (I.faults input.new ≡ I.faults input.old) }
+    ensures write_fault { result.status ≡ Status.WriteFault → O.faults output.new ≡ next_count (O.faults output.old) }
+    ensures no_write_fault { (result.status ≡ Status.WriteFault) ⊎ (O.faults output.new ≡ O.faults output.old) }
+    ensures input_limit { result.status ≡ Status.InputLimit → HasTaken most_round_bytes (I.left input.old) (I.left input.new) }
+    ensures below_limit { (result.status ≡ Status.InputLimit) ⊎ HasTakenFewer most_round_bytes (I.left input.old) (I.left input.new) }
     ensures ended { WasReadWhole result.status → I.left input.new ≡ option_map (λ _. []) (I.left input.old) }
-    ensures complete { is_form (map string_bytes words.now) ≡ true → IsBelow INPUT_LIMIT (I.left input.old) → IsSteady (I.faults input.old) (I.faults input.new) → IsSteady (O.faults output.old) (O.faults output.new) → (result.status ≡ Status.Done) ⊎ (result.status ≡ Status.NoMemory) }
+    ensures complete { is_form (map string_bytes words.now) ≡ true → IsBelow most_round_bytes (I.left input.old) → IsSteady (I.faults input.old) (I.faults input.new) → IsSteady (O.faults output.old) (O.faults output.new) → (result.status ≡ Status.Done) ⊎ (result.status ≡ Status.NoMemory) }
 {
     if !is_form(words) {
         return ended(alloc, Status::Usage);
     }
     match read_all(alloc, input) {
-        Ok(bytes) => match run_round(alloc, bytes.as_slice(), gate) {
-            Ok(round) => send(alloc, round, output),
-            Err(_) => ended(alloc, Status::NoMemory),
-        },
+        Ok(bytes) => {
+            let input_bytes = bytes.bytes();
+            match run_round(alloc, input_bytes, gate) {
+                Ok(round) => send(alloc, round, output),
+                Err(_) => ended(alloc, Status::NoMemory),
+            }
+        }
         Err(refused) => ended(alloc, refused_status(refused)),
     }
 }
@@ -107,7 +114,8 @@ fn send<O: Sink>(alloc: Global, round: Round, output: &mut O) -> Run
     ensures written { Wrote (O.held output.old) (O.held output.new) result.unsent round.text.bytes }
     ensures unsent { (result.status ≡ Status.WriteFault) ⊎ (result.unsent ≡ []) }
     ensures some_unsent { result.status ≡ Status.WriteFault → 0 < length result.unsent }
-    ensures fault { result.status ≡ Status.WriteFault → Rose (O.faults output.old) (O.faults output.new) }
+    ensures fault { result.status ≡ Status.WriteFault → O.faults output.new ≡ next_count (O.faults output.old) }
+    ensures no_fault { (result.status ≡ Status.WriteFault) ⊎ (O.faults output.new ≡ O.faults output.old) }
 {
     let Round { single, text } = round;
     match write_all(output, text.bytes()) {

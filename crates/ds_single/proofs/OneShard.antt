@@ -85,33 +85,33 @@ entries_from-append n (c ∷ cs) ds =
     ∙ sym (append_assoc (commit_entries n c) (entries_from (n + 1) cs) (entries_from (n + 1 + length cs) ds))
     ∙ ap (λ m. (commit_entries n c ++ entries_from (n + 1) cs) ++ entries_from m ds) (omega arith)
 
-here : (g : KeyParts) → (shard_of 1 g == 0) ≡ true
-here g = eq-eqb (shard_of 1 g) 0 (mod-one _)
+here : (g : KeyParts) → (shard_of g 1 == 0) ≡ true
+here g = eq-eqb (shard_of g 1) 0 (mod-one _)
 
-all_here : (es : List Entry) → filter (λ (e : Entry). shard_of 1 e.group == 0) es ≡ es
+all_here : (es : List Entry) → filter (λ (e : Entry). shard_of e.group 1 == 0) es ≡ es
 all_here [] = refl
 all_here (e ∷ es) =
-    ap (λ b. cond b (e ∷ filter (λ (f : Entry). shard_of 1 f.group == 0) es) (filter (λ (f : Entry). shard_of 1 f.group == 0) es)) (here e.group)
+    ap (λ b. cond b (e ∷ filter (λ (f : Entry). shard_of f.group 1 == 0) es) (filter (λ (f : Entry). shard_of f.group 1 == 0) es)) (here e.group)
     ∙ ap (λ fs. e ∷ fs) (all_here es)
 
 -- the one shard's list begins with the entries of a journal's beginning
-pub shard_list-append : (cs ds : List Commit) → shard_list 1 (cs ++ ds) 0 ≡ entries_from 1 cs ++ entries_from (1 + length cs) ds
+pub shard_list-append : (cs ds : List Commit) → shard_list (cs ++ ds) 0 1 ≡ entries_from 1 cs ++ entries_from (1 + length cs) ds
 shard_list-append cs ds = all_here (entries_from 1 (cs ++ ds)) ∙ entries_from-append 1 cs ds
 
-pub take-shard_list : (a : ℕ) (cs ds : List Commit) → OneWriteEach cs → a ≤ length cs → take a (shard_list 1 (cs ++ ds) 0) ≡ take a (entries_from 1 cs)
+pub take-shard_list : (a : ℕ) (cs ds : List Commit) → OneWriteEach cs → a ≤ length cs → take a (shard_list (cs ++ ds) 0 1) ≡ take a (entries_from 1 cs)
 take-shard_list a cs ds ones within =
     ap (take a) (shard_list-append cs ds)
     ∙ take-append-le {A = Entry} a (entries_from 1 cs) (entries_from (1 + length cs) ds) (omega (arith, length-entries_from 1 cs ones))
 
-pub length-shard_list : (cs ds : List Commit) → OneWriteEach cs → length cs ≤ length (shard_list 1 (cs ++ ds) 0)
+pub length-shard_list : (cs ds : List Commit) → OneWriteEach cs → length cs ≤ length (shard_list (cs ++ ds) 0 1)
 length-shard_list cs ds ones =
     omega (arith, ap (λ (es : List Entry). length es) (shard_list-append cs ds), length-append (entries_from 1 cs) (entries_from (1 + length cs) ds), length-entries_from 1 cs ones)
 
-pub length-whole_shard_list : (cs : List Commit) → OneWriteEach cs → length (shard_list 1 cs 0) ≡ length cs
+pub length-whole_shard_list : (cs : List Commit) → OneWriteEach cs → length (shard_list cs 0 1) ≡ length cs
 length-whole_shard_list cs ones = ap (λ (es : List Entry). length es) (all_here (entries_from 1 cs)) ∙ length-entries_from 1 cs ones
 
 -- the last of the first a entries is of commit a
-pub last_commit-shard_list : (a : ℕ) (cs ds : List Commit) → OneWriteEach cs → a ≤ length cs → last_commit (take a (shard_list 1 (cs ++ ds) 0)) ≡ a
+pub last_commit-shard_list : (a : ℕ) (cs ds : List Commit) → OneWriteEach cs → a ≤ length cs → last_commit (take a (shard_list (cs ++ ds) 0 1)) ≡ a
 last_commit-shard_list zero cs ds ones within = refl
 last_commit-shard_list (suc a) cs ds ones within =
     ap last_commit (take-shard_list (suc a) cs ds ones within) ∙ last_commit-entries_from 1 a cs 0 ones within ∙ omega arith

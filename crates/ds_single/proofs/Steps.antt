@@ -87,16 +87,16 @@ put_answers s key ps more within none = (
 
 -- ---- counts
 
-counted : (a : ℕ) (cs ds : List Commit) → OneWriteEach cs → a ≤ length cs → after (entry_writes (take a (shard_list 1 (cs ++ ds) 0) ++ [])) ≡ after (writes_of (take a cs))
+counted : (a : ℕ) (cs ds : List Commit) → OneWriteEach cs → a ≤ length cs → after (entry_writes (take a (shard_list (cs ++ ds) 0 1) ++ [])) ≡ after (writes_of (take a cs))
 counted a cs ds ones within =
-    ap (λ (es : List Entry). after (entry_writes es)) (append-nil (take a (shard_list 1 (cs ++ ds) 0)) ∙ take-shard_list a cs ds ones within)
+    ap (λ (es : List Entry). after (entry_writes es)) (append-nil (take a (shard_list (cs ++ ds) 0 1)) ∙ take-shard_list a cs ds ones within)
     ∙ ap after (writes-entries_from 1 a cs ones)
 
 saw_all : (s : SingleParts) (a place : ℕ) (ds : List Commit) → OneWriteEach s.journal → s.count ≤ a → a ≤ length s.journal → place ≡ max s.place a →
-    session_of (record s { place = place; count = a }) ≡ saw_counts (shard_list 1 (s.journal ++ ds) 0 ∷ []) (a ∷ []) (session_of s)
+    session_of (record s { place = place; count = a }) ≡ saw_counts (shard_list (s.journal ++ ds) 0 1 ∷ []) (a ∷ []) (session_of s)
 saw_all s a place ds ones seen within is =
     λ i. record { place = placed i; counts = grown i ∷ []; next_id = first_id; transaction = None } where
-      placed : place ≡ max s.place (max (fold (λ m (e : Entry). e.commit) 0 (take a (shard_list 1 (s.journal ++ ds) 0))) 0)
+      placed : place ≡ max s.place (max (fold (λ m (e : Entry). e.commit) 0 (take a (shard_list (s.journal ++ ds) 0 1))) 0)
       placed = is ∙ ap (λ n. max s.place n) (omega (arith, last_commit-shard_list a s.journal ds ones within))
 
       grown : a ≡ max s.count a
@@ -106,7 +106,7 @@ saw_all s a place ds ones seen within is =
 
 pub kind_answers : (s : SingleParts) (kind : List ℕ) (more : List Commit) (results : List Item) (place : ℕ) → All HasOneWrite s.journal → s.count ≤ s.applied → s.applied ≤ length s.journal → place ≡ max s.place s.applied → results ≡ kind_results [] kind (after (applied_writes s)) →
     KindAnswers (world (s.journal ++ more)) (session_of s) [] kind results (s.applied ∷ [])
-    × (session_of (record s { place = place; count = s.applied }) ≡ saw_counts (shard_list 1 (s.journal ++ more) 0 ∷ []) (s.applied ∷ []) (session_of s))
+    × (session_of (record s { place = place; count = s.applied }) ≡ saw_counts (shard_list (s.journal ++ more) 0 1 ∷ []) (s.applied ∷ []) (session_of s))
 kind_answers s kind more results place all seen within is exact =
     let ones = OneWriteEach-All s.journal all in (
       record {
@@ -125,7 +125,7 @@ saw_place-all s within = λ i. record { place = placed i; counts = s.count ∷ [
 
 pub settle_answers : (s : SingleParts) (more : List Commit) → All HasOneWrite s.journal → s.place ≤ length s.journal → s.count ≤ s.applied → s.applied ≤ length s.journal →
     SettleAnswers (world (s.journal ++ more)) (session_of s) (length s.journal) (length s.journal ∷ [])
-    × (session_of (record { journal = s.journal; applied = length s.journal; place = length s.journal; count = length s.journal }) ≡ saw_counts (shard_list 1 (s.journal ++ more) 0 ∷ []) (length s.journal ∷ []) (saw_place (length s.journal) (session_of s)))
+    × (session_of (record { journal = s.journal; applied = length s.journal; place = length s.journal; count = length s.journal }) ≡ saw_counts (shard_list (s.journal ++ more) 0 1 ∷ []) (length s.journal ∷ []) (saw_place (length s.journal) (session_of s)))
 settle_answers s more all place_within seen within =
     let ones = OneWriteEach-All s.journal all in (
       record {
@@ -134,9 +134,9 @@ settle_answers s more all place_within seen within =
         applied = (omega arith, least ones, omega (arith, length-shard_list s.journal more ones), tt);
       },
       saw_all (record s { place = length s.journal }) (length s.journal) (length s.journal) more ones (omega arith) (omega arith) (omega arith)
-          ∙ ap (saw_counts (shard_list 1 (s.journal ++ more) 0 ∷ []) (length s.journal ∷ [])) (sym (saw_place-all s place_within)),
+          ∙ ap (saw_counts (shard_list (s.journal ++ more) 0 1 ∷ []) (length s.journal ∷ [])) (sym (saw_place-all s place_within)),
     ) where
-      least : OneWriteEach s.journal → length (shard_list 1 (take (length s.journal) (s.journal ++ more)) 0) ≤ length s.journal
+      least : OneWriteEach s.journal → length (shard_list (take (length s.journal) (s.journal ++ more)) 0 1) ≤ length s.journal
       least ones =
           let same : take (length s.journal) (s.journal ++ more) ≡ s.journal = take-append-le {A = Commit} (length s.journal) s.journal more (omega arith) ∙ take-length s.journal in
-          omega (arith, ap (λ (cs : List Commit). length (shard_list 1 cs 0)) same, length-whole_shard_list s.journal ones)
+          omega (arith, ap (λ (cs : List Commit). length (shard_list cs 0 1)) same, length-whole_shard_list s.journal ones)

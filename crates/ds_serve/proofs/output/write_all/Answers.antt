@@ -1,4 +1,4 @@
-use Rattle.std.proofs.Common.{◌≡◌, ◌++◌, take, subst, arith}
+use Rattle.std.proofs.Common.{◌≡◌, ◌++◌, ◌∙◌, take, subst, arith}
 use Rattle.std.specs.Prelude.{option_map}
 use Rattle.ds_serve.proofs.Pieces.{held_more, rest_from}
 use Rattle.ds_serve.proofs.output.write_all.Goals as goal
@@ -10,5 +10,5 @@ write-preserved g c =
       omega (arith, c.in-Ok.ensures.within),
       held_more (g.O.Sink.held c.args.output.now) before after c.args.text.now c.write.sent c.in-Ok.n c.write.invariant.1
           (subst (λ rest. after ≡ option_map (λ held. held ++ take c.in-Ok.n rest) before) (rest_from c.write.sent c.args.text.now) c.in-Ok.ensures.holds_what_it_took),
-      omega (arith, c.in-Ok.ensures.faults_stay_counted),
+      c.in-Ok.ensures.counts_no_other ∙ c.write.invariant.2,
     )

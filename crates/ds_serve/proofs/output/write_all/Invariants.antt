@@ -8,4 +8,4 @@ decreases-write g l = length l.text - l.sent
 -- what was taken is the text's beginning
 abbrev pub invariant-write : goal.invariant-write
 invariant-write g l =
-    (l.sent ≤ length l.text) × (g.O.Sink.held l.output ≡ option_map (λ held. held ++ take l.sent l.text) (g.O.Sink.held l.fn.output)) × (g.O.Sink.faults l.fn.output ≤ g.O.Sink.faults l.output)
+    (l.sent ≤ length l.text) × (g.O.Sink.held l.output ≡ option_map (λ held. held ++ take l.sent l.text) (g.O.Sink.held l.fn.output)) × (g.O.Sink.faults l.output ≡ g.O.Sink.faults l.fn.output)

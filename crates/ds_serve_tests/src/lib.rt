@@ -1,0 +1,14 @@
+//! Tests of the server's calls over memory; no running code of its own.
+//!
+//! `serving` holds what the tests share: a run over a source and a sink in memory, and how its text is compared. `inputs` are
+//! runs where all goes well, `faults` those where the outside fails, and `engine` is the plain engine by itself.
+#![tactic(auto)]
+
+#[cfg(test)]
+mod engine;
+#[cfg(test)]
+mod faults;
+#[cfg(test)]
+mod inputs;
+#[cfg(test)]
+mod serving;

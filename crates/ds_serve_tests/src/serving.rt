@@ -1,0 +1,153 @@
+//! A run over a source and a sink in memory.
+use ds_base::{ByteString, ByteStrings, Names, Numbers};
+use ds_io::{Gate, MemoryFiles, MemorySink, MemorySource};
+use ds_serve::{Run, serve};
+use std::alloc::{AllocError, Global};
+use std::sync::Wait;
+use std::sync::atomic::{AtomicU64, Ordering};
+use std::thread::Threads;
+
+/// Three lines, the last one without a newline.
+pub const FIRST: &[u8] =
+    br#"{"op":"put","entity":{"key":[["Task","a"]],"properties":{"n":5,"s":"x"}}}
+{"op":"settle"}
+{"op":"query","kind":"Task"}"#;
+
+/// The replies to them.
+pub const REPLIES: &[u8] = br#"{"client":0,"commit":1,"key":[["Task","a"]],"line":1,"ok":"put"}
+{"applied":[1],"client":0,"line":2,"ok":"settle","place":1}
+{"applied":[1],"client":0,"line":3,"ok":"query","results":[{"key":[["Task","a"]],"properties":{"n":5,"s":"x"}}]}
+"#;
+
+/// How an input is given and an output taken: so many bytes a call, and which call fails, 0 for none.
+#[derive(Clone, Copy)]
+pub struct Outside {
+    pub read: usize,
+    pub failing_read: u64,
+    pub written: usize,
+    pub failing_write: u64,
+}
+
+/// Everything is given and taken in pieces of 1,000,000 bytes, and nothing fails.
+pub const STEADY: Outside = Outside {
+    read: 1_000_000,
+    failing_read: 0,
+    written: 1_000_000,
+    failing_write: 0,
+};
+
+/// How a run ended, the bytes that were taken, and the lines whose answers began and ended, summed.
+#[derive(Drop)]
+pub struct Ended {
+    pub run: Run,
+    pub written: MemorySink,
+    pub begun: u64,
+    pub done: u64,
+}
+
+/// A gate that sums the lines that it is called for.
+#[derive(Drop)]
+struct Summing {
+    begun: AtomicU64,
+    done: AtomicU64,
+}
+
+impl Gate for Summing {
+    fn before(&self, _client: u32, line: u64) {
+        self.begun.fetch_add(line, Ordering::SeqCst);
+    }
+
+    fn after(&self, _client: u32, line: u64) {
+        self.done.fetch_add(line, Ordering::SeqCst);
+    }
+}
+
+/// The words that the server is started with, but for the number of shards.
+pub fn words(alloc: Global, shards: &str) -> Result<Vec<String>, AllocError> {
+    let mut words = Vec::new(alloc);
+    for word in ["--shards", shards, "--appliers", "0"] {
+        words.push(String::from_str(alloc, word)?)?;
+    }
+    Ok(words)
+}
+
+/// No files.
+pub fn no_files(alloc: Global) -> MemoryFiles {
+    MemoryFiles::make(
+        Names::new(alloc),
+        ByteStrings::new(alloc),
+        Numbers::new(alloc),
+    )
+}
+
+fn only(alloc: Global, number: u64) -> Result<Numbers, AllocError> {
+    Ok(Numbers::from(Vec::from_slice(alloc, &[number])?))
+}
+
+/// Serves a text with these words.
+pub fn served_with<R: Threads + Wait + Sync>(
+    rt: &R,
+    alloc: Global,
+    words: &[String],
+    text: &[u8],
+    outside: Outside,
+) -> Result<Ended, AllocError> {
+    let mut files = no_files(alloc);
+    let fails = only(alloc, outside.failing_read)?;
+    let mut input = MemorySource::make(ByteString::of(alloc, text)?, outside.read.max(1), fails);
+    let fails = only(alloc, outside.failing_write)?;
+    let mut written = MemorySink::make(alloc, outside.written, fails);
+    let gate = Summing {
+        begun: AtomicU64::new(0),
+        done: AtomicU64::new(0),
+    };
+    let run = serve(
+        rt,
+        alloc,
+        words,
+        &mut files,
+        &mut input,
+        &mut written,
+        &gate,
+    );
+    Ok(Ended {
+        run,
+        written,
+        begun: gate.begun.load(Ordering::SeqCst),
+        done: gate.done.load(Ordering::SeqCst),
+    })
+}
+
+/// Serves a text with one shard and no appliers.
+pub fn served<R: Threads + Wait + Sync>(
+    rt: &R,
+    alloc: Global,
+    text: &[u8],
+    outside: Outside,
+) -> Result<Ended, AllocError> {
+    let words = words(alloc, "1")?;
+    served_with(rt, alloc, words.as_slice(), text, outside)
+}
+
+/// Whether the taken bytes, followed by the unsent ones, are this text.
+pub fn is_text(ended: &Ended, text: &[u8]) -> bool {
+    let taken = ended.written.written().bytes();
+    if !text.starts_with(taken) {
+        return false;
+    }
+    let rest = &text[taken.len()..];
+    if ended.run.unsent.len() != rest.len() {
+        return false;
+    }
+    for (i, byte) in rest.iter().enumerate() {
+        if ended.run.unsent.byte(i) != Some(*byte) {
+            return false;
+        }
+    }
+    true
+}
+
+/// How many commits the run's journal has.
+pub fn commits(ended: &Ended) -> Option<usize> {
+    ended.run.journal.as_ref().map(|journal| journal.len())
+}
