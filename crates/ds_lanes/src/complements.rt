@@ -27,7 +27,7 @@ pub fn complement(dst: &mut [u8], src: &[u8])
     }
 }
 
-/// Turns whole vectors, and then the one that ends where the bytes do.
+/// Turns whole vectors, and then, where bytes are left, the vector that ends with them.
 #[inline(always)]
 fn turn_many(dst: &mut [u8], src: &[u8])
     requires same { length dst.old ≡ length src.now }
@@ -38,8 +38,10 @@ fn turn_many(dst: &mut [u8], src: &[u8])
         let at = chunk * LANES;
         store(complement_at(src, at), dst, at);
     }
-    let last = src.len() - LANES;
-    store(complement_at(src, last), dst, last);
+    if src.len() % LANES != 0 {
+        let last = src.len() - LANES;
+        store(complement_at(src, last), dst, last);
+    }
 }
 
 /// Turns the 16 bytes at `at`.

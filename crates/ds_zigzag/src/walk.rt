@@ -79,7 +79,9 @@ impl Walk {
         ensures none_is_left { IfOk result (λ found. IfNone found (HasNoNextCommon self.old.last (map S.strings scans.old))) }
         ensures same_strings { map S.strings scans.new ≡ map S.strings scans.old }
         ensures same_passed { map S.passed scans.new ≡ map S.passed scans.old }
-        ensures* stands { sem 𝓛 (Rests the_row self.entry (λ new. (new.scans ≡ self.old.scans) × IfOk result (λ found. IfSome found (λ a. new.last ≡ Some a.now)))) }
+        // What becomes of the walk when the answer, which is borrowed from it, is let go.
+        ensures* stands { sem 𝓛 (Rests the_row self.entry (λ new.
+            (new.scans ≡ self.old.scans) × IfOk result (λ found. IfSome found (λ a. new.last ≡ Some a.now)))) }
 
         ensures walks_on { IfOk result (λ found. IfSome found (λ a. (start : Option (List ℕ)) (begun : ℕ) →
             IsWalked self.old.scans start self.old.last (map S.strings scans.old) (map S.passed scans.old) begun steps.old →

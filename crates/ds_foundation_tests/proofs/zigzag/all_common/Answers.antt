@@ -1,4 +1,4 @@
-use Rattle.std.proofs.Common.{◌≡◌, ℕ, length, map, option_copied, Some, sym, ◌∙◌, rules, arith}
+use Rattle.std.proofs.Common.{◌≡◌, ℕ, length, map, option_copied, Some, ◌∙◌, arith}
 use Rattle.std.specs.Prelude.{Option, List}
 use Rattle.ds_zigzag.specs.Walks.{IsWalked}
 use Rattle.ds_foundation_tests.proofs.zigzag.all_common.Goals as goal

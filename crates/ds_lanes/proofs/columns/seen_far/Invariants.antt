@@ -1,4 +1,4 @@
-use Rattle.std.proofs.Common.{◌-◌, ◌≤◌, length}
+use Rattle.std.proofs.Common.{◌-◌, length}
 use Rattle.ds_lanes.specs.Hits.{NoneIn, visible_at}
 use Rattle.ds_lanes.proofs.columns.seen_far.Given as goal
 

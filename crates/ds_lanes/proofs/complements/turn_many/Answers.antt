@@ -14,14 +14,14 @@ loop-chunk-preserved c =
           (c.store.ensures.written (k - at) (omega arith) ∙ c.complement_at.ensures.each (k - at) (omega arith))
     ]
 
-pub returns : goal.returns
-returns c =
+pub returns-then-src-ne0 : goal.returns-then-src-ne0
+returns-then-src-ne0 c =
     let last = length c.args.src.now - 32 in
     λ k lt.
     elim (cases_lt k last) [
-      | inl early ↦ c.store-2.ensures.kept k early ∙ c.loop-chunk.invariant k (omega arith)
+      | inl early ↦ c.store-then-src-ne0.ensures.kept k early ∙ c.loop-chunk.invariant k (omega arith)
       | inr late ↦
           let back : last + (k - last) ≡ k = omega arith in
-          subst (λ j. get_or c.store-2.new.dst j 0 ≡ 255 - get_or c.args.src.now j 0) back
-          (c.store-2.ensures.written (k - last) (omega arith) ∙ c.complement_at-2.ensures.each (k - last) (omega arith))
+          subst (λ j. get_or c.store-then-src-ne0.new.dst j 0 ≡ 255 - get_or c.args.src.now j 0) back
+          (c.store-then-src-ne0.ensures.written (k - last) (omega arith) ∙ c.complement_at-then-src-ne0.ensures.each (k - last) (omega arith))
     ]

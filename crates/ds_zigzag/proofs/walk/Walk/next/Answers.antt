@@ -1,4 +1,4 @@
-use Rattle.std.proofs.Common.{rules, ◌≡◌, refl, sym, ap, length}
+use Rattle.std.proofs.Common.{rules, ◌≡◌, refl, ap}
 use Rattle.ds_zigzag.specs.Walks.{standing_at}
 use Rattle.ds_zigzag.proofs.walk.Walk.next.Goals as goal
 
