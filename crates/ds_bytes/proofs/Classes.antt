@@ -1,12 +1,10 @@
 -- Which value or identifier stands behind a byte that tells its class.
-use Rattle.std.proofs.Common.{ap, ◌∙◌, arith, ◌≡◌, ◌≢◌, ℕ, ◌+◌, ◌<◌, ◌^◌, Bool, true, false, List, [], ◌∷◌, ◌++◌, refl}
-use Rattle.std.specs.Prelude.{ℤ, FitsSigned}
+use Rattle.std.proofs.Common.{ap, ◌∙◌, arith, ◌≡◌, ◌≢◌, ℕ, ◌<◌, ◌^◌, true, false, List, [], ◌∷◌, ◌++◌, refl}
+use Rattle.std.specs.Prelude.{FitsSigned}
 use Rattle.std.specs.Int.{w64}
-use Rattle.ds_base.specs.declared.key.Ident.{Ident}
 use Rattle.ds_base.specs.declared.key.Ident.TheVariants.{Id, Name}
 use Rattle.ds_base.specs.declared.index_value.IndexValue.{IndexValue}
 use Rattle.ds_base.specs.declared.index_value.IndexValue.TheVariants as class
-use Rattle.ds_base.specs.Keys.{KeyParts}
 use Rattle.ds_bytes.specs.Encoding.{escaped, eight_bytes, raised, ident_bytes, key_bytes, value_bytes}
 use Rattle.ds_bytes.specs.Lawful.{AreBytes, IsText, IsLawfulIdent, IsLawfulKey, IsLawfulValue}
 use Rattle.ds_bytes.specs.Reading.{NoneBegins}

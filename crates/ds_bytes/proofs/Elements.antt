@@ -1,20 +1,20 @@
 -- What the readers of elements and paths find.
-use Rattle.std.proofs.Common.{◌≡◌, ◌≢◌, ℕ, suc, ◌+◌, ◌<◌, ◌≤◌, Bool, List, [], ◌∷◌, ◌++◌, length, drop, length-append, append_assoc}
-use Rattle.std.proofs.Common.{append-nil, sym, ap, ◌∙◌, subst, arith, refl}
+use Rattle.std.proofs.Common.{◌≡◌, ◌≢◌, ℕ, ◌+◌, List, [], ◌∷◌, ◌++◌, length, drop, length-append, append_assoc}
+use Rattle.std.proofs.Common.{sym, ap, ◌∙◌, subst, arith, refl}
 use Rattle.std.specs.Prelude.{flat_map, All}
 use Rattle.std.specs.FinMap.{slice_cmp-IsAntisymmetric}
 use Rattle.std.proofs.lemmas.List.{flat_map_more}
-use Rattle.std.proofs.lemmas.List.Elements.{All-head, All-tail, All-drop}
+use Rattle.std.proofs.lemmas.List.Elements.{All-head, All-drop}
 use Rattle.std.proofs.Math.Seq.{drop-append_seam}
 use Rattle.ds_base.specs.declared.key.Elem.{Elem}
 use Rattle.ds_base.specs.KeyOrderLaws.{elem_cmp-same}
 use Rattle.ds_bytes.specs.Encoding.{escaped, ident_bytes, elem_rest, elem_bytes, path_bytes}
 use Rattle.ds_bytes.specs.Lawful.{IsText, IsLawfulIdent, IsLawfulElem}
-use Rattle.ds_bytes.specs.LawfulLaws.{elem_of_bytes, elems_of_bytes}
-use Rattle.ds_bytes.specs.Reading.{Begins, NoneBegins, Found}
+use Rattle.ds_bytes.specs.LawfulLaws.{elems_of_bytes}
+use Rattle.ds_bytes.specs.Reading.{NoneBegins, Found}
 use Rattle.ds_bytes.specs.OrderedLaws.{reads_once}
 use Rattle.ds_bytes.specs.EncodingLaws.{path_bytes-ordered}
-use Rattle.ds_bytes.specs.AncestorLaws.{GoesOn, path_begins, escaped-reads_once}
+use Rattle.ds_bytes.specs.AncestorLaws.{path_begins, escaped-reads_once}
 use Rattle.ds_bytes.proofs.Readings.{begins_from, begins_joined}
 
 -- ---- an element

@@ -1,6 +1,6 @@
 -- Escaped text, a run without zero bytes at a time.
-use Rattle.std.proofs.Common.{add-one, drop-drop, ◌≡◌, ℕ, zero, suc, ◌+◌, ◌<◌, ◌≤◌, List, [], ◌∷◌, ◌++◌, length, take, drop, slice_get}
-use Rattle.std.proofs.Common.{Some, inl, inr, ◌⊎◌, sym, ap, ◌∙◌, arith, refl}
+use Rattle.std.proofs.Common.{add-one, drop-drop, ◌≡◌, ℕ, zero, suc, ◌<◌, ◌≤◌, List, [], ◌∷◌, ◌++◌, length, take, drop, slice_get}
+use Rattle.std.proofs.Common.{Some, inl, inr, ◌⊎◌, ap, ◌∙◌, arith, refl}
 use Rattle.std.specs.Prelude.{flat_map}
 use Rattle.std.proofs.lemmas.Bool.Decides.{nat_tests}
 use Rattle.ds_lanes.specs.Kernels.{first_zero}

@@ -1,18 +1,17 @@
 -- What the readers of keys find.
-use Rattle.std.proofs.Common.{◌≡◌, ◌≢◌, ℕ, suc, ◌+◌, ◌<◌, ◌≤◌, Bool, true, false, ◌==◌, List, [], ◌∷◌, ◌++◌, length, drop, slice_get, Some}
-use Rattle.std.proofs.Common.{length-append, append_assoc, append-nil, sym, ap, ◌∙◌, subst, arith, refl}
-use Rattle.std.specs.Prelude.{flat_map, All, IsTrue}
+use Rattle.std.proofs.Common.{◌≡◌, ◌≢◌, ℕ, ◌+◌, ◌<◌, true, false, ◌==◌, List, [], ◌∷◌, ◌++◌, length, drop, Some}
+use Rattle.std.proofs.Common.{length-append, append_assoc, sym, ap, ◌∙◌, subst, arith, refl}
+use Rattle.std.specs.Prelude.{All, IsTrue}
 use Rattle.ds_base.specs.declared.key.Elem.{Elem}
 use Rattle.std.proofs.Common.{◌⊎◌, inl, inr, Result, Ok, Err, Option, None}
-use Rattle.std.proofs.lemmas.Bool.{and_parts}
 use Rattle.std.proofs.lemmas.Str.{IsUtf8-nil}
 use Rattle.std.proofs.lemmas.List.Elements.{All-nil}
-use Rattle.ds_base.specs.Keys.{KeyParts, is_key, is_path, is_namespace}
+use Rattle.ds_base.specs.Keys.{KeyParts, is_key}
 use Rattle.ds_bytes.specs.Encoding.{escaped, path_bytes, namespace_bytes, key_bytes}
 use Rattle.ds_bytes.specs.Lawful.{IsText, IsLawfulElem, IsLawfulKey, IsDefaultKey, IsNamedKey}
-use Rattle.ds_bytes.specs.Reading.{Begins, NoneBegins, Found, Reads, IsKeyOf}
+use Rattle.ds_bytes.specs.Reading.{NoneBegins, Found, Reads, IsKeyOf}
 use Rattle.ds_bytes.specs.AncestorLaws.{escaped-reads_once}
-use Rattle.ds_bytes.proofs.Readings.{begins_from, begins_joined}
+use Rattle.ds_bytes.proofs.Readings.{begins_from}
 use Rattle.ds_bytes.proofs.Elements.{path_bytes-reads_once}
 
 -- ---- keys of the default namespace

@@ -1,5 +1,5 @@
 -- Pieces that are put one after another are put as one.
-use Rattle.std.proofs.Common.{◌≡◌, ℕ, ◌+◌, ◌-◌, ◌≤◌, Bool, true, false, List, [], ◌++◌, length, length-append, append_assoc, append-nil}
+use Rattle.std.proofs.Common.{◌≡◌, ℕ, ◌-◌, Bool, true, false, List, [], ◌++◌, length, length-append, append_assoc, append-nil}
 use Rattle.std.proofs.Common.{sym, ap, ◌∙◌, arith, refl}
 use Rattle.std.proofs.lemmas.List.{length-map, map-append}
 use Rattle.ds_bytes.specs.declared.output.Output.{Output}

@@ -1,6 +1,6 @@
 -- What readers find at the front of bytes, behind a byte and one after another.
-use Rattle.std.proofs.Common.{◌≡◌, ◌≢◌, ℕ, zero, suc, ◌+◌, ◌-◌, ◌<◌, ◌≤◌, Bool, true, false, List, [], ◌∷◌, ◌++◌, length, take, drop}
-use Rattle.std.proofs.Common.{slice_get, Some, None, length-append, append_assoc, append-nil, sym, ap, ◌∙◌, subst, arith, refl}
+use Rattle.std.proofs.Common.{◌≡◌, ℕ, suc, ◌+◌, ◌-◌, ◌<◌, ◌≤◌, Bool, true, false, List, [], ◌∷◌, ◌++◌, length, drop}
+use Rattle.std.proofs.Common.{slice_get, Some, None, length-append, append_assoc, sym, ap, ◌∙◌, arith, refl}
 use Rattle.std.proofs.Common.{get_or}
 use Rattle.std.specs.Prelude.{Option, MatchOption}
 use Rattle.std.proofs.lemmas.List.{drop-map, get_or_default, get_or-map, length-map}
@@ -9,7 +9,7 @@ use Rattle.ds_bytes.specs.Lawful.{AreBytes}
 use Rattle.ds_bytes.proofs.Putting.{length-directed}
 use Rattle.std.proofs.lemmas.List.Prefix.{front_rest}
 use Rattle.ds_bytes.specs.Encoding.{directed}
-use Rattle.ds_bytes.specs.Reading.{Begins, NoneBegins, Found}
+use Rattle.ds_bytes.specs.Reading.{Begins}
 
 -- ---- directions
 

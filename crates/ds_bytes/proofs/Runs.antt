@@ -1,18 +1,17 @@
 -- Runs without zero bytes, a block at a time; and escaped texts, a run at a time.
-use Rattle.std.proofs.Common.{◌≡◌, ◌≢◌, ℕ, zero, suc, ◌+◌, ◌-◌, ◌<◌, ◌≤◌, Bool, List, [], ◌∷◌, ◌++◌, length, take, drop, slice_get, Some}
-use Rattle.std.proofs.Common.{None, length-append, append_assoc, append-nil, sym, ap, ◌∙◌, subst, arith, refl, inl, inr, add_assoc, add-one}
-use Rattle.std.proofs.Common.{◌⊎◌}
-use Rattle.std.specs.Prelude.{flat_map, All}
+use Rattle.std.proofs.Common.{◌≡◌, ◌≢◌, ℕ, zero, suc, ◌+◌, ◌-◌, ◌<◌, ◌≤◌, List, [], ◌∷◌, ◌++◌, length, take, drop, slice_get, Some}
+use Rattle.std.proofs.Common.{length-append, append_assoc, sym, ap, ◌∙◌, subst, arith, inl, inr, add_assoc, add-one}
+use Rattle.std.specs.Prelude.{flat_map}
 use Rattle.std.proofs.lemmas.List.{map-append, length-map, length-take-le}
 use Rattle.std.proofs.lemmas.Grind.{flat_map-append}
 use Rattle.std.proofs.lemmas.List.Elements.{All-nil, All-cons, All-head, All-tail}
 use Rattle.std.proofs.Math.Seq.{take-append-add, take-length}
 use Rattle.ds_lanes.specs.Kernels.{first_zero, complement}
-use Rattle.ds_bytes.specs.Encoding.{escaped_byte, escaped, directed}
+use Rattle.ds_bytes.specs.Encoding.{escaped_byte, escaped}
 use Rattle.ds_bytes.specs.Lawful.{AreBytes}
-use Rattle.ds_bytes.specs.Reading.{Begins, NoneBegins, Found}
-use Rattle.ds_bytes.proofs.Escapes.{first_zero-suc, flat-run, zero_pair, behind_zero, GoesOn, text_begins}
-use Rattle.ds_bytes.proofs.Readings.{begins_from, directed-drop}
+use Rattle.ds_bytes.specs.Reading.{NoneBegins, Found}
+use Rattle.ds_bytes.proofs.Escapes.{first_zero-suc, flat-run, zero_pair, behind_zero, text_begins}
+use Rattle.ds_bytes.proofs.Readings.{begins_from}
 
 -- ---- blocks
 

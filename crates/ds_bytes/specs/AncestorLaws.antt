@@ -1,7 +1,7 @@
 -- The keys under an ancestor are those whose encoding begins with the ancestor's without its last byte.
-use Rattle.std.specs.Prelude.{◌≡◌, ◌↔◌, ℕ, zero, ◌<◌, nat_eq, Bool, true, IsTrue, List, [], ◌∷◌, ◌++◌, flat_map, length, take, drop, All}
+use Rattle.std.specs.Prelude.{◌≡◌, ◌↔◌, ℕ, ◌<◌, nat_eq, IsTrue, List, [], ◌∷◌, ◌++◌, flat_map, length, take, drop, All}
 use Rattle.std.specs.Prelude.{refl}
-use Rattle.std.proofs.Common.{ap, sym, ◌∙◌, subst, append_assoc, append-nil, arith}
+use Rattle.std.proofs.Common.{ap, sym, ◌∙◌, append_assoc, append-nil, arith}
 use Rattle.std.proofs.lemmas.Grind.{flat_map-append}
 use Rattle.std.proofs.lemmas.Bool.{and_parts, and_from}
 use Rattle.std.proofs.lemmas.List.{take-append-drop}

@@ -1,5 +1,5 @@
 -- Encodings are bytes.
-use Rattle.std.specs.Prelude.{◌≡◌, ℕ, zero, suc, ◌+◌, ◌-◌, ◌/◌, ◌%◌, ◌^◌, ◌<◌, Bool, true, false, List, [], ◌∷◌, ◌++◌, flat_map, All, refl}
+use Rattle.std.specs.Prelude.{ℕ, zero, suc, ◌/◌, ◌%◌, ◌^◌, ◌<◌, true, false, List, [], ◌∷◌, ◌++◌, flat_map, All}
 use Rattle.std.proofs.Common.{arith}
 use Rattle.std.proofs.lemmas.Nat.{mod_below}
 use Rattle.std.proofs.lemmas.List.Elements.{All-nil, All-cons, All-append, All-head, All-tail}
@@ -9,9 +9,8 @@ use Rattle.ds_base.specs.declared.key.Elem.{Elem}
 use Rattle.ds_base.specs.declared.index_value.IndexValue.{IndexValue}
 use Rattle.ds_base.specs.declared.index_value.IndexValue.TheVariants as class
 use Rattle.ds_base.specs.Keys.{KeyParts}
-use Rattle.ds_lanes.specs.Kernels.{complement}
 use Rattle.ds_bytes.specs.Encoding.{escaped_byte, escaped, eight_bytes, raised, ident_bytes, elem_bytes, path_bytes, namespace_bytes}
-use Rattle.ds_bytes.specs.Encoding.{key_bytes, value_bytes, directed}
+use Rattle.ds_bytes.specs.Encoding.{key_bytes, value_bytes}
 use Rattle.ds_bytes.specs.Lawful.{AreBytes, IsIdentOfBytes, IsElemOfBytes, IsKeyOfBytes, IsValueOfBytes}
 
 one : (b : ℕ) (bs : List ℕ) → b < 256 → AreBytes bs → AreBytes (b ∷ bs)

@@ -1,14 +1,11 @@
 -- The bytes of an encoding have the order of what is encoded, in both directions, and are read in one way.
-use Rattle.std.specs.Prelude.{◌≡◌, ℕ, zero, suc, ◌+◌, ◌-◌, ◌*◌, ◌/◌, ◌%◌, ◌^◌, ◌<◌, ◌≤◌, ℤ, pos, negsuc, Bool, true, false, List, [], ◌∷◌}
-use Rattle.std.specs.Prelude.{◌++◌, flat_map, map, All, refl, FitsSigned}
-use Rattle.std.specs.Int.{w64}
-use Rattle.std.proofs.Common.{ap, sym, ◌∙◌, subst, append_assoc, append-nil, arith}
-use Rattle.std.proofs.Math.Nat.{mul-le-mul_right, mod-eq_of_lt}
-use Rattle.std.proofs.lemmas.Nat.{mod-pow-add, mod_below}
+use Rattle.std.specs.Prelude.{◌≡◌, ℕ, zero, suc, Bool, true, false, List, [], ◌∷◌}
+use Rattle.std.specs.Prelude.{◌++◌, All, refl}
+use Rattle.std.proofs.Common.{ap, sym, ◌∙◌, append_assoc, arith}
 use Rattle.std.specs.declared.cmp.Ordering.{Ordering}
 use Rattle.std.specs.declared.cmp.Ordering.TheVariants.{Less, Equal, Greater}
-use Rattle.std.specs.Ordering.{ordering_then, ordering_reverse, nat_cmp, int_cmp, MatchOrdering}
-use Rattle.std.specs.Cmp.{nat_cmp_is, ranks, int_ranks}
+use Rattle.std.specs.Ordering.{ordering_then, ordering_reverse, nat_cmp}
+use Rattle.std.specs.Cmp.{nat_cmp_is}
 use Rattle.std.specs.Cmp.Lexicographic.{slice_cmp}
 use Rattle.ds_base.specs.declared.key.Ident.{Ident}
 use Rattle.ds_base.specs.declared.key.Ident.TheVariants.{Id, Name}
@@ -18,12 +15,11 @@ use Rattle.ds_base.specs.declared.index_value.IndexValue.TheVariants as class
 use Rattle.ds_base.specs.Keys.{KeyParts}
 use Rattle.ds_base.specs.KeyOrder.{bytes_cmp, ident_cmp, elem_cmp, key_cmp}
 use Rattle.ds_base.specs.IndexOrder.{index_value_cmp}
-use Rattle.ds_lanes.specs.Kernels.{complement}
-use Rattle.ds_bytes.specs.Encoding.{escaped_byte, escaped, eight_bytes, raised, ident_bytes, elem_rest, elem_bytes, path_bytes}
-use Rattle.ds_bytes.specs.Encoding.{namespace_bytes, key_bytes, value_bytes, directed, encoding, key_encoding}
-use Rattle.ds_bytes.specs.Lawful.{AreBytes, IsIdentOfBytes, IsElemOfBytes, IsKeyOfBytes, IsValueOfBytes}
+use Rattle.ds_bytes.specs.Encoding.{escaped, ident_bytes, elem_rest, elem_bytes, path_bytes}
+use Rattle.ds_bytes.specs.Encoding.{namespace_bytes, key_bytes, value_bytes, encoding, key_encoding}
+use Rattle.ds_bytes.specs.Lawful.{IsIdentOfBytes, IsElemOfBytes, IsKeyOfBytes, IsValueOfBytes}
 use Rattle.ds_bytes.specs.Ordered.{IsOrderedBy, directed_cmp}
-use Rattle.ds_bytes.specs.OrderedLaws.{then-assoc, bytes_cmp-front, tagged-ordered, fewer-ordered, seen-ordered, joined-ordered}
+use Rattle.ds_bytes.specs.OrderedLaws.{then-assoc, tagged-ordered, joined-ordered}
 use Rattle.ds_bytes.specs.OrderedLaws.{list-ordered, complement-ordered, reads_once}
 use Rattle.ds_bytes.specs.NumberLaws.{eight_bytes-ordered}
 use Rattle.ds_bytes.specs.SignedLaws.{signed-ordered}

@@ -1,5 +1,5 @@
 -- What is a key or a value has an encoding.
-use Rattle.std.specs.Prelude.{ℕ, ◌<◌, List, length, All}
+use Rattle.std.specs.Prelude.{List, All}
 use Rattle.ds_base.specs.declared.key.Ident.{Ident}
 use Rattle.ds_base.specs.declared.key.Ident.TheVariants.{Id, Name}
 use Rattle.ds_base.specs.declared.key.Elem.{Elem}

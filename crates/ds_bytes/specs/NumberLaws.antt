@@ -1,16 +1,14 @@
 -- Numbers of 8 bytes are compared numerically.
-use Rattle.std.specs.Prelude.{◌≡◌, ℕ, suc, ◌+◌, ◌*◌, ◌/◌, ◌%◌, ◌^◌, ◌<◌, ◌≤◌, ℤ, pos, negsuc, ◌<ℤ◌, Bool, true, T, List, ◌∷◌, ◌++◌, refl}
-use Rattle.std.specs.Prelude.{FitsSigned}
-use Rattle.std.specs.Int.{w64}
+use Rattle.std.specs.Prelude.{◌≡◌, ℕ, suc, ◌+◌, ◌*◌, ◌/◌, ◌%◌, ◌^◌, ◌<◌, ◌≤◌, List, ◌∷◌, ◌++◌, refl}
 use Rattle.std.proofs.Common.{ap, sym, ◌∙◌, arith}
 use Rattle.std.proofs.Math.Nat.{mul-le-mul_right, mod-eq_of_lt}
 use Rattle.std.proofs.lemmas.Nat.{mod-pow-add, mod_below}
 use Rattle.std.specs.declared.cmp.Ordering.{Ordering}
 use Rattle.std.specs.declared.cmp.Ordering.TheVariants.{Less, Equal, Greater}
-use Rattle.std.specs.Ordering.{ordering_then, nat_cmp, int_cmp, MatchOrdering}
-use Rattle.std.specs.Cmp.{nat_cmp_is, ranks, int_ranks}
+use Rattle.std.specs.Ordering.{ordering_then, nat_cmp, MatchOrdering}
+use Rattle.std.specs.Cmp.{nat_cmp_is, ranks}
 use Rattle.ds_base.specs.KeyOrder.{bytes_cmp}
-use Rattle.ds_bytes.specs.Encoding.{eight_bytes, raised}
+use Rattle.ds_bytes.specs.Encoding.{eight_bytes}
 use Rattle.ds_bytes.specs.Ordered.{IsOrderedBy}
 use Rattle.ds_bytes.specs.OrderedLaws.{then-assoc}
 

@@ -1,15 +1,13 @@
 -- The bytes of rows have the order of the rows, and are read in one way.
-use Rattle.std.specs.Prelude.{◌≡◌, ℕ, suc, Bool, true, false, List, [], ◌∷◌, ◌++◌, length, All, refl}
+use Rattle.std.specs.Prelude.{◌≡◌, ℕ, Bool, List, [], ◌∷◌, ◌++◌, length, All, refl}
 use Rattle.std.proofs.Common.{ap, sym, ◌∙◌, append_assoc, arith}
 use Rattle.std.proofs.lemmas.List.Elements.{All-head, All-tail}
-use Rattle.std.specs.declared.cmp.Ordering.{Ordering}
 use Rattle.std.specs.Ordering.{ordering_then}
-use Rattle.ds_base.specs.Keys.{KeyParts}
 use Rattle.ds_base.specs.KeyOrder.{bytes_cmp, key_cmp}
 use Rattle.ds_base.specs.IndexOrder.{index_value_cmp}
 use Rattle.ds_base.specs.declared.index_value.IndexValue.{IndexValue}
 use Rattle.ds_bytes.specs.Encoding.{encoding, key_encoding}
-use Rattle.ds_bytes.specs.Lawful.{IsValueOfBytes, IsKeyOfBytes}
+use Rattle.ds_bytes.specs.Lawful.{IsValueOfBytes}
 use Rattle.ds_bytes.specs.Ordered.{IsOrderedBy, directed_cmp}
 use Rattle.ds_bytes.specs.OrderedLaws.{then-assoc}
 use Rattle.ds_bytes.specs.EncodingLaws.{encoding-ordered, key_encoding-ordered, encoding-reads_once, key_encoding-reads_once}

@@ -1,5 +1,5 @@
 -- Signed numbers, raised so that none is negative, are compared as they were.
-use Rattle.std.specs.Prelude.{◌≡◌, ℕ, suc, ◌+◌, ◌-◌, ◌^◌, ◌<◌, ℤ, pos, negsuc, ◌<ℤ◌, Bool, true, false, T, List, ◌++◌, refl, FitsSigned}
+use Rattle.std.specs.Prelude.{◌≡◌, ◌^◌, ◌<◌, ℤ, pos, negsuc, ◌<ℤ◌, Bool, true, false, T, refl, FitsSigned}
 use Rattle.std.specs.Int.{w64}
 use Rattle.std.proofs.Common.{ap, sym, ◌∙◌, arith}
 use borrow.Author.Tests.{ltb-true}

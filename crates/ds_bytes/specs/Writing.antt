@@ -1,5 +1,5 @@
 -- What the pieces of an encoding leave of the buffer that they are put into.
-use Rattle.std.specs.Prelude.{◌≡◌, ℕ, ◌+◌, ◌≤◌, Bool, false, List, ◌++◌, length}
+use Rattle.std.specs.Prelude.{◌≡◌, ℕ, ◌+◌, ◌≤◌, false, List, ◌++◌, length}
 use Rattle.ds_bytes.specs.Encoding.{directed}
 use Rattle.ds_bytes.specs.declared.output.Output.{Output}
 

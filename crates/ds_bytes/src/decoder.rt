@@ -6,6 +6,7 @@ ghost use Rattle.ds_bytes.specs.Reading.{Begins, NoneBegins, Found, Reads, IsKey
 ghost use Rattle.ds_base.specs.Keys.{is_key};
 
 use crate::input::{behind, byte_at, read_bytes, read_number, read_text};
+use crate::marks::{ELEMENT, ID, KEY, NAME, NAMESPACE, NULL, NUMBER, PATH_END, SEQUENCE, TRUTH};
 use ds_base::{Elem, Elems, Ident, IndexValue, Key, NoMemory, TextString};
 use std::alloc::Global;
 
@@ -64,15 +65,15 @@ fn read_value(
         Some(found) => found,
     };
     let rest = behind(bytes, 1);
-    if class == 0x10 {
+    if class == NULL {
         Ok(Some((IndexValue::Null, 1)))
-    } else if class == 0x20 {
+    } else if class == NUMBER {
         read_signed(rest, descending)
-    } else if class == 0x30 {
+    } else if class == TRUTH {
         read_truth(rest, descending)
-    } else if class == 0x40 {
+    } else if class == SEQUENCE {
         read_sequence(alloc, rest, descending)
-    } else if class == 0x50 {
+    } else if class == KEY {
         read_key_value(alloc, rest, descending)
     } else {
         Ok(None)
@@ -81,7 +82,7 @@ fn read_value(
 
 /// The number whose bytes stand behind its class.
 fn read_signed(rest: &[u8], descending: bool) -> Result<Option<(IndexValue, usize)>, NoMemory>
-    ensures { Reads IsLawfulValue value_bytes (0x20 ∷ directed descending rest.now) result }
+    ensures { Reads IsLawfulValue value_bytes (NUMBER ∷ directed descending rest.now) result }
 {
     match read_number(rest, descending) {
         None => Ok(None),
@@ -98,7 +99,7 @@ fn lowered(number: u64) -> i64
 
 /// The truth value whose byte stands behind its class.
 fn read_truth(rest: &[u8], descending: bool) -> Result<Option<(IndexValue, usize)>, NoMemory>
-    ensures { Reads IsLawfulValue value_bytes (0x30 ∷ directed descending rest.now) result }
+    ensures { Reads IsLawfulValue value_bytes (TRUTH ∷ directed descending rest.now) result }
 {
     match byte_at(rest, 0, descending) {
         Some(0x00) => Ok(Some((IndexValue::Bool(false), 2))),
@@ -113,7 +114,7 @@ fn read_sequence(
     rest: &[u8],
     descending: bool,
 ) -> Result<Option<(IndexValue, usize)>, NoMemory>
-    ensures { Reads IsLawfulValue value_bytes (0x40 ∷ directed descending rest.now) result }
+    ensures { Reads IsLawfulValue value_bytes (SEQUENCE ∷ directed descending rest.now) result }
 {
     match read_bytes(alloc, rest, descending)? {
         None => Ok(None),
@@ -127,7 +128,7 @@ fn read_key_value(
     rest: &[u8],
     descending: bool,
 ) -> Result<Option<(IndexValue, usize)>, NoMemory>
-    ensures { Reads IsLawfulValue value_bytes (0x50 ∷ directed descending rest.now) result }
+    ensures { Reads IsLawfulValue value_bytes (KEY ∷ directed descending rest.now) result }
 {
     match read_key(alloc, rest, descending)? {
         None => Ok(None),
@@ -143,7 +144,7 @@ fn read_key(alloc: Global, bytes: &[u8], descending: bool) -> Result<Option<(Key
         None => return Ok(None),
         Some(found) => found,
     };
-    if first == 0x03 {
+    if first == NAMESPACE {
         read_named_key(alloc, behind(bytes, 1), descending)
     } else {
         read_default_key(alloc, bytes, descending)
@@ -170,7 +171,7 @@ fn read_named_key(
     rest: &[u8],
     descending: bool,
 ) -> Result<Option<(Key, usize)>, NoMemory>
-    ensures { Reads IsNamedKey key_bytes (0x03 ∷ directed descending rest.now) result }
+    ensures { Reads IsNamedKey key_bytes (NAMESPACE ∷ directed descending rest.now) result }
 {
     match read_text(alloc, rest, descending)? {
         None => Ok(None),
@@ -212,10 +213,10 @@ fn read_path(
             None => return Ok(None),
             Some(found) => found,
         };
-        if tag == 0x01 {
+        if tag == PATH_END {
             return Ok(Some((Elems::from(path), taken + 1)));
         }
-        if tag != 0x02 {
+        if tag != ELEMENT {
             return Ok(None);
         }
         match read_elem(alloc, behind(rest, 1), descending)? {
@@ -258,9 +259,9 @@ fn read_ident(
         Some(found) => found,
     };
     let rest = behind(bytes, 1);
-    if tag == 0x10 {
+    if tag == ID {
         read_id(rest, descending)
-    } else if tag == 0x20 {
+    } else if tag == NAME {
         read_name(alloc, rest, descending)
     } else {
         Ok(None)
@@ -269,7 +270,7 @@ fn read_ident(
 
 /// The id whose bytes stand behind the byte that announces it.
 fn read_id(rest: &[u8], descending: bool) -> Result<Option<(Ident, usize)>, NoMemory>
-    ensures { Reads IsLawfulIdent ident_bytes (0x10 ∷ directed descending rest.now) result }
+    ensures { Reads IsLawfulIdent ident_bytes (ID ∷ directed descending rest.now) result }
 {
     match read_number(rest, descending) {
         None => Ok(None),
@@ -283,7 +284,7 @@ fn read_name(
     rest: &[u8],
     descending: bool,
 ) -> Result<Option<(Ident, usize)>, NoMemory>
-    ensures { Reads IsLawfulIdent ident_bytes (0x20 ∷ directed descending rest.now) result }
+    ensures { Reads IsLawfulIdent ident_bytes (NAME ∷ directed descending rest.now) result }
 {
     match read_text(alloc, rest, descending)? {
         None => Ok(None),

@@ -5,6 +5,7 @@ ghost use Rattle.ds_bytes.specs.Lawful.{IsText, IsLawfulValue, IsLawfulKey, IsLa
 ghost use Rattle.ds_bytes.specs.Writing.{Puts};
 ghost use Rattle.ds_bytes.specs.Appending.{Appends};
 
+use crate::marks::{ELEMENT, ID, KEY, NAME, NAMESPACE, NULL, NUMBER, PATH_END, SEQUENCE, TRUTH};
 use crate::output::{Output, begin, end, put, put_text};
 use core::mem::replace_with;
 use ds_base::{Buffer, Elem, Ident, IndexValue, Key, NoMemory, TextString};
@@ -65,16 +66,16 @@ fn put_value(value: &IndexValue, output: &mut Output)
     ensures lawful { IsLawfulValue value.now }
 {
     match value {
-        IndexValue::Null => put(&[0x10], output),
-        IndexValue::Num(number) => put_number(0x20, raised(*number), output),
-        IndexValue::Bool(truth) => put(&[0x30, u8::from(*truth)], output),
+        IndexValue::Null => put(&[NULL], output),
+        IndexValue::Num(number) => put_number(NUMBER, raised(*number), output),
+        IndexValue::Bool(truth) => put(&[TRUTH, u8::from(*truth)], output),
         IndexValue::Bytes(sequence) => {
             let bytes = sequence.bytes();
-            put(&[0x40], output);
+            put(&[SEQUENCE], output);
             put_text(bytes, output);
         }
         IndexValue::Key(key) => {
-            put(&[0x50], output);
+            put(&[KEY], output);
             put_key(key, output);
         }
     }
@@ -110,7 +111,7 @@ fn put_namespace(namespace: &TextString, output: &mut Output)
 {
     let bytes = namespace.bytes();
     if !bytes.is_empty() {
-        put(&[0x03], output);
+        put(&[NAMESPACE], output);
         put_text(bytes, output);
     }
 }
@@ -132,14 +133,14 @@ fn put_path(path: &[Elem], output: &mut Output)
     for elem in path {
         put_elem(elem, output);
     }
-    put(&[0x01], output);
+    put(&[PATH_END], output);
 }
 
 fn put_elem(elem: &Elem, output: &mut Output)
     ensures puts { Puts (elem_bytes elem.now) output.old output.new }
     ensures lawful { IsLawfulElem elem.now }
 {
-    put_tagged(0x02, &elem.kind, output);
+    put_tagged(ELEMENT, &elem.kind, output);
     put_ident(&elem.ident, output);
 }
 
@@ -148,7 +149,7 @@ fn put_ident(ident: &Ident, output: &mut Output)
     ensures lawful { IsLawfulIdent ident.now }
 {
     match ident {
-        Ident::Id(id) => put_number(0x10, *id, output),
-        Ident::Name(name) => put_tagged(0x20, name, output),
+        Ident::Id(id) => put_number(ID, *id, output),
+        Ident::Name(name) => put_tagged(NAME, name, output),
     }
 }

@@ -6,6 +6,7 @@ ghost use Rattle.ds_bytes.specs.Lawful.{AreBytes, IsText};
 ghost use Rattle.ds_bytes.specs.Reading.{Begins, NoneBegins, Reads};
 
 use crate::blocks::BLOCK;
+use crate::marks::{STAYS, TEXT_END, ZERO};
 use ds_base::{ByteString, NoMemory, TextString};
 use ds_lanes::{complement, first_zero};
 use std::alloc::Global;
@@ -70,13 +71,13 @@ pub(crate) fn read_bytes(
             Some(found) => found,
         };
         taken += run + 2;
-        if follower == 0x01 {
+        if follower == TEXT_END {
             return Ok(Some((ByteString::from_vec(text), taken)));
         }
-        if follower != 0xff {
+        if follower != STAYS {
             return Ok(None);
         }
-        text.push(0)?;
+        text.push(ZERO)?;
         rest = behind(rest, run + 2);
     }
 }

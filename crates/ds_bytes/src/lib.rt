@@ -11,6 +11,7 @@ mod blocks;
 pub mod decoder;
 pub mod encoder;
 mod input;
+mod marks;
 mod output;
 
 pub use decoder::{Decoded, DecodedKey, decode, decode_key};

@@ -4,6 +4,7 @@ ghost use Rattle.ds_bytes.specs.Encoding.{directed, escaped};
 ghost use Rattle.ds_bytes.specs.Writing.{Puts};
 
 use crate::blocks::BLOCK;
+use crate::marks::{STAYS, TEXT_END, ZERO};
 use ds_base::{Buffer, ByteString, NoMemory};
 use ds_lanes::{complement, first_zero};
 use std::alloc::AllocError;
@@ -99,11 +100,11 @@ pub(crate) fn put_text(text: &[u8], output: &mut Output)
     while run < rest.len() {
         let (plain, from_zero) = rest.split_at(run);
         put(plain, output);
-        put(&[0x00, 0xff], output);
+        put(&[ZERO, STAYS], output);
         let (_zero, behind) = from_zero.split_at(1);
         rest = behind;
         run = first_zero(rest);
     }
     put(rest, output);
-    put(&[0x00, 0x01], output);
+    put(&[ZERO, TEXT_END], output);
 }

@@ -6,7 +6,12 @@ use std::test::Fail;
 
 /// Whether the value is written as these bytes, and they are read as it before anything else, and are no encoding without
 /// the last of them.
-fn agrees(alloc: Global, value: &IndexValue, descending: bool, bytes: &[u8]) -> Result<bool, NoMemory> {
+fn agrees(
+    alloc: Global,
+    value: &IndexValue,
+    descending: bool,
+    bytes: &[u8],
+) -> Result<bool, NoMemory> {
     let mut written = Buffer::new(alloc);
     encode(value, descending, &mut written)?;
     if written.bytes() != bytes {
@@ -23,7 +28,12 @@ fn agrees(alloc: Global, value: &IndexValue, descending: bool, bytes: &[u8]) -> 
 }
 
 /// The same of a key.
-fn agrees_as_key(alloc: Global, key: &Key, descending: bool, bytes: &[u8]) -> Result<bool, NoMemory> {
+fn agrees_as_key(
+    alloc: Global,
+    key: &Key,
+    descending: bool,
+    bytes: &[u8],
+) -> Result<bool, NoMemory> {
     let mut written = Buffer::new(alloc);
     encode_key(key, descending, &mut written)?;
     if written.bytes() != bytes {
@@ -67,6 +77,7 @@ fn greeting(alloc: Global) -> Result<Key, Fail> {
 }
 
 const TASK: &[u8] = b"\x02Task\x00\x01\x20a\x00\x01\x01";
+
 const TURNED_TASK: &[u8] = b"\xfd\xab\x9e\x8c\x94\xff\xfe\xdf\x9e\xff\xfe\xfe";
 
 #[test]
@@ -79,15 +90,20 @@ fn writes_and_reads_numbers(rt: HostRuntime) -> Result<(), Fail> {
         (i64::MIN, false, b"\x20\x00\x00\x00\x00\x00\x00\x00\x00"),
         (i64::MAX, false, b"\x20\xff\xff\xff\xff\xff\xff\xff\xff"),
     ] {
-        assert!(rt; agrees(rt.alloc(), &IndexValue::Num(number), descending, bytes)?, "{number}");
+        assert!(rt;
+            agrees(rt.alloc(), &IndexValue::Num(number), descending, bytes)?,
+            "{number}"
+        );
     }
     Ok(())
 }
 
 #[test]
 fn writes_and_reads_sequences(rt: HostRuntime) -> Result<(), Fail> {
-    let long: &[u8] = b"\x40aaaaaaaaaaaaaaaaaaaaaaaaaaaaaaaaaaaaaaaaaaaaaaaaaaaaaaaaaaaaaaaaaaaaaaaa\x00\xffb\x00\x01";
-    let long_text: &[u8] = b"aaaaaaaaaaaaaaaaaaaaaaaaaaaaaaaaaaaaaaaaaaaaaaaaaaaaaaaaaaaaaaaaaaaaaaaa\x00b";
+    let long: &[u8] =
+        b"\x40aaaaaaaaaaaaaaaaaaaaaaaaaaaaaaaaaaaaaaaaaaaaaaaaaaaaaaaaaaaaaaaaaaaaaaaa\x00\xffb\x00\x01";
+    let long_text: &[u8] =
+        b"aaaaaaaaaaaaaaaaaaaaaaaaaaaaaaaaaaaaaaaaaaaaaaaaaaaaaaaaaaaaaaaaaaaaaaaa\x00b";
     for (text, descending, bytes) in [
         (b"a".as_slice(), false, b"\x40a\x00\x01".as_slice()),
         (b"a", true, b"\xbf\x9e\xff\xfe"),
@@ -108,11 +124,26 @@ fn writes_and_reads_keys(rt: HostRuntime) -> Result<(), Fail> {
     assert!(rt; agrees(alloc, &IndexValue::Null, false, b"\x10")?);
     assert!(rt; agrees(alloc, &IndexValue::Bool(false), false, b"\x30\x00")?);
     assert!(rt; agrees(alloc, &IndexValue::Bool(true), true, b"\xcf\xfe")?);
-    assert!(rt; agrees(alloc, &IndexValue::Key(task(alloc, "")?), false, b"\x50\x02Task\x00\x01\x20a\x00\x01\x01")?);
+    assert!(rt;
+        agrees(
+            alloc,
+            &IndexValue::Key(task(alloc, "")?),
+            false,
+            b"\x50\x02Task\x00\x01\x20a\x00\x01\x01"
+        )?
+    );
     assert!(rt; agrees_as_key(alloc, &task(alloc, "")?, false, TASK)?);
     assert!(rt; agrees_as_key(alloc, &task(alloc, "")?, true, TURNED_TASK)?);
-    assert!(rt; agrees_as_key(alloc, &task(alloc, "n.s")?, false, b"\x03n.s\x00\x01\x02Task\x00\x01\x20a\x00\x01\x01")?);
-    let bytes = b"\x02Guestbook\x00\x01\x20default\x00\x01\x02Greeting\x00\x01\x10\x00\x10\x00\x00\x00\x00\x00\x00\x01";
+    assert!(rt;
+        agrees_as_key(
+            alloc,
+            &task(alloc, "n.s")?,
+            false,
+            b"\x03n.s\x00\x01\x02Task\x00\x01\x20a\x00\x01\x01"
+        )?
+    );
+    let bytes =
+        b"\x02Guestbook\x00\x01\x20default\x00\x01\x02Greeting\x00\x01\x10\x00\x10\x00\x00\x00\x00\x00\x00\x01";
     assert!(rt; agrees_as_key(alloc, &greeting(alloc)?, false, bytes)?);
     Ok(())
 }
@@ -137,16 +168,37 @@ fn refuses_what_is_no_value(rt: HostRuntime) -> Result<(), Fail> {
 fn refuses_what_is_no_key(rt: HostRuntime) -> Result<(), Fail> {
     for (why, bytes) in [
         ("no element", b"\x01".as_slice()),
-        ("an id of 0", b"\x02T\x00\x01\x10\x00\x00\x00\x00\x00\x00\x00\x00\x01"),
-        ("an id of 2^63", b"\x02T\x00\x01\x10\x80\x00\x00\x00\x00\x00\x00\x00\x01"),
+        (
+            "an id of 0",
+            b"\x02T\x00\x01\x10\x00\x00\x00\x00\x00\x00\x00\x00\x01",
+        ),
+        (
+            "an id of 2^63",
+            b"\x02T\x00\x01\x10\x80\x00\x00\x00\x00\x00\x00\x00\x01",
+        ),
         ("an empty kind", b"\x02\x00\x01\x20a\x00\x01\x01"),
         ("an empty name", b"\x02T\x00\x01\x20\x00\x01\x01"),
-        ("a kind that is no text", b"\x02\xc3\x00\x01\x20a\x00\x01\x01"),
-        ("a name that is no text", b"\x02T\x00\x01\x20\xff\x00\x01\x01"),
-        ("an identifier of no kind", b"\x02T\x00\x01\x30a\x00\x01\x01"),
+        (
+            "a kind that is no text",
+            b"\x02\xc3\x00\x01\x20a\x00\x01\x01",
+        ),
+        (
+            "a name that is no text",
+            b"\x02T\x00\x01\x20\xff\x00\x01\x01",
+        ),
+        (
+            "an identifier of no kind",
+            b"\x02T\x00\x01\x30a\x00\x01\x01",
+        ),
         ("no end", b"\x02T\x00\x01\x20a\x00\x01\x03"),
-        ("the default namespace announced", b"\x03\x00\x01\x02T\x00\x01\x20a\x00\x01\x01"),
-        ("a namespace of other characters", b"\x03a b\x00\x01\x02T\x00\x01\x20a\x00\x01\x01"),
+        (
+            "the default namespace announced",
+            b"\x03\x00\x01\x02T\x00\x01\x20a\x00\x01\x01",
+        ),
+        (
+            "a namespace of other characters",
+            b"\x03a b\x00\x01\x02T\x00\x01\x20a\x00\x01\x01",
+        ),
         ("a namespace alone", b"\x03a\x00\x01\x01"),
     ] {
         assert!(rt; decode_key(rt.alloc(), bytes, false)?.is_none(), "{why}");
@@ -170,7 +222,12 @@ fn path(alloc: Global, elems: usize, letters: usize) -> Result<Buffer, NoMemory>
 
 #[test]
 fn keeps_the_limits_of_keys(rt: HostRuntime) -> Result<(), Fail> {
-    for (elems, letters, lawful) in [(100, 1, true), (101, 1, false), (1, 1500, true), (1, 1501, false)] {
+    for (elems, letters, lawful) in [
+        (100, 1, true),
+        (101, 1, false),
+        (1, 1500, true),
+        (1, 1501, false),
+    ] {
         let bytes = path(rt.alloc(), elems, letters)?;
         let found = decode_key(rt.alloc(), bytes.bytes(), false)?.is_some();
         assert_eq!(rt; found, lawful, "{elems} elements, {letters} letters");

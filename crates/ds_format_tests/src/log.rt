@@ -23,8 +23,16 @@ fn tells_shards_apart(rt: HostRuntime) -> Result<(), Fail> {
     let task = group(rt.alloc(), "Task", "a")?;
     let guestbook = group(rt.alloc(), "Guestbook", "default")?;
     for (shards, of_task, of_guestbook) in [(1, 0, 0), (7, 3, 5), (16, 2, 2)] {
-        assert_eq!(rt; shard_of(rt.alloc(), &task, shards)?, of_task, "of {shards}");
-        assert_eq!(rt; shard_of(rt.alloc(), &guestbook, shards)?, of_guestbook, "of {shards}");
+        assert_eq!(rt;
+            shard_of(rt.alloc(), &task, shards)?,
+            of_task,
+            "of {shards}"
+        );
+        assert_eq!(rt;
+            shard_of(rt.alloc(), &guestbook, shards)?,
+            of_guestbook,
+            "of {shards}"
+        );
     }
     Ok(())
 }

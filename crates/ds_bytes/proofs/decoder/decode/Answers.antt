@@ -1,4 +1,4 @@
-use Rattle.std.proofs.Common.{List, ℕ, arith, false}
+use Rattle.std.proofs.Common.{arith, false}
 use Rattle.ds_bytes.specs.Encoding.{directed, value_bytes}
 use Rattle.ds_bytes.specs.Lawful.{IsLawfulValue}
 use Rattle.ds_bytes.specs.LawfulLaws.{value_of_bytes}

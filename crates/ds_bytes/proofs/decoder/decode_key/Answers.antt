@@ -1,4 +1,4 @@
-use Rattle.std.proofs.Common.{List, ℕ, arith, false}
+use Rattle.std.proofs.Common.{arith, false}
 use Rattle.ds_bytes.specs.Encoding.{directed, key_bytes}
 use Rattle.ds_bytes.specs.Lawful.{IsLawfulKey}
 use Rattle.ds_bytes.specs.LawfulLaws.{key_of_bytes}

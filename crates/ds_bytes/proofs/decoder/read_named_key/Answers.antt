@@ -1,4 +1,4 @@
-use Rattle.std.proofs.Common.{◌≡◌, ◌≢◌, ◌∷◌, [], List, ℕ, drop, ap, sym, ◌∙◌}
+use Rattle.std.proofs.Common.{◌≡◌, ◌≢◌, [], List, ℕ, drop, ap, ◌∙◌}
 use Rattle.std.specs.Prelude.{All}
 use Rattle.ds_bytes.specs.Encoding.{directed, escaped, path_bytes}
 use Rattle.ds_bytes.specs.Lawful.{IsText, IsLawfulElem}

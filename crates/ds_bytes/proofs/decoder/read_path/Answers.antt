@@ -1,4 +1,4 @@
-use Rattle.std.proofs.Common.{◌≡◌, ◌++◌, ◌+◌, ◌≤◌, ◌<◌, ◌∷◌, [], List, ℕ, length, drop, slice_get, Some, ap, sym, subst, ◌∙◌, refl, arith, length-append, drop-drop}
+use Rattle.std.proofs.Common.{◌≡◌, ◌++◌, ◌+◌, ◌≤◌, ◌∷◌, [], List, ℕ, length, drop, Some, ap, sym, subst, ◌∙◌, refl, arith, length-append, drop-drop}
 use Rattle.std.specs.Prelude.{flat_map, All}
 use Rattle.std.proofs.lemmas.List.Elements.{All-append, All-cons, All-nil}
 use Rattle.ds_bytes.specs.Encoding.{directed, elem_rest, elem_bytes, path_bytes}
@@ -14,29 +14,29 @@ returns-in-None c =
     no_path_at_end (directed c.args.descending c.args.bytes.now) (directed c.args.descending c.elems.rest.now) c.elems.path.items c.elems.invariant.lawful c.elems.invariant.so_far
     (no_front (directed c.args.descending c.elems.rest.now) (sym c.byte_at.ensures ∙ c.in-None.is))
 
-pub returns-then-tag-eq1 : goal.returns-then-tag-eq1
-returns-then-tag-eq1 c =
+pub returns-then-tag-eq-PATH_END : goal.returns-then-tag-eq-PATH_END
+returns-then-tag-eq-PATH_END c =
     let seen : List ℕ = directed c.args.descending c.args.bytes.now in
     let behind : List ℕ = directed c.args.descending (drop 1 c.elems.rest.now) in
     let split : directed c.args.descending c.elems.rest.now ≡ 1 ∷ behind =
-    tag_front c.args.descending c.elems.rest.now (drop 1 c.elems.rest.now) 1 (sym c.byte_at.ensures ∙ c.in-Some.is ∙ ap Some c.if-tag-eq1.true) refl in
+    tag_front c.args.descending c.elems.rest.now (drop 1 c.elems.rest.now) 1 (sym c.byte_at.ensures ∙ c.in-Some.is ∙ ap Some c.if-tag-eq-PATH_END.true) refl in
     subst (λ path. Found (All IsLawfulElem) path_bytes seen path (c.elems.taken + 1)) (sym c.from.ensures)
     (path_found seen behind c.elems.path.items c.elems.taken (c.elems.taken + 1) c.elems.invariant.lawful
     (c.elems.invariant.so_far ∙ ap (λ (xs : List ℕ). flat_map elem_bytes c.elems.path.items ++ xs) split) c.elems.invariant.long refl)
 
-pub returns-then-tag-ne2 : goal.returns-then-tag-ne2
-returns-then-tag-ne2 c =
+pub returns-then-tag-ne-ELEMENT : goal.returns-then-tag-ne-ELEMENT
+returns-then-tag-ne-ELEMENT c =
     let behind : List ℕ = directed c.args.descending (drop 1 c.elems.rest.now) in
     let split : directed c.args.descending c.elems.rest.now ≡ c.in-Some.found ∷ behind =
     tag_front c.args.descending c.elems.rest.now (drop 1 c.elems.rest.now) c.in-Some.found (sym c.byte_at.ensures ∙ c.in-Some.is) refl in
     no_path_at_tag (directed c.args.descending c.args.bytes.now) behind c.elems.path.items c.in-Some.found c.elems.invariant.lawful
-    (c.elems.invariant.so_far ∙ ap (λ (xs : List ℕ). flat_map elem_bytes c.elems.path.items ++ xs) split) c.if-tag-eq1.false c.if-tag-ne2.true
+    (c.elems.invariant.so_far ∙ ap (λ (xs : List ℕ). flat_map elem_bytes c.elems.path.items ++ xs) split) c.if-tag-eq-PATH_END.false c.if-tag-ne-ELEMENT.true
 
 pub returns-in-None-2 : goal.returns-in-None-2
 returns-in-None-2 c =
     let behind : List ℕ = directed c.args.descending c.behind.result.now in
     let split : directed c.args.descending c.elems.rest.now ≡ 2 ∷ behind =
-    tag_front c.args.descending c.elems.rest.now c.behind.result.now 2 (sym c.byte_at.ensures ∙ c.in-Some.is ∙ ap Some c.if-tag-ne2.false) c.behind.ensures in
+    tag_front c.args.descending c.elems.rest.now c.behind.result.now 2 (sym c.byte_at.ensures ∙ c.in-Some.is ∙ ap Some c.if-tag-ne-ELEMENT.false) c.behind.ensures in
     let none : NoneBegins IsLawfulElem elem_rest behind = rw c.in-None-2.is at c.in_ok-read_elem.ensures in
     no_path_at_elem (directed c.args.descending c.args.bytes.now) behind c.elems.path.items c.elems.invariant.lawful
     (c.elems.invariant.so_far ∙ ap (λ (xs : List ℕ). flat_map elem_bytes c.elems.path.items ++ xs) split) none
@@ -45,7 +45,7 @@ pub overflow_add-taken-in-Some-2 : goal.overflow_add-taken-in-Some-2
 overflow_add-taken-in-Some-2 c =
     let behind : List ℕ = directed c.args.descending c.behind.result.now in
     let split : directed c.args.descending c.elems.rest.now ≡ 2 ∷ behind =
-    tag_front c.args.descending c.elems.rest.now c.behind.result.now 2 (sym c.byte_at.ensures ∙ c.in-Some.is ∙ ap Some c.if-tag-ne2.false) c.behind.ensures in
+    tag_front c.args.descending c.elems.rest.now c.behind.result.now 2 (sym c.byte_at.ensures ∙ c.in-Some.is ∙ ap Some c.if-tag-ne-ELEMENT.false) c.behind.ensures in
     let found : Found IsLawfulElem elem_rest behind c.in-Some-2.elem c.in-Some-2.more = rw c.in-Some-2.is at c.in_ok-read_elem.ensures in
     let within : c.in-Some-2.more ≤ length behind = begins_within elem_rest behind c.in-Some-2.elem c.in-Some-2.more found.begins in
     let long = ap length (c.elems.invariant.so_far ∙ ap (λ (xs : List ℕ). flat_map elem_bytes c.elems.path.items ++ xs) split) in
@@ -57,7 +57,7 @@ elems-preserved c =
     let behind : List ℕ = directed c.args.descending c.behind.result.now in
     let later : List ℕ = directed c.args.descending c.behind-rest.result.now in
     let split : directed c.args.descending c.elems.rest.now ≡ 2 ∷ behind =
-    tag_front c.args.descending c.elems.rest.now c.behind.result.now 2 (sym c.byte_at.ensures ∙ c.in-Some.is ∙ ap Some c.if-tag-ne2.false) c.behind.ensures in
+    tag_front c.args.descending c.elems.rest.now c.behind.result.now 2 (sym c.byte_at.ensures ∙ c.in-Some.is ∙ ap Some c.if-tag-ne-ELEMENT.false) c.behind.ensures in
     let found : Found IsLawfulElem elem_rest behind c.in-Some-2.elem c.in-Some-2.more = rw c.in-Some-2.is at c.in_ok-read_elem.ensures in
     let at : later ≡ drop c.in-Some-2.more behind =
     ap (directed c.args.descending) (c.behind-rest.ensures ∙ sym (drop-drop c.in-Some-2.more 1 c.elems.rest.now) ∙ ap (drop c.in-Some-2.more) (sym c.behind.ensures))

@@ -1,5 +1,5 @@
-use Rattle.std.proofs.Common.{◌++◌, ◌∷◌, [], ◌≡◌, ◌<◌, ◌+◌, List, ℕ, length, arith, take, get_or, sym, subst, ◌∙◌, ap}
-use Rattle.std.specs.Prelude.{flat_map, All}
+use Rattle.std.proofs.Common.{◌++◌, ◌∷◌, [], ◌≡◌, ◌<◌, ◌+◌, length, take, sym, subst, ◌∙◌, ap}
+use Rattle.std.specs.Prelude.{flat_map}
 use Rattle.std.proofs.lemmas.List.{take_more, flat_map_more}
 use Rattle.std.proofs.lemmas.List.Elements.{All-more}
 use Rattle.ds_bytes.specs.Encoding.{elem_bytes}

@@ -1,5 +1,5 @@
 -- Where what is left is put, all is; and what was put is lawful.
-use Rattle.std.proofs.Common.{drop, ◌++◌, ◌∷◌, [], take}
+use Rattle.std.proofs.Common.{take}
 use Rattle.std.specs.Prelude.{flat_map, All}
 use Rattle.ds_bytes.specs.Encoding.{elem_bytes}
 use Rattle.ds_bytes.specs.Lawful.{IsLawfulElem}

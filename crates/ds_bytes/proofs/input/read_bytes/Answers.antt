@@ -1,4 +1,4 @@
-use Rattle.std.proofs.Common.{◌≡◌, ◌≢◌, ◌++◌, ◌+◌, ◌<◌, ◌≤◌, ℕ, List, length, arith, take, drop, slice_get, Some, None, ap, ◌∙◌, sym, refl}
+use Rattle.std.proofs.Common.{◌≡◌, ◌+◌, ◌<◌, ◌≤◌, ℕ, List, length, arith, drop, slice_get, Some, None, ap, ◌∙◌, sym, refl}
 use Rattle.ds_bytes.specs.Encoding.{directed}
 use Rattle.ds_bytes.proofs.Putting.{length-directed}
 use Rattle.ds_bytes.proofs.Readings.{directed-drop, directed-AreBytes, place_within}
@@ -18,10 +18,10 @@ returns-in-None c =
     no_text (directed c.args.descending c.args.bytes.now) rest c.runs.text.items c.in_ok-run.run' c.runs.invariant.so_far c.in_ok-run.ensures.run
     (λ found. none_is_none 1 (sym ends ∙ found)) (λ found. none_is_none 255 (sym ends ∙ found))
 
-pub returns-then-follower-eq1 : goal.returns-then-follower-eq1
-returns-then-follower-eq1 c =
+pub returns-then-follower-eq-TEXT_END : goal.returns-then-follower-eq-TEXT_END
+returns-then-follower-eq-TEXT_END c =
     let rest : List ℕ = directed c.args.descending c.runs.rest.now in
-    let found : slice_get rest (c.in_ok-run.run' + 1) ≡ Some 1 = sym c.byte_at.ensures ∙ c.in-Some.is ∙ ap Some c.if-follower-eq1.true in
+    let found : slice_get rest (c.in_ok-run.run' + 1) ≡ Some 1 = sym c.byte_at.ensures ∙ c.in-Some.is ∙ ap Some c.if-follower-eq-TEXT_END.true in
     let within : c.in_ok-run.run' ≤ length rest = omega (arith, c.in_ok-run.ensures.within, length-directed c.args.descending c.runs.rest.now) in
     text_found (directed c.args.descending c.args.bytes.now) rest c.runs.text.items c.from_vec.result c.in_ok-run.run' c.runs.taken (c.runs.taken + (c.in_ok-run.run' + 2))
     (directed-AreBytes c.args.descending c.args.bytes.now (λ i. omega (arith, c.type_inv.bytes i)))
@@ -32,7 +32,7 @@ returns-then-follower c =
     let rest : List ℕ = directed c.args.descending c.runs.rest.now in
     let follows : slice_get rest (c.in_ok-run.run' + 1) ≡ Some c.in-Some.found = sym c.byte_at.ensures ∙ c.in-Some.is in
     no_text (directed c.args.descending c.args.bytes.now) rest c.runs.text.items c.in_ok-run.run' c.runs.invariant.so_far c.in_ok-run.ensures.run
-    (λ found. c.if-follower-eq1.false (inside c.in-Some.found 1 (sym follows ∙ found))) (λ found. c.if-follower.true (inside c.in-Some.found 255 (sym follows ∙ found)))
+    (λ found. c.if-follower-eq-TEXT_END.false (inside c.in-Some.found 1 (sym follows ∙ found))) (λ found. c.if-follower.true (inside c.in-Some.found 255 (sym follows ∙ found)))
 
 pub behind-rest-requires : goal.behind-rest-requires
 behind-rest-requires c =

@@ -1,4 +1,4 @@
-use Rattle.std.proofs.Common.{◌++◌, ◌∷◌, [], ◌≡◌, ◌<◌, ◌≤◌, suc, List, ℕ, length, arith, take, drop, sym, subst, ◌∙◌, ap}
+use Rattle.std.proofs.Common.{◌++◌, ◌∷◌, [], ◌≡◌, ◌<◌, ◌≤◌, suc, length, arith, take, drop, sym, subst, ◌∙◌}
 use Rattle.ds_lanes.specs.Kernels.{first_zero}
 use Rattle.ds_bytes.specs.Encoding.{escaped}
 use Rattle.ds_bytes.specs.Writing.{Puts}

@@ -1,4 +1,4 @@
-use Rattle.std.proofs.Common.{◌++◌, ◌≡◌, List, ℕ, arith, take, drop, sym, subst, ◌∙◌, ap}
+use Rattle.std.proofs.Common.{◌++◌, ◌≡◌, take, drop, subst, ◌∙◌}
 use Rattle.std.proofs.lemmas.List.{take-append-drop}
 use Rattle.ds_bytes.specs.Writing.{Puts}
 use Rattle.ds_bytes.proofs.Putting.{puts_joined}
