@@ -1,4 +1,6 @@
 pub mod Buffers
+pub mod ColumnLaws
+pub mod Columns
 pub mod Entities
 pub mod IndexOrder
 pub mod IndexOrderLaws

@@ -1,4 +1,9 @@
 //! The columns of an index or of a query.
+ghost use Rattle.std.specs.Prelude.{◌≡◌, ◌↔◌, IsTrue};
+ghost use Rattle.std.specs.Cmp.{partial_equiv_from_equiv};
+ghost use Rattle.ds_base.specs.Columns.{same_column};
+ghost use Rattle.ds_base.specs.ColumnLaws.{same_column-equiv};
+
 use crate::sequence::{Sequence, TryCopy};
 use crate::text::TextString;
 use std::alloc::{AllocError, Global};
@@ -22,4 +27,27 @@ impl TryCopy for Column {
             descending: self.descending,
         })
     }
+}
+
+impl PartialEq for Column {
+    ghost eq = { same_column };
+
+    ghost laws = { partial_equiv_from_equiv same_column-equiv };
+
+    fn eq(&self, other: &Column) -> bool
+        ensures value { result ≡ same_column self.now other.now }
+        ensures same { IsTrue result ↔ (self.now ≡ other.now) }
+    {
+        compare_columns(self, other)
+    }
+}
+
+impl Eq for Column {
+    ghost laws = { same_column-equiv };
+}
+
+fn compare_columns(a: &Column, b: &Column) -> bool
+    ensures { result ≡ same_column a.now b.now }
+{
+    a.name == b.name && a.descending == b.descending
 }

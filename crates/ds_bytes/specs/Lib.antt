@@ -1,1 +1,16 @@
+pub mod AncestorLaws
+pub mod Appending
+pub mod ByteLaws
 pub mod Encoding
+pub mod EncodingLaws
+pub mod Lawful
+pub mod LawfulLaws
+pub mod NumberLaws
+pub mod Ordered
+pub mod OrderedLaws
+pub mod Reading
+pub mod ReadingLaws
+pub mod RowLaws
+pub mod Rows
+pub mod SignedLaws
+pub mod Writing

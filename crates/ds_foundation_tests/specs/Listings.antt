@@ -17,7 +17,8 @@ abbrev pub is_next : List ℕ × Bool → List ℕ × Bool → Bool
 is_next e f = cond f.1 (is_below e.0 f.0) (not (is_below f.0 e.0))
 
 abbrev pub IsInOrder : List (List ℕ × Bool) → Type 0
-IsInOrder es = (k : ℕ) (d : List ℕ × Bool) → k + 1 < length es → is_next (slice_index_or es k d) (slice_index_or es (k + 1) d) ≡ true
+IsInOrder es = (k : ℕ) (d : List ℕ × Bool) → k + 1 < length es
+    → is_next (slice_index_or es k d) (slice_index_or es (k + 1) d) ≡ true
 
 -- the entry before this place, if there is one, is below t
 abbrev pub IsPast : List ℕ → List (List ℕ × Bool) → ℕ → Type 0

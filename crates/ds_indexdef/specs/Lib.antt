@@ -1,0 +1,2 @@
+pub mod DefinitionLaws
+pub mod Definitions

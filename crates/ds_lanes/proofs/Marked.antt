@@ -1,28 +1,38 @@
 -- From the bits of a comparison to the lanes that it read.
 use Rattle.std.proofs.Common.{◌≡◌, ℕ, ◌+◌, ◌-◌, ◌*◌, ◌%◌, ◌^◌, ◌<◌, ◌≤◌, Bool, true, false, not, cond, List, map, length, get_or, bit_or, ap, sym, ◌∙◌, subst, arith, inl, inr}
-use Rattle.std.proofs.lemmas.Bool.{cases_lt, cond-true, false_from_ne_true, le-leb, not-true}
+use Rattle.std.proofs.lemmas.Bool.{cases_lt, cond-true, cond-false, false_from_ne_true, true_from_ne_false, le-leb, not-true, not-false}
 use Rattle.std.proofs.lemmas.List.{length-map}
-use Rattle.std.proofs.lemmas.List.Sums.{prefix_len-le-length, prefix_len_passes}
+use Rattle.std.proofs.lemmas.List.Sums.{prefix_len-le-length, prefix_len_passes, prefix_len_stops}
 use Rattle.std.proofs.lemmas.Nat.{le_or_l, le_or_r}
 use Rattle.std.proofs.lemmas.Simd.{first_set_mask_l, get_or-zip2, length-zip2, mask_l-mod}
 use Rattle.std.specs.List.{prefix_len}
 use lib.Lanes.{mask_l, top, zip2}
-use Rattle.ds_lanes.specs.Hits.{NoneIn, lanes_before}
+use Rattle.ds_lanes.specs.Hits.{NoneIn, IsFirstHit, lanes_before}
 
 -- a mask of n lanes, where lane k is set, in its bit h, at least where k is a hit
 pub record Marks (hit : ℕ → Bool) (n h : ℕ) (mask : List ℕ) : Type 0 where
   pub long : length mask ≡ n
   pub each : (k : ℕ) → k < n → hit k ≡ true → 2 ^ h ≤ get_or mask k 0
 
--- a comparison marks the lanes at which it holds
-pub compared : (hit : ℕ → Bool) (t : ℕ → ℕ → Bool) (n h full : ℕ) (xs ys : List ℕ) → 2 ^ h ≤ full → length xs ≡ n → length ys ≡ n
-    → ((k : ℕ) → k < n → hit k ≡ true → t (get_or xs k 0) (get_or ys k 0) ≡ true)
-    → Marks hit n h (zip2 (λ a b. cond (t a b) full 0) xs ys)
-compared hit t n h full xs ys high long_xs long_ys holds = record {
-  long = length-zip2 _ xs ys (long_xs ∙ sym long_ys) ∙ long_xs;
-  each = λ k lt yes.
-      let at = get_or-zip2 (λ a b. cond (t a b) full 0) xs ys k 0 0 0 (omega arith) (omega arith) ∙ cond-true _ full 0 (holds k lt yes) in
-      subst (λ x. 2 ^ h ≤ x) (sym at) high;
+-- such a mask, where lane k is set exactly where k is a hit
+pub record Tells (hit : ℕ → Bool) (n h : ℕ) (mask : List ℕ) : Type 0 where
+  pub marks : Marks hit n h mask
+  pub only : (k : ℕ) → k < n → hit k ≡ false → top h (get_or mask k 0) ≡ false
+
+-- a comparison tells the lanes at which it holds
+pub compared : (hit : ℕ → Bool) (t : ℕ → ℕ → Bool) (n h full : ℕ) (xs ys : List ℕ) → 2 ^ h ≤ full → top h 0 ≡ false → length xs ≡ n → length ys ≡ n
+    → ((k : ℕ) → k < n → t (get_or xs k 0) (get_or ys k 0) ≡ hit k)
+    → Tells hit n h (zip2 (λ a b. cond (t a b) full 0) xs ys)
+compared hit t n h full xs ys high clear long_xs long_ys is = record {
+  marks = record {
+    long = length-zip2 _ xs ys (long_xs ∙ sym long_ys) ∙ long_xs;
+    each = λ k lt yes.
+        let at = get_or-zip2 (λ a b. cond (t a b) full 0) xs ys k 0 0 0 (omega arith) (omega arith) ∙ cond-true _ full 0 (is k lt ∙ yes) in
+        subst (λ x. 2 ^ h ≤ x) (sym at) high;
+  };
+  only = λ k lt no.
+      let at = get_or-zip2 (λ a b. cond (t a b) full 0) xs ys k 0 0 0 (omega arith) (omega arith) ∙ cond-false _ full 0 (is k lt ∙ no) in
+      ap (top h) at ∙ clear;
 }
 
 pub either_left : (hit : ℕ → Bool) (n h : ℕ) (a b : List ℕ) → Marks hit n h a → length b ≡ n → Marks hit n h (zip2 bit_or a b)
@@ -64,6 +74,25 @@ passed_before hit i n h r mask m few is =
           let back : i + (k - i) ≡ k = omega arith in
           subst (λ j. hit j ≡ false) back (unset _ n h mask m (k - i) (omega (arith, counted))),
     )
+
+-- the lane of the first set bit is a hit
+first_set : (hit : ℕ → Bool) (n h r : ℕ) (mask : List ℕ) → Tells hit n h mask → r ≡ prefix_len (λ x. not (top h x)) mask → r < n → hit r ≡ true
+first_set hit n h r mask m is lt =
+    let inside : prefix_len (λ x. not (top h x)) mask < length mask = omega (arith, is, m.marks.long) in
+    let stops : not (top h (get_or mask r 0)) ≡ false = ap (λ k. not (top h (get_or mask k 0))) is ∙ prefix_len_stops (λ x. not (top h x)) mask 0 inside in
+    let set : top h (get_or mask r 0) ≡ true = not-false _ stops in
+    true_from_ne_false (hit r) (λ no. let clear : top h (get_or mask r 0) ≡ false = m.only r lt no in cc)
+
+-- so the place before which so many lanes are is the first hit
+pub first_place : (hit : ℕ → Bool) (i n h r : ℕ) (mask : List ℕ) → Tells (λ j. hit (i + j)) n h mask → n ≤ 64
+    → r ≡ lanes_before (mask_l (map (top h) mask) % 2 ^ 64) n → IsFirstHit hit i (i + n) (i + r)
+first_place hit i n h r mask m few is =
+    let parts = passed_before hit i n h r mask m.marks few is in
+    record {
+      within = omega (arith, parts.0);
+      passed = parts.1;
+      here = λ lt. first_set (λ j. hit (i + j)) n h r mask m (is ∙ bits_of _ n h mask m.marks few) (omega arith);
+    }
 
 -- a mask with no bit set, at the places from i on
 pub passed_all : (hit : ℕ → Bool) (i n h : ℕ) (mask : List ℕ) → Marks (λ j. hit (i + j)) n h mask → n ≤ 64

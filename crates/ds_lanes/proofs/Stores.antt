@@ -1,5 +1,5 @@
 -- A vector of 32 bytes that is stored by its halves, and the complement of one.
-use Rattle.std.proofs.Common.{◌≡◌, ℕ, ◌+◌, ◌-◌, ◌%◌, ◌<◌, ◌≤◌, List, ◌++◌, length, get_or, replicate, Fits, w8, ap, ap₂, sym, ◌∙◌, arith, zero-add, inl, inr}
+use Rattle.std.proofs.Common.{◌≡◌, ℕ, ◌+◌, ◌-◌, ◌%◌, ◌<◌, ◌≤◌, List, ◌++◌, length, get_or, replicate, Fits, w8, ap, ap₂, sym, ◌∙◌, subst, arith, zero-add, inl, inr}
 use Rattle.std.proofs.lemmas.Bool.{cases_lt}
 use Rattle.std.proofs.lemmas.Simd.{get_or-chunk, get_or-put_chunk_at, get_or-put_chunk_below, get_or-replicate, get_or-zip2, length-chunk, length-put_chunk, length-replicate, length-zip2, pick_l_left, pick_l-range_with_len}
 use Rattle.std.specs.List.{range_with_len}
@@ -61,3 +61,18 @@ complemented src at n room fits =
           ∙ ap₂ (λ a b. (a + (256 - b)) % 256) (get_or-replicate n k 255 0 lt) (get_or-chunk at n src k 0 lt)
           ∙ turned (get_or src (at + k) 0) (fits (at + k)).fits,
     )
+
+-- a vector that is complemented and stored whole
+module _ (dst src : List ℕ) (at n : ℕ) (room : at + n ≤ length src) (same : length dst ≡ length src) where
+  abbrev whole : List ℕ
+  whole = zip2 (λ a b. (a + (256 - b)) % 256) (replicate n 255) (chunk at n src)
+
+  pub turned_kept : (k : ℕ) → k < at → get_or (put_chunk at dst whole) k 0 ≡ get_or dst k 0
+  turned_kept k lt = get_or-put_chunk_below at dst whole k 0 lt
+
+  pub turned_written : ((k : ℕ) → Fits w8 (get_or src k 0)) → (k : ℕ) → at ≤ k → k < at + n → get_or (put_chunk at dst whole) k 0 ≡ 255 - get_or src k 0
+  turned_written fits k from to =
+      let parts = complemented src at n room fits in
+      let back : at + (k - at) ≡ k = omega arith in
+      subst (λ j. get_or (put_chunk at dst whole) j 0 ≡ 255 - get_or src j 0) back
+      (get_or-put_chunk_at at dst whole (k - at) 0 (omega (arith, parts.0)) (omega (arith, parts.0)) ∙ parts.1 (k - at) (omega arith))

@@ -1,7 +1,7 @@
 //! The search of two columns of stamps, from which and until before which each entry is seen.
 ghost use Rattle.std.specs.Prelude.{◌≡◌, ℕ, ◌+◌, ◌<◌, ◌≤◌, if◌then◌else◌, nat_le, length, slice_index, IsTrue};
 ghost use Rattle.ds_lanes.specs.Kernels.{first_visible, is_visible};
-ghost use Rattle.ds_lanes.specs.Hits.{NoneIn, visible_at};
+ghost use Rattle.ds_lanes.specs.Hits.{NoneIn, IsFirstHit, visible_at};
 
 use crate::masks::lanes_before;
 use std::simd::prelude::*;
@@ -11,6 +11,9 @@ const LANES: usize = 4;
 
 /// How many entries are tested at once while none is seen.
 const BLOCK: usize = 16;
+
+/// How many entries are looked at one by one before any vector is loaded: the newest stamp mostly finds its entry there.
+const NEAR: usize = 32;
 
 /// Gives the place of the first entry that is seen at the stamp `at`, or the length where none is.
 /// Entry i is seen from the stamp `from[i]` on until before the stamp `to[i]`.
@@ -22,11 +25,36 @@ pub fn first_visible(from: &[u64], to: &[u64], at: u64) -> usize
     ensures begun { result < length from.now → slice_index from.now result ≤ at }
     ensures not_ended { result < length from.now → at < slice_index to.now result }
 {
-    let mut i = pass_unseen_lanes(from, to, at, pass_unseen_blocks(from, to, at));
-    while i < from.len() && !is_seen(from[i], to[i], at) {
-        i += 1;
+    seen_place(from, to, at)
+}
+
+/// Looks at the near entries, and then at the rest if there is one.
+#[inline(always)]
+fn seen_place(from: &[u64], to: &[u64], at: u64) -> usize
+    requires { length from.now ≡ length to.now }
+    ensures { IsFirstHit (visible_at from.now to.now at) 0 (length from.now) result }
+{
+    let near = from.len().min(NEAR);
+    let place = seen_near(from, to, at, near);
+    if place < near || from.len() == near {
+        return place;
     }
-    i
+    seen_far(from, to, at)
+}
+
+/// A plain loop over the first `len` entries.
+#[inline(always)]
+fn seen_near(from: &[u64], to: &[u64], at: u64, len: usize) -> usize
+    requires equal { length from.now ≡ length to.now }
+    requires within { len ≤ length from.now }
+    ensures { IsFirstHit (visible_at from.now to.now at) 0 len result }
+{
+    for i in 0..len {
+        if is_seen(from[i], to[i], at) {
+            return i;
+        }
+    }
+    len
 }
 
 /// Whether an entry that holds from the stamp `from` until before `to` is seen at `at`.
@@ -37,50 +65,52 @@ fn is_seen(from: u64, to: u64, at: u64) -> bool
     from <= at && at < to
 }
 
-/// Passes whole blocks in which no entry is seen.
+/// Passes blocks and then vectors in which no entry is seen; the last vector ends where the entries do. It is a call of its
+/// own, so that the near entries are looked at in a short loop.
+#[inline(never)]
+fn seen_far(from: &[u64], to: &[u64], at: u64) -> usize
+    requires equal { length from.now ≡ length to.now }
+    requires more { NEAR < length from.now }
+    requires passed { NoneIn (visible_at from.now to.now at) 0 NEAR }
+    ensures { IsFirstHit (visible_at from.now to.now at) 0 (length from.now) result }
+{
+    let last = from.len() - LANES;
+    let mut i = pass_unseen_blocks(from, to, at);
+    while i < last {
+        let place = seen_among_lanes(from, to, at, i);
+        if place < i + LANES {
+            return place;
+        }
+        i += LANES;
+    }
+    seen_among_lanes(from, to, at, last)
+}
+
+/// Passes whole blocks, after the near entries, in which no entry is seen.
 #[inline(always)]
 fn pass_unseen_blocks(from: &[u64], to: &[u64], at: u64) -> usize
-    requires { length from.now ≡ length to.now }
+    requires equal { length from.now ≡ length to.now }
+    requires more { NEAR < length from.now }
+    requires passed { NoneIn (visible_at from.now to.now at) 0 NEAR }
     ensures within { result ≤ length from.now }
     ensures passed { NoneIn (visible_at from.now to.now at) 0 result }
 {
-    let mut i = 0;
+    let mut i = NEAR;
     while from.len() - i >= BLOCK && are_unseen(from, to, at, i) {
         i += BLOCK;
     }
     i
 }
 
-/// Passes entries, a vector at a time, up to one that is seen or to where fewer than `LANES` are left.
+/// The place of the first entry that is seen among those of the vectors at `i`, or that after them.
 #[inline(always)]
-fn pass_unseen_lanes(from: &[u64], to: &[u64], at: u64, start: usize) -> usize
-    requires equal { length from.now ≡ length to.now }
-    requires within { start ≤ length from.now }
-    requires passed { NoneIn (visible_at from.now to.now at) 0 start }
-    ensures within { result ≤ length from.now }
-    ensures passed { NoneIn (visible_at from.now to.now at) 0 result }
-{
-    let mut i = start;
-    while from.len() - i >= LANES {
-        let before = unseen_before(from, to, at, i);
-        if before < LANES {
-            return i + before;
-        }
-        i += LANES;
-    }
-    i
-}
-
-/// How many entries of the vectors at `i` come before the first that is seen.
-#[inline(always)]
-fn unseen_before(from: &[u64], to: &[u64], at: u64, i: usize) -> usize
+fn seen_among_lanes(from: &[u64], to: &[u64], at: u64, i: usize) -> usize
     requires equal { length from.now ≡ length to.now }
     requires room { i + LANES ≤ length from.now }
-    ensures within { result ≤ LANES }
-    ensures passed { NoneIn (visible_at from.now to.now at) i (i + result) }
+    ensures { IsFirstHit (visible_at from.now to.now at) i (i + LANES) result }
 {
     let seen = begun_ends(from, to, at, i).simd_gt(u64x4::splat(at));
-    lanes_before(seen.to_bitmask(), LANES)
+    i + lanes_before(seen.to_bitmask(), LANES)
 }
 
 /// Whether it is certain that no entry of the block at `i` is seen.

@@ -12,25 +12,60 @@ pub fn complement(dst: &mut [u8], src: &[u8])
     requires { length dst.old ≡ length src.now }
     ensures { dst.new ≡ complement src.now }
 {
-    let done = complement_lanes(dst, src);
-    for i in done..src.len() {
-        dst[i] = 255 - src[i];
+    if src.len() >= LANES {
+        turn_many(dst, src);
+    } else if src.len() >= 16 {
+        turn_16(dst, src, 0);
+        turn_16(dst, src, src.len() - 16);
+    } else if src.len() >= 8 {
+        turn_8(dst, src, 0);
+        turn_8(dst, src, src.len() - 8);
+    } else {
+        for i in 0..src.len() {
+            dst[i] = 255 - src[i];
+        }
     }
 }
 
-/// Writes the complements of whole vectors, and gives how many bytes those are.
+/// Turns whole vectors, and then, where bytes are left, the vector that ends with them.
 #[inline(always)]
-fn complement_lanes(dst: &mut [u8], src: &[u8]) -> usize
-    requires { length dst.old ≡ length src.now }
-    ensures within { result ≤ length src.now }
-    ensures written { (k : ℕ) → k < result → slice_index dst.new k ≡ 255 - slice_index src.now k }
+fn turn_many(dst: &mut [u8], src: &[u8])
+    requires same { length dst.old ≡ length src.now }
+    requires least { LANES ≤ length src.now }
+    ensures { (k : ℕ) → k < length src.now → slice_index dst.new k ≡ 255 - slice_index src.now k }
 {
-    let whole = src.len() / LANES;
-    for chunk in 0..whole {
+    for chunk in 0..src.len() / LANES {
         let at = chunk * LANES;
         store(complement_at(src, at), dst, at);
     }
-    whole * LANES
+    if src.len() % LANES != 0 {
+        let last = src.len() - LANES;
+        store(complement_at(src, last), dst, last);
+    }
+}
+
+/// Turns the 16 bytes at `at`.
+#[inline(always)]
+fn turn_16(dst: &mut [u8], src: &[u8], at: usize)
+    requires room { at + 16 ≤ length src.now }
+    requires same { length dst.old ≡ length src.now }
+    ensures kept { (k : ℕ) → k < at → slice_index dst.new k ≡ slice_index dst.old k }
+    ensures written { (k : ℕ) → at ≤ k → k < at + 16 → slice_index dst.new k ≡ 255 - slice_index src.now k }
+{
+    let turned = u8x16::splat(255) - u8x16::from_slice(&src[at..]);
+    turned.copy_to_slice(&mut dst[at..]);
+}
+
+/// Turns the 8 bytes at `at`.
+#[inline(always)]
+fn turn_8(dst: &mut [u8], src: &[u8], at: usize)
+    requires room { at + 8 ≤ length src.now }
+    requires same { length dst.old ≡ length src.now }
+    ensures kept { (k : ℕ) → k < at → slice_index dst.new k ≡ slice_index dst.old k }
+    ensures written { (k : ℕ) → at ≤ k → k < at + 8 → slice_index dst.new k ≡ 255 - slice_index src.now k }
+{
+    let turned = u8x8::splat(255) - u8x8::from_slice(&src[at..]);
+    turned.copy_to_slice(&mut dst[at..]);
 }
 
 /// The complements of the vector at `at`.

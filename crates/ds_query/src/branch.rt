@@ -1,4 +1,7 @@
 //! Branches: what is left of a query when `!=` and `in` are taken apart, and each condition stands in its place.
+//!
+//! `specs/Lawful` says what every branch, normal form and window keeps.
+use crate::option::copy_option;
 use crate::query::Select;
 use crate::row::Place;
 use ds_base::{Columns, IndexValue, Key, Sequence, TextString, TryCopy};
@@ -7,7 +10,9 @@ use std::alloc::{AllocError, Global};
 /// An equality: the property has this value among its indexed values.
 #[derive(Drop)]
 pub struct Pair {
+    /// The property's name, never `__key__`.
     pub property: TextString,
+    /// The value that one of its indexed values equals.
     pub value: IndexValue,
 }
 
@@ -17,27 +22,37 @@ pub type Pairs = Sequence<Pair>;
 /// One end of a range.
 #[derive(Drop)]
 pub struct Bound {
+    /// The value at the end; a key where the first column is `__key__`.
     pub value: IndexValue,
+    /// Whether the value itself is in the range.
     pub inclusive: bool,
 }
 
 /// The values that the first column may have; no bound is no limit.
 #[derive(Drop)]
 pub struct Range {
+    /// Values from here on alone.
     pub lower: Option<Bound>,
+    /// Values up to here alone.
     pub upper: Option<Bound>,
 }
 
 /// A query without `!=` and `in`.
 #[derive(Drop)]
 pub struct Branch {
+    /// It sees the entities of this namespace alone.
     pub namespace: TextString,
+    /// The kind of its entities; any where there is none.
     pub kind: Option<TextString>,
+    /// What its entities lie under, itself among them; anything where there is none.
     pub ancestor: Option<Key>,
+    /// The equalities that each entity meets.
     pub equal: Pairs,
+    /// What the first column's values lie within.
     pub range: Range,
     /// What the rows are sorted by; `__key__` is the last.
     pub columns: Columns,
+    /// What is given of each result.
     pub select: Select,
 }
 
@@ -47,7 +62,9 @@ pub type Branches = Sequence<Branch>;
 /// A query taken apart: its branches, and the columns that their rows are united by.
 #[derive(Drop)]
 pub struct Normal {
+    /// One for each way to take the `!=` and `in` filters apart; they differ in pairs and ranges alone.
     pub branches: Branches,
+    /// What the united rows are sorted by: the branches' columns, and the orders on properties with an `in`.
     pub merged: Columns,
     /// Whether the query has `!=` or `in`, also where they give one branch.
     pub several: bool,
@@ -71,6 +88,59 @@ impl TryCopy for Pair {
         Ok(Pair {
             property: self.property.copy(alloc)?,
             value: self.value.copy(alloc)?,
+        })
+    }
+}
+
+impl TryCopy for Bound {
+    fn copy(&self, alloc: Global) -> Result<Bound, AllocError> {
+        Ok(Bound {
+            value: self.value.copy(alloc)?,
+            inclusive: self.inclusive,
+        })
+    }
+}
+
+impl TryCopy for Range {
+    fn copy(&self, alloc: Global) -> Result<Range, AllocError> {
+        Ok(Range {
+            lower: copy_option(alloc, &self.lower)?,
+            upper: copy_option(alloc, &self.upper)?,
+        })
+    }
+}
+
+impl TryCopy for Branch {
+    fn copy(&self, alloc: Global) -> Result<Branch, AllocError> {
+        Ok(Branch {
+            namespace: self.namespace.copy(alloc)?,
+            kind: copy_option(alloc, &self.kind)?,
+            ancestor: copy_option(alloc, &self.ancestor)?,
+            equal: self.equal.copy(alloc)?,
+            range: self.range.copy(alloc)?,
+            columns: self.columns.copy(alloc)?,
+            select: self.select.copy(alloc)?,
+        })
+    }
+}
+
+impl TryCopy for Normal {
+    fn copy(&self, alloc: Global) -> Result<Normal, AllocError> {
+        Ok(Normal {
+            branches: self.branches.copy(alloc)?,
+            merged: self.merged.copy(alloc)?,
+            several: self.several,
+        })
+    }
+}
+
+impl TryCopy for Window {
+    fn copy(&self, alloc: Global) -> Result<Window, AllocError> {
+        Ok(Window {
+            start: copy_option(alloc, &self.start)?,
+            end: copy_option(alloc, &self.end)?,
+            offset: self.offset,
+            limit: self.limit,
         })
     }
 }

@@ -1,5 +1,9 @@
 //! Why a query is refused.
+ghost use Rattle.std.specs.Prelude.{◌≡◌};
+ghost use Rattle.ds_query.specs.declared.refusal.QueryRefused.TheVariants as refused;
+
 use crate::branch::Pair;
+use std::alloc::AllocError;
 
 /// The rule that a query breaks: the first of these, in this order.
 #[derive(Clone, Copy, PartialEq, Eq)]
@@ -41,8 +45,18 @@ pub enum Constraint {
 /// Why a query has no normal form.
 #[derive(Drop)]
 pub enum QueryRefused {
+    /// The first rule that the query breaks.
     Bad(Reason),
     /// The number of branches, or 2^63 - 1 where it is larger; it is above 30.
     TooManySubqueries { count: u64 },
+    /// There was no memory.
     NoMemory,
+}
+
+impl From<AllocError> for QueryRefused {
+    ghost from_gives = { λ e r. r ≡ refused.NoMemory };
+
+    fn from(_refused: AllocError) -> QueryRefused {
+        QueryRefused::NoMemory
+    }
 }

@@ -15,9 +15,10 @@ use std::sync::ledger::Ledger;
 /// A join that goes on from its last answer, without being given it again. Contracts see the number of scans and where it
 /// stands, `last`.
 ///
-/// It carries the law that the bounds of successive answers add up. A caller keeps `IsWalked` from the walk's beginning on,
-/// which holds at once where it began; `walks_on` brings it to each answer. So whether the walk is stopped after m answers
-/// or goes to its end, its steps are within what `IsWalked` and `walk_within` say of the whole way, and not of each call.
+/// It carries the law that the bounds of successive answers add up. A caller keeps `IsWalked` from the walk's beginning on:
+/// it holds there (`begins`), and `walks_on` brings it to each answer. So where the walk is stopped after some answers its
+/// steps are within `steps_up_to` the last one, and at its end, or at a refusal, within `steps_to_end` (`walk_within`), which
+/// `stops` says too of each walk that is on its way.
 #[derive(Drop)]
 pub struct Walk {
     scans: usize,
@@ -49,6 +50,8 @@ impl Walk {
         ensures stands { IfOk result (λ walk. walk.last ≡ option_copied after.entry) }
         ensures begins { (start : Option (List ℕ)) (strings passed : List (List (List ℕ))) (now : ℕ) →
             IsWalked scans start start strings passed now now }
+        ensures stops { (start last : Option (List ℕ)) (strings passed : List (List (List ℕ))) (begun now : ℕ) →
+            IsWalked scans start last strings passed begun now → now ≤ begun + steps_to_end scans start strings passed }
     {
         let mut at = Vec::with_capacity(alloc, FIRST_ROOM)?;
         let mut stands = false;
@@ -76,7 +79,9 @@ impl Walk {
         ensures none_is_left { IfOk result (λ found. IfNone found (HasNoNextCommon self.old.last (map S.strings scans.old))) }
         ensures same_strings { map S.strings scans.new ≡ map S.strings scans.old }
         ensures same_passed { map S.passed scans.new ≡ map S.passed scans.old }
-        ensures* stands { sem 𝓛 (Rests the_row self.entry (λ new. (new.scans ≡ self.old.scans) × IfOk result (λ found. IfSome found (λ a. new.last ≡ Some a.now)))) }
+        // What becomes of the walk when the answer, which is borrowed from it, is let go.
+        ensures* stands { sem 𝓛 (Rests the_row self.entry (λ new.
+            (new.scans ≡ self.old.scans) × IfOk result (λ found. IfSome found (λ a. new.last ≡ Some a.now)))) }
 
         ensures walks_on { IfOk result (λ found. IfSome found (λ a. (start : Option (List ℕ)) (begun : ℕ) →
             IsWalked self.old.scans start self.old.last (map S.strings scans.old) (map S.passed scans.old) begun steps.old →

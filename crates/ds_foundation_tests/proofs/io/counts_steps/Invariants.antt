@@ -2,4 +2,4 @@ use Rattle.ds_foundation_tests.proofs.io.counts_steps.Given as goal
 
 -- the ledger is the one that the blank becomes
 abbrev pub ghosts-count_steps : goal.ghosts-count_steps
-ghosts-count_steps g a = record { name = a.blank.name; parts = a.blank.parts }
+ghosts-count_steps a = record { name = a.blank.name; parts = a.blank.parts }

@@ -12,7 +12,7 @@ returns c = λ quiet.
     let at = c.args.at in
     let i = c.args.i in
     block_passed (visible_at from to at) i 4 63 _ _ _ _
-    (seen from to _ at i 4 c.begun_ends.ensures.long c.begun_ends.ensures.each)
-    (seen from to _ at (i + 4) 4 c.begun_ends-2.ensures.long c.begun_ends-2.ensures.each)
-    (seen from to _ at (i + 8) 4 c.begun_ends-3.ensures.long c.begun_ends-3.ensures.each)
-    (seen from to _ at (i + 12) 4 c.begun_ends-4.ensures.long c.begun_ends-4.ensures.each) (omega arith) (eqb-true _ _ quiet)
+    (seen from to _ at i 4 c.begun_ends.ensures.long c.begun_ends.ensures.each).marks
+    (seen from to _ at (i + 4) 4 c.begun_ends-2.ensures.long c.begun_ends-2.ensures.each).marks
+    (seen from to _ at (i + 8) 4 c.begun_ends-3.ensures.long c.begun_ends-3.ensures.each).marks
+    (seen from to _ at (i + 12) 4 c.begun_ends-4.ensures.long c.begun_ends-4.ensures.each).marks (omega arith) (eqb-true _ _ quiet)

@@ -12,7 +12,7 @@ loop-agreed-init g c =
     let as_many = length-map c.args.scans.now g.S.Scan.passed ∙ sym (length-map c.args.scans.now g.S.Scan.strings) in
     record {
       progress = subst (λ v. Progress (string_below c.args.target.now.items) (map g.S.Scan.strings c.args.scans.now) (map g.S.Scan.passed c.args.scans.now) v 0 0 c.args.steps.now c.args.steps.now) (sym c.requires.from_above)
-      (started (string_below c.args.target.now.items) (map g.S.Scan.strings c.args.scans.now) (map g.S.Scan.passed c.args.scans.now) c.args.steps.now as_many);
+          (started (string_below c.args.target.now.items) (map g.S.Scan.strings c.args.scans.now) (map g.S.Scan.passed c.args.scans.now) c.args.steps.now as_many);
       same_strings = search rules;
       same_passed = search rules;
     }

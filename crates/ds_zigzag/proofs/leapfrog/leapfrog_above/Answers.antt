@@ -1,4 +1,3 @@
-use Rattle.std.proofs.Common.{rules}
 use Rattle.ds_zigzag.proofs.leapfrog.leapfrog_above.Goals as goal
 
 pub returns-clause-steps_when_refused : goal.returns-clause-steps_when_refused

@@ -1,0 +1,10 @@
+//! Tests of the formats: what encodings of bytes look like, what is none, the hash that tells shards apart, and what a query
+//! means. They stand above the libraries, so that these are proved without them. It has nothing to call.
+#![tactic(auto)]
+
+#[cfg(test)]
+mod bytes;
+#[cfg(test)]
+mod log;
+#[cfg(test)]
+mod query;

@@ -1,0 +1,9 @@
+use Rattle.std.proofs.Common.{◌-◌, length}
+use Rattle.ds_lanes.specs.Hits.{NoneIn, visible_at}
+use Rattle.ds_lanes.proofs.columns.seen_far.Given as goal
+
+abbrev pub invariant-loop-i : goal.invariant-loop-i
+invariant-loop-i l = NoneIn (visible_at l.from l.to l.at) 0 l.i
+
+abbrev pub decreases-loop-i : goal.decreases-loop-i
+decreases-loop-i l = length l.from - l.i

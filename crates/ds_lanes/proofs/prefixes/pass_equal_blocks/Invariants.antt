@@ -1,0 +1,9 @@
+use Rattle.std.proofs.Common.{◌-◌, ◌≤◌}
+use Rattle.ds_lanes.specs.Hits.{NoneIn, differ_at}
+use Rattle.ds_lanes.proofs.prefixes.pass_equal_blocks.Given as goal
+
+abbrev pub invariant-loop-at : goal.invariant-loop-at
+invariant-loop-at l = record { within : l.at ≤ l.len; passed : NoneIn (differ_at l.a l.b) 0 l.at }
+
+abbrev pub decreases-loop-at : goal.decreases-loop-at
+decreases-loop-at l = l.len - l.at

@@ -1,0 +1,28 @@
+-- The one table of the names of a request's members: requests are read by it, and refusals are told by it.
+use Rattle.std.specs.Prelude.{ℕ, List, codes}
+use Rattle.ds_query.specs.declared.field.Field.{Field}
+use Rattle.ds_query.specs.declared.field.Field.TheVariants as field
+
+abbrev pub field_name : Field → List ℕ
+field_name field.Line = codes "line"
+field_name field.Client = codes "client"
+field_name field.Op = codes "op"
+field_name field.Namespace = codes "namespace"
+field_name field.Entity = codes "entity"
+field_name field.Key = codes "key"
+field_name field.Kind = codes "kind"
+field_name field.Ancestor = codes "ancestor"
+field_name field.Filters = codes "filters"
+field_name field.Orders = codes "orders"
+field_name field.Select = codes "select"
+field_name field.Offset = codes "offset"
+field_name field.Limit = codes "limit"
+field_name field.Start = codes "start"
+field_name field.End = codes "end"
+field_name field.Cursor = codes "cursor"
+field_name field.Text = codes "text"
+field_name field.Args = codes "args"
+field_name field.Names = codes "names"
+field_name field.Xg = codes "xg"
+field_name field.Count = codes "count"
+field_name field.Shard = codes "shard"
