@@ -7,6 +7,7 @@ use Rattle.serde_json.specs.Data.{Data, null, boolean, number, string, array, ob
 use Rattle.ds_base.specs.Keys.{is_namespace}
 use Rattle.ds_base.specs.declared.value.Value.{Value}
 use Rattle.ds_query.specs.Fields.{field_name}
+use Rattle.ds_query.specs.Filters.{enough_values, has_operands}
 use Rattle.ds_query.specs.declared.field.Field.{Field}
 use Rattle.ds_query.specs.declared.field.Field.TheVariants as field
 use Rattle.ds_query.specs.declared.query.Op.{Op}
@@ -23,7 +24,7 @@ use Rattle.ds_request.specs.Keys.{key_of}
 use Rattle.ds_request.specs.Values.{value_of}
 use Rattle.ds_request.specs.Queries.{text_of, name_of, namespace_of, flag_of, results_of, count_of, some_of, list_of, op_of, operands_of, filter_of, order_of, select_of, named_values_of}
 use Rattle.ds_request.specs.Requests.{told_at, member_read, query_call_of, gql_call_of, allocate_ids_call_of}
-use Rattle.ds_request.specs.Lawful.{enough_values, has_operands, IsLawfulCall}
+use Rattle.ds_request.specs.Lawful.{IsLawfulCall}
 
 -- ---- what is kept along a chain
 
