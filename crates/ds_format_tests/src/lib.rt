@@ -1,6 +1,8 @@
-//! Tests of the formats: what a query means. They stand above the libraries, so that these are proved without them. It has
-//! nothing to call.
+//! Tests of the formats: what a query means, and what is read of a line. They stand above the libraries, so that these are
+//! proved without them. It has nothing to call.
 #![tactic(auto)]
 
 #[cfg(test)]
 mod query;
+#[cfg(test)]
+mod request;
