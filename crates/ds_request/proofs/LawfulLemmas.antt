@@ -32,11 +32,11 @@ pub kept_then : {A B E : Type 0} (P : B → Type 0) (r : Result A E) (f : A → 
 kept_then P (Ok x) f next = next x refl
 kept_then P (Err e) f next = tt
 
-kept_as : {A B E : Type 0} (P : B → Type 0) (f : A → B) (r : Result A E) → IfOk r (λ x. P (f x)) → IfOk (read_as f r) P
+pub kept_as : {A B E : Type 0} (P : B → Type 0) (f : A → B) (r : Result A E) → IfOk r (λ x. P (f x)) → IfOk (read_as f r) P
 kept_as P f (Ok x) h = h
 kept_as P f (Err e) h = tt
 
-kept_told : {A : Type 0} (P : A → Type 0) (client : ℕ) (f : Field) (r : Result A Refusal) → IfOk r P → IfOk (told_at client f r) P
+pub kept_told : {A : Type 0} (P : A → Type 0) (client : ℕ) (f : Field) (r : Result A Refusal) → IfOk r P → IfOk (told_at client f r) P
 kept_told P client f (Ok x) h = h
 kept_told P client f (Err refusal.Request) h = tt
 kept_told P client f (Err refusal.Key) h = tt
@@ -47,7 +47,7 @@ kept_told P client f (Err refusal.NoMemory) h = tt
 pub value_kept : {A E : Type 0} (P : A → Type 0) (r : Result A E) (x : A) → r ≡ Ok x → IfOk r P → P x
 value_kept P r x is h = let Q : Result _ _ → Type 0 = λ s. IfOk s P in subst Q is h
 
-kept_defaulted : {A : Type 0} (P : A → Type 0) (absent : A) (form : Data → Result A Refusal) (given : Option Data) → P absent → ((d : Data) → IfOk (form d) P) → IfOk (defaulted absent form given) P
+pub kept_defaulted : {A : Type 0} (P : A → Type 0) (absent : A) (form : Data → Result A Refusal) (given : Option Data) → P absent → ((d : Data) → IfOk (form d) P) → IfOk (defaulted absent form given) P
 kept_defaulted P absent form None h each = h
 kept_defaulted P absent form (Some d) h each = each d
 

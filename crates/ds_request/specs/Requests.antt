@@ -133,3 +133,11 @@ line_data line = cond (is_utf8 line) (read line) None
 -- the request of a line, or why it is none
 abbrev pub request_of : List ℕ → Result Request RequestRefused
 request_of line = data_request_of (line_data line)
+
+-- the client that is told of a refusal
+abbrev pub client_told : RequestRefused → ℕ
+client_told refused.BadJson = 0
+client_told (refused.BadRequest client f) = client
+client_told (refused.BadKey client f) = client
+client_told (refused.BadValue client f) = client
+client_told refused.NoMemory = 0

@@ -1,11 +1,11 @@
 //! Reading a line.
-ghost use Rattle.std.specs.Prelude.{◌≡◌, ◌≤◌, length, option_map, IfOk, Some};
+ghost use Rattle.std.specs.Prelude.{◌≡◌, ◌≤◌, length, option_map, IfOk, MatchResult, Some};
 ghost use Rattle.serde_json.specs.View.{view, members_view};
 ghost use Rattle.ds_query.specs.Fields.{field_name};
 ghost use Rattle.ds_request.specs.Reading.{Reads, defaulted, required, member_of};
 ghost use Rattle.ds_request.specs.Queries.{client_of};
 ghost use Rattle.ds_request.specs.Lawful.{IsLawfulCall};
-ghost use Rattle.ds_request.specs.Requests.{operation_of, call_of, object_request_of, data_request_of, line_data, request_of};
+ghost use Rattle.ds_request.specs.Requests.{operation_of, call_of, object_request_of, data_request_of, line_data, request_of, client_told};
 
 use crate::call::{Call, Request, RequestRefused};
 use crate::forms::scalars::up_to;
@@ -36,7 +36,7 @@ pub fn read_request(alloc: Global, line: &[u8]) -> Result<Request, RequestRefuse
     requires { length line.now ≤ MAX_LINE_BYTES }
     ensures read { Reads RequestRefused.NoMemory (request_of line.now) result }
     ensures lawful { IfOk result (λ r. IsLawfulCall r.call) }
-    ensures client { IfOk result (λ r. r.client ≤ MAX_CLIENT) }
+    ensures client { MatchResult result (λ r. r.client ≤ MAX_CLIENT) (λ e. client_told e ≤ MAX_CLIENT) }
 {
     match parse(alloc, line) {
         Ok(parsed) => read_data(alloc, parsed),
@@ -62,7 +62,6 @@ fn parse(alloc: Global, line: &[u8]) -> Result<Option<Value>, AllocError>
 fn read_data(alloc: Global, parsed: Option<Value>) -> Result<Request, RequestRefused>
     ensures read { Reads RequestRefused.NoMemory (data_request_of (option_map view parsed)) result }
     ensures lawful { IfOk result (λ r. IsLawfulCall r.call) }
-    ensures client { IfOk result (λ r. r.client ≤ MAX_CLIENT) }
 {
     match parsed {
         Some(value) => read_value(alloc, value),
@@ -73,7 +72,6 @@ fn read_data(alloc: Global, parsed: Option<Value>) -> Result<Request, RequestRef
 fn read_value(alloc: Global, value: Value) -> Result<Request, RequestRefused>
     ensures read { Reads RequestRefused.NoMemory (data_request_of (Some (view value))) result }
     ensures lawful { IfOk result (λ r. IsLawfulCall r.call) }
-    ensures client { IfOk result (λ r. r.client ≤ MAX_CLIENT) }
 {
     match value {
         Value::Object(members) => read_object(alloc, members),
@@ -87,7 +85,6 @@ fn read_value(alloc: Global, value: Value) -> Result<Request, RequestRefused>
 fn read_object(alloc: Global, members: Members) -> Result<Request, RequestRefused>
     ensures read { Reads RequestRefused.NoMemory (object_request_of (members_view members.entries)) result }
     ensures lawful { IfOk result (λ r. IsLawfulCall r.call) }
-    ensures client { IfOk result (λ r. r.client ≤ MAX_CLIENT) }
 {
     let client = told_at(0, Field::Client, read_client(&members))?;
     let operation = told_at(client, Field::Op, read_operation(&members))?;
@@ -96,9 +93,8 @@ fn read_object(alloc: Global, members: Members) -> Result<Request, RequestRefuse
 }
 
 fn read_client(members: &Members) -> Result<u32, Refusal>
-    ensures read { result ≡ defaulted 0 client_of
+    ensures { result ≡ defaulted 0 client_of
         (member_of (field_name Field.Client) (members_view members.now.entries)) }
-    ensures bounded { IfOk result (λ client. client ≤ MAX_CLIENT) }
 {
     match member(members, Field::Client.name()) {
         Some(value) => up_to(MAX_CLIENT, value).ok_or(Refusal::Request),
