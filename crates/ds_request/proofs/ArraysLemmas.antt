@@ -6,7 +6,7 @@ use Rattle.serde_json.specs.declared.value.Value.{Value}
 use Rattle.ds_request.specs.declared.refusal.Refusal.{Refusal}
 use Rattle.ds_request.specs.declared.refusal.Refusal.TheVariants as refusal
 use Rattle.ds_request.specs.Reading.{each_of}
-use Rattle.ds_request.specs.Queries.{filter_of, order_of, some_of}
+use Rattle.ds_request.specs.Forms.{filter_of, order_of, some_of}
 
 -- only an array of three can be a filter
 pub filter_of-not_three : (vs : List Value) → (length vs ≡ 3 → ⊥) → filter_of (array (items_view vs)) ≡ Err refusal.Request

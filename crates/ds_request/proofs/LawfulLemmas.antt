@@ -7,6 +7,7 @@ use Rattle.serde_json.specs.Data.{Data, null, boolean, number, string, array, ob
 use Rattle.ds_base.specs.Keys.{is_namespace}
 use Rattle.ds_base.specs.declared.value.Value.{Value}
 use Rattle.ds_query.specs.Fields.{field_name}
+use Rattle.ds_query.specs.Filters.{enough_values, has_operands}
 use Rattle.ds_query.specs.declared.field.Field.{Field}
 use Rattle.ds_query.specs.declared.field.Field.TheVariants as field
 use Rattle.ds_query.specs.declared.query.Op.{Op}
@@ -21,9 +22,9 @@ use Rattle.ds_request.specs.declared.refusal.Refusal.TheVariants as refusal
 use Rattle.ds_request.specs.Reading.{Reads, and_then, read_as, each_of, member_of, required, optional, defaulted, natural_of}
 use Rattle.ds_request.specs.Keys.{key_of}
 use Rattle.ds_request.specs.Values.{value_of}
-use Rattle.ds_request.specs.Queries.{text_of, name_of, namespace_of, flag_of, results_of, count_of, some_of, list_of, op_of, operands_of, filter_of, order_of, select_of, named_values_of}
+use Rattle.ds_request.specs.Forms.{text_of, name_of, namespace_of, flag_of, results_of, count_of, some_of, list_of, op_of, operands_of, filter_of, order_of, select_of, named_values_of}
 use Rattle.ds_request.specs.Requests.{told_at, member_read, query_call_of, gql_call_of, allocate_ids_call_of}
-use Rattle.ds_request.specs.Lawful.{enough_values, has_operands, IsLawfulCall}
+use Rattle.ds_request.specs.Lawful.{IsLawfulCall}
 
 -- ---- what is kept along a chain
 
@@ -31,11 +32,11 @@ pub kept_then : {A B E : Type 0} (P : B → Type 0) (r : Result A E) (f : A → 
 kept_then P (Ok x) f next = next x refl
 kept_then P (Err e) f next = tt
 
-kept_as : {A B E : Type 0} (P : B → Type 0) (f : A → B) (r : Result A E) → IfOk r (λ x. P (f x)) → IfOk (read_as f r) P
+pub kept_as : {A B E : Type 0} (P : B → Type 0) (f : A → B) (r : Result A E) → IfOk r (λ x. P (f x)) → IfOk (read_as f r) P
 kept_as P f (Ok x) h = h
 kept_as P f (Err e) h = tt
 
-kept_told : {A : Type 0} (P : A → Type 0) (client : ℕ) (f : Field) (r : Result A Refusal) → IfOk r P → IfOk (told_at client f r) P
+pub kept_told : {A : Type 0} (P : A → Type 0) (client : ℕ) (f : Field) (r : Result A Refusal) → IfOk r P → IfOk (told_at client f r) P
 kept_told P client f (Ok x) h = h
 kept_told P client f (Err refusal.Request) h = tt
 kept_told P client f (Err refusal.Key) h = tt
@@ -46,7 +47,7 @@ kept_told P client f (Err refusal.NoMemory) h = tt
 pub value_kept : {A E : Type 0} (P : A → Type 0) (r : Result A E) (x : A) → r ≡ Ok x → IfOk r P → P x
 value_kept P r x is h = let Q : Result _ _ → Type 0 = λ s. IfOk s P in subst Q is h
 
-kept_defaulted : {A : Type 0} (P : A → Type 0) (absent : A) (form : Data → Result A Refusal) (given : Option Data) → P absent → ((d : Data) → IfOk (form d) P) → IfOk (defaulted absent form given) P
+pub kept_defaulted : {A : Type 0} (P : A → Type 0) (absent : A) (form : Data → Result A Refusal) (given : Option Data) → P absent → ((d : Data) → IfOk (form d) P) → IfOk (defaulted absent form given) P
 kept_defaulted P absent form None h each = h
 kept_defaulted P absent form (Some d) h each = each d
 

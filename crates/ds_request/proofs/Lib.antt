@@ -1,4 +1,5 @@
 pub mod ArraysLemmas
+pub mod ClientLemmas
 pub mod Each
 pub mod EntitiesLemmas
 pub mod EntriesLemmas

@@ -1,8 +1,9 @@
+-- in the order in which they are best read
 pub mod Requests
-pub mod Queries
-pub mod Reading
+pub mod Forms
 pub mod Keys
 pub mod Values
 pub mod Entities
-pub mod Members
+pub mod Reading
 pub mod Lawful
+pub mod Members

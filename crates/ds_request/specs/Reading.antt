@@ -1,5 +1,6 @@
 -- How the parts of a line are read. A form says what a JSON value is read as, or what is wrong with it.
-use Rattle.std.specs.Prelude.{◌≡◌, ◌≢◌, ℕ, ℤ, pos, negsuc, List, [], ◌∷◌, ◌++◌, Option, Some, None, option_and_then, Result, Ok, Err, nat_le, cond}
+use Rattle.std.specs.Prelude.{◌≡◌, ◌≢◌, ℕ, ℤ, pos, negsuc, List, [], ◌∷◌, ◌++◌, Option, Some, None, option_and_then, Result, Ok}
+use Rattle.std.specs.Prelude.{Err, nat_le, cond}
 use Rattle.std.specs.Option.{option_to_list}
 use Rattle.serde_json.specs.Data.{Data, null, Items, no_items, item, Members, no_members, member}
 use Rattle.serde_json.specs.Find.{as_number, as_i64, get_member}

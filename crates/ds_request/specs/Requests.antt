@@ -1,4 +1,5 @@
--- What a line asks: its members in the order in which they are looked at. The first that fails is told.
+-- What a line asks: its members in the order in which they are looked at, of which the first that fails is told. Begin at the
+-- end, with `request_of`; the form of each member stands in `Forms`.
 use Rattle.std.specs.Prelude.{ℕ, List, [], false, Option, Some, None, Result, Ok, Err, bytes_eq, cond, codes}
 use Rattle.std.specs.Str.{is_utf8}
 use Rattle.serde_json.specs.Data.{Data, object, Members}
@@ -20,7 +21,8 @@ use Rattle.ds_request.specs.Reading.{and_then, read_as, member_of, required, opt
 use Rattle.ds_request.specs.Keys.{key_of, writable_key_of}
 use Rattle.ds_request.specs.Values.{value_of}
 use Rattle.ds_request.specs.Entities.{entity_of}
-use Rattle.ds_request.specs.Queries.{text_of, name_of, namespace_of, flag_of, client_of, results_of, count_of, shard_of, list_of, filter_of, order_of, select_of, named_values_of}
+use Rattle.ds_request.specs.Forms.{text_of, name_of, namespace_of, flag_of, client_of, results_of, count_of, shard_of, list_of}
+use Rattle.ds_request.specs.Forms.{filter_of, order_of, select_of, named_values_of}
 
 -- ---- a member
 
@@ -133,3 +135,11 @@ line_data line = cond (is_utf8 line) (read line) None
 -- the request of a line, or why it is none
 abbrev pub request_of : List ℕ → Result Request RequestRefused
 request_of line = data_request_of (line_data line)
+
+-- the client that is told of a refusal
+abbrev pub client_told : RequestRefused → ℕ
+client_told refused.BadJson = 0
+client_told (refused.BadRequest client f) = client
+client_told (refused.BadKey client f) = client
+client_told (refused.BadValue client f) = client
+client_told refused.NoMemory = 0

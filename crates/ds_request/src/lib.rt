@@ -2,11 +2,11 @@
 //!
 //! It stands on `ds_base` (keys and values), `ds_query` (filters, orders, the members that refusals tell), and on the kit's
 //! `serde_json` and `base64`. A request is a function of the JSON value that `serde_json` reads from the line: `specs/Requests`
-//! says which members each operation has and in which order they are looked at, `specs/Queries` which form each has, and
+//! says which members each operation has and in which order they are looked at, `specs/Forms` which form each has, and
 //! `specs/Keys`, `Values` and `Entities` what keys, values and entities look like.
 //!
 //! Begin with `call` (what is read) and `line` (`read_request`). `operations` has a file for each operation that has members,
-//! which says what it reads; `members` reads them in order; `forms` has a rule for each form.
+//! which says what it reads; `members` reads members in order; `forms` has a rule for each form.
 #![tactic(auto)]
 
 pub mod call;

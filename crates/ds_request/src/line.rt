@@ -1,11 +1,11 @@
 //! Reading a line.
-ghost use Rattle.std.specs.Prelude.{◌≡◌, ◌≢◌, ◌<◌, ◌≤◌, length, option_map, IfOk, IfErr, Ok, Err, Some};
+ghost use Rattle.std.specs.Prelude.{◌≡◌, ◌≤◌, length, option_map, IfOk, MatchResult, Some};
 ghost use Rattle.serde_json.specs.View.{view, members_view};
 ghost use Rattle.ds_query.specs.Fields.{field_name};
 ghost use Rattle.ds_request.specs.Reading.{Reads, defaulted, required, member_of};
-ghost use Rattle.ds_request.specs.Queries.{client_of};
+ghost use Rattle.ds_request.specs.Forms.{client_of};
 ghost use Rattle.ds_request.specs.Lawful.{IsLawfulCall};
-ghost use Rattle.ds_request.specs.Requests.{operation_of, call_of, object_request_of, data_request_of, line_data, request_of};
+ghost use Rattle.ds_request.specs.Requests.{operation_of, call_of, object_request_of, data_request_of, line_data, request_of, client_told};
 
 use crate::call::{Call, Request, RequestRefused};
 use crate::forms::scalars::up_to;
@@ -26,18 +26,17 @@ use ds_query::Field;
 use serde_json::Value;
 use std::alloc::{AllocError, Global};
 
-/// Reads the request of a line.
+/// Reads the request of a line: the one that `specs/Requests` defines, or the refusal that it defines. Want of memory alone
+/// is free.
 ///
 /// `BadJson` comes exactly where the line isn't UTF-8, isn't JSON, or nests deeper than 127 levels. Of an object's members
 /// with one name the last counts, a member that is null counts as absent, and unknown members are passed over. The first
 /// member that fails is told, in this order: the whole line, `client`, `op`, and then the members of the operation.
 pub fn read_request(alloc: Global, line: &[u8]) -> Result<Request, RequestRefused>
     requires { length line.now ≤ MAX_LINE_BYTES }
-    ensures ok { IfOk result (λ r. request_of line.now ≡ Ok r) }
-    ensures refused { IfErr result (λ e. e ≢ RequestRefused.NoMemory
-        → request_of line.now ≡ Err e) }
+    ensures read { Reads RequestRefused.NoMemory (request_of line.now) result }
     ensures lawful { IfOk result (λ r. IsLawfulCall r.call) }
-    ensures client { IfOk result (λ r. r.client < 16) }
+    ensures client { MatchResult result (λ r. r.client ≤ MAX_CLIENT) (λ e. client_told e ≤ MAX_CLIENT) }
 {
     match parse(alloc, line) {
         Ok(parsed) => read_data(alloc, parsed),
@@ -63,7 +62,6 @@ fn parse(alloc: Global, line: &[u8]) -> Result<Option<Value>, AllocError>
 fn read_data(alloc: Global, parsed: Option<Value>) -> Result<Request, RequestRefused>
     ensures read { Reads RequestRefused.NoMemory (data_request_of (option_map view parsed)) result }
     ensures lawful { IfOk result (λ r. IsLawfulCall r.call) }
-    ensures client { IfOk result (λ r. r.client < 16) }
 {
     match parsed {
         Some(value) => read_value(alloc, value),
@@ -74,7 +72,6 @@ fn read_data(alloc: Global, parsed: Option<Value>) -> Result<Request, RequestRef
 fn read_value(alloc: Global, value: Value) -> Result<Request, RequestRefused>
     ensures read { Reads RequestRefused.NoMemory (data_request_of (Some (view value))) result }
     ensures lawful { IfOk result (λ r. IsLawfulCall r.call) }
-    ensures client { IfOk result (λ r. r.client < 16) }
 {
     match value {
         Value::Object(members) => read_object(alloc, members),
@@ -88,7 +85,6 @@ fn read_value(alloc: Global, value: Value) -> Result<Request, RequestRefused>
 fn read_object(alloc: Global, members: Members) -> Result<Request, RequestRefused>
     ensures read { Reads RequestRefused.NoMemory (object_request_of (members_view members.entries)) result }
     ensures lawful { IfOk result (λ r. IsLawfulCall r.call) }
-    ensures client { IfOk result (λ r. r.client < 16) }
 {
     let client = told_at(0, Field::Client, read_client(&members))?;
     let operation = told_at(client, Field::Op, read_operation(&members))?;
@@ -97,9 +93,8 @@ fn read_object(alloc: Global, members: Members) -> Result<Request, RequestRefuse
 }
 
 fn read_client(members: &Members) -> Result<u32, Refusal>
-    ensures read { result ≡ defaulted 0 client_of
+    ensures { result ≡ defaulted 0 client_of
         (member_of (field_name Field.Client) (members_view members.now.entries)) }
-    ensures bounded { IfOk result (λ client. client < 16) }
 {
     match member(members, Field::Client.name()) {
         Some(value) => up_to(MAX_CLIENT, value).ok_or(Refusal::Request),

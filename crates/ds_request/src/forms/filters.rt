@@ -4,7 +4,7 @@ ghost use Rattle.serde_json.specs.Data.{array};
 ghost use Rattle.serde_json.specs.View.{view, items_view};
 ghost use Rattle.ds_request.specs.Reading.{Reads, read_as};
 ghost use Rattle.ds_request.specs.Values.{value_of};
-ghost use Rattle.ds_request.specs.Queries.{op_of, operands_of, filter_of};
+ghost use Rattle.ds_request.specs.Forms.{op_of, operands_of, filter_of};
 
 use crate::forms::Form;
 use crate::forms::lists::{read_some, take_three};

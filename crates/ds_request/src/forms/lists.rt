@@ -3,7 +3,7 @@ ghost use Rattle.std.specs.Prelude.{◌≡◌, ◌≢◌, ◌↔◌, [], ◌∷�
 ghost use Rattle.std.specs.Vec.Iter.{into_iter_items};
 ghost use Rattle.serde_json.specs.View.{view, items_view};
 ghost use Rattle.ds_request.specs.Reading.{Reads, read_as, each_of};
-ghost use Rattle.ds_request.specs.Queries.{list_of, some_of};
+ghost use Rattle.ds_request.specs.Forms.{list_of, some_of};
 
 use crate::forms::Form;
 use crate::refusal::Refusal;

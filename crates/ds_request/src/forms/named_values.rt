@@ -1,5 +1,5 @@
 //! The arguments of a statement by their names.
-ghost use Rattle.ds_request.specs.Queries.{named_value_of, named_values_of};
+ghost use Rattle.ds_request.specs.Forms.{named_value_of, named_values_of};
 
 use crate::forms::Form;
 use crate::forms::entries::{EntryForm, read_entries};

@@ -3,7 +3,7 @@ ghost use Rattle.std.specs.Prelude.{◌≡◌, [], ◌∷◌};
 ghost use Rattle.serde_json.specs.Data.{array};
 ghost use Rattle.serde_json.specs.View.{view, items_view};
 ghost use Rattle.ds_request.specs.Reading.{Reads};
-ghost use Rattle.ds_request.specs.Queries.{direction_of, order_of};
+ghost use Rattle.ds_request.specs.Forms.{direction_of, order_of};
 
 use crate::forms::Form;
 use crate::forms::lists::take_two;

@@ -2,7 +2,7 @@
 ghost use Rattle.std.specs.Prelude.{◌≡◌};
 ghost use Rattle.serde_json.specs.View.{view};
 ghost use Rattle.ds_request.specs.Reading.{natural_of, up_to};
-ghost use Rattle.ds_request.specs.Queries.{text_of, name_of, namespace_of, flag_of, results_of, count_of, shard_of};
+ghost use Rattle.ds_request.specs.Forms.{text_of, name_of, namespace_of, flag_of, results_of, count_of, shard_of};
 
 use crate::forms::Form;
 use crate::refusal::Refusal;

@@ -1,7 +1,7 @@
 //! What a query gives of each result.
 ghost use Rattle.std.specs.Prelude.{◌≡◌};
 ghost use Rattle.serde_json.specs.Data.{string};
-ghost use Rattle.ds_request.specs.Queries.{select_of};
+ghost use Rattle.ds_request.specs.Forms.{select_of};
 
 use crate::forms::Form;
 use crate::forms::lists::read_some;

@@ -1,7 +1,7 @@
 use Rattle.std.proofs.Common.{◌<◌, length, ap, ◌∙◌, arith}
 use Rattle.serde_json.specs.View.{view}
 use Rattle.serde_json.proofs.Views.{view-Array}
-use Rattle.ds_request.specs.Queries.{some_of}
+use Rattle.ds_request.specs.Forms.{some_of}
 use Rattle.ds_request.proofs.ArraysLemmas.{some_of-some}
 use Rattle.ds_request.proofs.forms.lists.read_some.Goals as goal
 

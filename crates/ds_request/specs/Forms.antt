@@ -1,4 +1,4 @@
--- The members of a request as JSON: each form as the table of members says it. Keys, values and entities stand beside it.
+-- The forms of a request's members, from a text to a filter. Keys, values and entities have files of their own.
 use Rattle.std.specs.Prelude.{ℕ, List, [], ◌∷◌, Bool, true, false, bytes_eq, Option, Some, Result, Ok, Err, cond, codes, length, nat_le}
 use Rattle.std.specs.Option.{ok_or}
 use Rattle.serde_json.specs.Data.{Data, string, array, object, no_items, item}
@@ -82,7 +82,9 @@ operands_of _ d = read_as (λ v. v ∷ []) (value_of d)
 -- a filter is [property, operator, value]
 abbrev pub filter_of : Data → Result Filter Refusal
 filter_of (array (item property (item operator (item value no_items)))) =
-    and_then (name_of property) (λ name. and_then (op_of operator) (λ o. read_as (λ vs. record { property = name; op = o; values = vs }) (operands_of o value)))
+    and_then (name_of property) (λ name.
+    and_then (op_of operator) (λ o.
+    read_as (λ vs. record { property = name; op = o; values = vs }) (operands_of o value)))
 filter_of _ = Err refusal.Request
 
 -- ---- orders and selections
