@@ -8,7 +8,6 @@ use Rattle.ds_query.specs.declared.field.Field.{Field}
 use Rattle.ds_query.specs.declared.field.Field.TheVariants as field
 use Rattle.ds_query.specs.declared.query.Select.TheVariants as select
 use Rattle.ds_request.specs.declared.call.Call.{Call}
-use Rattle.ds_request.specs.declared.call.Call.TheVariants as call
 use Rattle.ds_request.specs.declared.call.Request.{Request}
 use Rattle.ds_request.specs.declared.call.RequestRefused.{RequestRefused}
 use Rattle.ds_request.specs.declared.call.RequestRefused.TheVariants as refused
