@@ -14,4 +14,8 @@ mod io;
 #[cfg(test)]
 mod lanes;
 #[cfg(test)]
+mod rounds;
+#[cfg(test)]
+mod words;
+#[cfg(test)]
 mod zigzag;

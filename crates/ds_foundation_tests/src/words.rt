@@ -1,0 +1,116 @@
+//! The words of the command line, as a table, and the exit numbers.
+
+use ds_words::{Options, Status, WordsRefused, read_words};
+use std::alloc::{AllocError, Global};
+use std::test::Fail;
+
+/// The words of a text in which one space stands between two of them; no word of the empty text.
+fn words_of(alloc: Global, text: &str) -> Result<Vec<String>, AllocError> {
+    let mut words = Vec::new(alloc);
+    if !text.is_empty() {
+        for word in text.split(' ') {
+            words.push(String::from_str(alloc, word)?)?;
+        }
+    }
+    Ok(words)
+}
+
+/// What was read: shards, appliers, window and the name of the index file, if there is one.
+fn told(alloc: Global, read: Result<Options, WordsRefused>) -> Result<String, AllocError> {
+    match read {
+        Ok(options) => {
+            let Options {
+                indexes,
+                shards,
+                appliers,
+                window,
+            } = options;
+            match indexes {
+                Some(file) => {
+                    let name = file.text();
+                    format!(in alloc; "{shards} {appliers} {window} {name}")
+                }
+                None => format!(in alloc; "{shards} {appliers} {window}"),
+            }
+        }
+        Err(WordsRefused::Usage) => String::from_str(alloc, "usage"),
+        Err(WordsRefused::NoMemory) => String::from_str(alloc, "no memory"),
+    }
+}
+
+#[test]
+fn reads_words_of_the_form(rt: HostRuntime) -> Result<(), Fail> {
+    let alloc = rt.alloc();
+    for (text, want) in [
+        ("", "4 2 65536"),
+        ("--shards 04", "4 2 65536"),
+        ("--shards=1 --appliers=0", "1 0 65536"),
+        ("--window 00002 --indexes index.yaml", "4 2 2 index.yaml"),
+        (
+            "--indexes=a=b --shards 16 --appliers 08 --window 65536",
+            "16 8 65536 a=b",
+        ),
+        ("--indexes a=b --window=1", "4 2 1 a=b"),
+        ("--appliers 2 --indexes --shards --shards 1", "usage"),
+    ] {
+        let words = words_of(alloc, text)?;
+        let read = told(alloc, read_words(alloc, words.as_slice()))?;
+        assert_eq!(rt; read.as_str(), want, "{text}");
+    }
+    Ok(())
+}
+
+#[test]
+fn refuses_all_other_words(rt: HostRuntime) -> Result<(), Fail> {
+    let alloc = rt.alloc();
+    for text in [
+        "--help",
+        "--help=1",
+        "--",
+        "-",
+        "=",
+        "x",
+        "--shards",
+        "--shards 1 2",
+        "--shards 0",
+        "--shards=17",
+        "--shards 004",
+        "--shards +1",
+        "--shards 1x",
+        "--shards=1=2",
+        "--SHARDS 1",
+        "--shards 1 --shards 1",
+        "--shards=1 --shards 1",
+        "--appliers 9",
+        "--appliers -1",
+        "--window 0",
+        "--window 65537",
+        "--window 000001",
+        "--indexes=",
+        "--indexes ",
+        "--indexes -a",
+        "--indexes=-a",
+        "--indexes a --indexes=b",
+    ] {
+        let words = words_of(alloc, text)?;
+        let read = told(alloc, read_words(alloc, words.as_slice()))?;
+        assert_eq!(rt; read.as_str(), "usage", "{text}");
+    }
+    Ok(())
+}
+
+#[test]
+fn ends_with_the_number_of_its_status(rt: HostRuntime) {
+    for (status, number) in [
+        (Status::Done, 0),
+        (Status::Usage, 1),
+        (Status::IndexFile { line: 9 }, 2),
+        (Status::ReadFault, 3),
+        (Status::WriteFault, 4),
+        (Status::FileFault, 5),
+        (Status::NoMemory, 6),
+        (Status::InputLimit, 7),
+    ] {
+        assert_eq!(rt; status.exit_number(), number);
+    }
+}
