@@ -2,6 +2,8 @@
 //! means. They stand above the libraries, so that these are proved without them. It has nothing to call.
 //! Tests of the formats: what a query means, and what is read of a line. They stand above the libraries, so that these are
 //! proved without them. It has nothing to call.
+//! Tests of the formats: what encodings of bytes look like, what is none, the hash that tells shards apart, what a query means,
+//! and what replies look like. They stand above the libraries, so that these are proved without them. It has nothing to call.
 #![tactic(auto)]
 
 #[cfg(test)]
@@ -10,5 +12,7 @@ mod bytes;
 mod log;
 #[cfg(test)]
 mod query;
+#[cfg(test)]
+mod reply;
 #[cfg(test)]
 mod request;
