@@ -1,12 +1,12 @@
 //! Keys and values as bytes.
 ghost use Rattle.std.specs.Prelude.{◌≡◌, ◌+◌, ◌≤◌, ◌++◌, ◌∷◌, length, All, OnOk, OnErr, IsOk};
-ghost use Rattle.ds_bytes.specs.Encoding.{escaped, encoding, key_encoding, eight_bytes, raised, ident_bytes, elem_bytes, key_bytes, namespace_bytes, path_bytes, value_bytes};
+ghost use Rattle.ds_bytes.specs.Encoding.{encoding, key_encoding, eight_bytes, raised, ident_bytes, elem_bytes, key_bytes, namespace_bytes, path_bytes, value_bytes};
 ghost use Rattle.ds_bytes.specs.Lawful.{IsText, IsLawfulValue, IsLawfulKey, IsLawfulElem, IsLawfulIdent};
 ghost use Rattle.ds_bytes.specs.Writing.{Puts};
 ghost use Rattle.ds_bytes.specs.Appending.{Appends};
 
 use crate::marks::{ELEMENT, ID, KEY, NAME, NAMESPACE, NULL, NUMBER, PATH_END, SEQUENCE, TRUTH};
-use crate::output::{Output, begin, end, put, put_text};
+use crate::output::{Output, begin, end, put, put_tagged};
 use core::mem::replace_with;
 use ds_base::{Buffer, Elem, Ident, IndexValue, Key, NoMemory, TextString};
 
@@ -71,8 +71,7 @@ fn put_value(value: &IndexValue, output: &mut Output)
         IndexValue::Bool(truth) => put(&[TRUTH, u8::from(*truth)], output),
         IndexValue::Bytes(sequence) => {
             let bytes = sequence.bytes();
-            put(&[SEQUENCE], output);
-            put_text(bytes, output);
+            put_tagged(SEQUENCE, bytes, output);
         }
         IndexValue::Key(key) => {
             put(&[KEY], output);
@@ -111,19 +110,8 @@ fn put_namespace(namespace: &TextString, output: &mut Output)
 {
     let bytes = namespace.bytes();
     if !bytes.is_empty() {
-        put(&[NAMESPACE], output);
-        put_text(bytes, output);
+        put_tagged(NAMESPACE, bytes, output);
     }
-}
-
-/// Puts a text escaped, behind the byte that announces it.
-fn put_tagged(tag: u8, text: &TextString, output: &mut Output)
-    ensures puts { Puts (tag ∷ escaped text.now) output.old output.new }
-    ensures lawful { IsText text.now }
-{
-    let bytes = text.bytes();
-    put(&[tag], output);
-    put_text(bytes, output);
 }
 
 fn put_path(path: &[Elem], output: &mut Output)
@@ -140,7 +128,8 @@ fn put_elem(elem: &Elem, output: &mut Output)
     ensures puts { Puts (elem_bytes elem.now) output.old output.new }
     ensures lawful { IsLawfulElem elem.now }
 {
-    put_tagged(ELEMENT, &elem.kind, output);
+    let kind = elem.kind.bytes();
+    put_tagged(ELEMENT, kind, output);
     put_ident(&elem.ident, output);
 }
 
@@ -150,6 +139,9 @@ fn put_ident(ident: &Ident, output: &mut Output)
 {
     match ident {
         Ident::Id(id) => put_number(ID, *id, output),
-        Ident::Name(name) => put_tagged(NAME, name, output),
+        Ident::Name(name) => {
+            let bytes = name.bytes();
+            put_tagged(NAME, bytes, output);
+        }
     }
 }

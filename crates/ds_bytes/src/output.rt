@@ -1,5 +1,5 @@
 //! The pieces of an encoding, put at the end of a buffer.
-ghost use Rattle.std.specs.Prelude.{◌≡◌, ◌+◌, ◌≤◌, ◌++◌, take, length, false, IsTrue, OnOk, OnErr, IsOk};
+ghost use Rattle.std.specs.Prelude.{◌≡◌, ◌+◌, ◌≤◌, ◌++◌, ◌∷◌, [], take, length, false, IsTrue, OnOk, OnErr, IsOk};
 ghost use Rattle.ds_bytes.specs.Encoding.{directed, escaped};
 ghost use Rattle.ds_bytes.specs.Writing.{Puts};
 
@@ -8,6 +8,9 @@ use crate::marks::{STAYS, TEXT_END, ZERO};
 use ds_base::{Buffer, ByteString, NoMemory};
 use ds_lanes::{complement, first_zero};
 use std::alloc::AllocError;
+
+/// How long a text may be that is put in one piece: it is a block with the three bytes around it.
+const SHORT: usize = BLOCK - 3;
 
 /// A buffer that takes an encoding piece by piece, each in one direction. Once it was refused memory it takes nothing more,
 /// so that only the end asks whether it was.
@@ -23,6 +26,7 @@ pub(crate) struct Output {
 }
 
 /// An output onto the end of a buffer.
+#[inline]
 pub(crate) fn begin(buffer: Buffer, descending: bool) -> Output
     ensures { result ≡ record { buffer = buffer; descending = descending; before = length buffer.bytes; refused = false } }
 {
@@ -36,6 +40,7 @@ pub(crate) fn begin(buffer: Buffer, descending: bool) -> Output
 }
 
 /// The buffer, with what was put, or where memory was refused with the bytes that were there before.
+#[inline]
 pub(crate) fn end(output: Output) -> (Buffer, Result<(), NoMemory>)
     ensures ok { OnOk result.1 ((output.refused ≡ false) × (result.0 ≡ output.buffer)) }
     ensures err { OnErr result.1 (result.0.bytes ≡ take output.before output.buffer.bytes) }
@@ -50,6 +55,7 @@ pub(crate) fn end(output: Output) -> (Buffer, Result<(), NoMemory>)
 }
 
 /// Puts bytes.
+#[inline]
 pub(crate) fn put(bytes: &[u8], output: &mut Output)
     ensures { Puts bytes.now output.old output.new }
 {
@@ -77,6 +83,7 @@ fn put_turned(bytes: &[u8], output: &mut Output)
     put_block(rest, output);
 }
 
+#[inline]
 fn put_block(bytes: &[u8], output: &mut Output)
     requires turned { IsTrue output.old.descending }
     requires fits { length bytes.now ≤ BLOCK }
@@ -91,8 +98,31 @@ fn put_block(bytes: &[u8], output: &mut Output)
     output.refused = output.buffer.append(turned).is_err();
 }
 
+/// Puts a text escaped, behind the byte that announces it. A short one without zero bytes, as most are, is one piece.
+pub(crate) fn put_tagged(tag: u8, text: &[u8], output: &mut Output)
+    ensures { Puts (tag ∷ escaped text.now) output.old output.new }
+{
+    if text.len() <= SHORT && first_zero(text) == text.len() {
+        put_short(tag, text, output);
+    } else {
+        put(&[tag], output);
+        put_text(text, output);
+    }
+}
+
+fn put_short(tag: u8, text: &[u8], output: &mut Output)
+    requires { length text.now ≤ SHORT }
+    ensures { Puts (tag ∷ text.now ++ ZERO ∷ TEXT_END ∷ []) output.old output.new }
+{
+    let end = 1 + text.len();
+    let mut piece = [tag; BLOCK];
+    piece[1..end].copy_from_slice(text);
+    piece[end..end + 2].copy_from_slice(&[ZERO, TEXT_END]);
+    put(&piece[..end + 2], output);
+}
+
 /// Puts a text escaped: the runs between its zero bytes as they are.
-pub(crate) fn put_text(text: &[u8], output: &mut Output)
+fn put_text(text: &[u8], output: &mut Output)
     ensures { Puts (escaped text.now) output.old output.new }
 {
     let mut rest = text;
