@@ -1,7 +1,7 @@
 //! Writing one reply into room that is taken before anything is changed.
 ghost use Rattle.std.specs.Prelude.{◌≡◌, ◌+◌, ◌-◌, ◌^◌, ◌≤◌, ◌++◌, min, length, IsTrue};
 ghost use Rattle.ds_json.specs.Replies.{reply_text};
-ghost use Rattle.ds_single.specs.Answered.{Says, no_memory_reply};
+ghost use Rattle.ds_single.specs.ReplySteps.{Says, no_memory_reply};
 
 use ds_base::Buffer;
 use ds_json::{Body, Reply, reply_room, write_reply_within};

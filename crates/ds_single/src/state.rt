@@ -120,7 +120,7 @@ impl Single {
 ghost use Rattle.std.specs.Prelude.{map, List, ◌∷◌};
 ghost use Rattle.std.specs.BTreeMap.{insert_entry, IsOrdered, is_at};
 ghost use Rattle.std.specs.Map.{remove_entry};
-ghost use Rattle.ds_base.specs.Keys.{same_bytes};
+ghost use Rattle.std.specs.Prelude.{bytes_eq};
 ghost use Rattle.ds_base.specs.KeyOrder.{key_cmp};
 ghost use Rattle.ds_base.specs.Entities.{EntityParts};
 ghost use Rattle.ds_log.specs.After.{apply_write};
@@ -194,7 +194,7 @@ fn is_of_kind(entity: &Entity, kind: &TextString) -> bool
 }
 
 fn ends_in_kind(path: &[Elem], kind: &TextString) -> bool
-    ensures { result ≡ same_bytes (kind_of path.now) kind.now }
+    ensures { result ≡ bytes_eq (kind_of path.now) kind.now }
 {
     match path.last() {
         Some(elem) => elem.kind == *kind,
