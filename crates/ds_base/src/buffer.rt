@@ -1,5 +1,5 @@
 //! A growing list of bytes that tells how much room it has.
-ghost use Rattle.std.specs.Prelude.{◌≡◌, ◌≤◌, ◌+◌, [], ◌++◌, length, OnOk, OnErr, IsOk};
+ghost use Rattle.std.specs.Prelude.{◌≡◌, ◌≤◌, ◌+◌, [], ◌++◌, length, take, OnOk, OnErr, IsOk};
 
 use crate::text::ByteString;
 use std::alloc::{AllocError, Global};
@@ -49,6 +49,14 @@ impl Buffer {
         ensures succeeds { length piece.now ≤ self.old.spare → IsOk result }
     {
         self.bytes.extend_from_slice(piece)
+    }
+
+    /// Keeps the first `keep` bytes and takes the others out; the room that they had stays. It takes no memory.
+    pub fn truncate(&mut self, keep: usize)
+        ensures bytes { self.new.bytes ≡ take keep self.old.bytes }
+        ensures room { length self.old.bytes + self.old.spare ≡ length self.new.bytes + self.new.spare }
+    {
+        self.bytes.truncate(keep)
     }
 
     /// Makes room for `more` bytes: after it so many bytes are appended without memory. A refusal changes nothing, and

@@ -8,6 +8,8 @@
 #[cfg(test)]
 mod base;
 #[cfg(test)]
+mod indexdef;
+#[cfg(test)]
 mod io;
 #[cfg(test)]
 mod lanes;

@@ -1,5 +1,5 @@
 -- What a list of writes leaves: entities with distinct keys.
-use Rattle.std.specs.Prelude.{List, [], ◌∷◌, ◌++◌, Bool, not, filter, fold}
+use Rattle.std.specs.Prelude.{List, [], ◌∷◌, ◌++◌, not, filter, fold}
 use Rattle.ds_base.specs.Keys.{KeyParts}
 use Rattle.ds_base.specs.KeyOrder.{same_key}
 use Rattle.ds_base.specs.Entities.{EntityParts}

@@ -1,6 +1,6 @@
 -- The journal, entity groups' logs, and the lists of entries that shards apply.
-use Rattle.std.specs.Prelude.{ℕ, ◌+◌, List, [], ◌∷◌, ◌++◌, Bool, ◌==◌, filter, map, flat_map, fold, take}
-use Rattle.std.specs.Ordering.{match_ordering}
+use Rattle.std.specs.Prelude.{ℕ, ◌+◌, List, [], ◌∷◌, ◌++◌, ◌==◌, filter, map, flat_map, fold}
+use Rattle.std.specs.BTreeSet.{insert_key}
 use Rattle.ds_base.specs.Keys.{KeyParts, root_of}
 use Rattle.ds_base.specs.KeyOrder.{key_cmp, same_key}
 use Rattle.ds_log.specs.declared.Write.{Write}
@@ -18,14 +18,9 @@ key_of (Delete k) = k
 abbrev pub group_of : Write → KeyParts
 group_of w = root_of (key_of w)
 
--- a key among distinct ascending ones
-abbrev pub insert_key : KeyParts → List KeyParts → List KeyParts
-insert_key k [] = k ∷ []
-insert_key k (l ∷ ls) = match_ordering (key_cmp k l) (k ∷ l ∷ ls) (l ∷ ls) (l ∷ insert_key k ls)
-
 -- the groups that are written, each once, by root key
 abbrev pub groups_of : List Write → List KeyParts
-groups_of ws = fold (λ gs w. insert_key (group_of w) gs) [] ws
+groups_of ws = fold (insert_key key_cmp) [] (map group_of ws)
 
 -- the writes to one group, in their order
 abbrev pub group_writes : KeyParts → List Write → List Write

@@ -75,12 +75,10 @@ fold_kept (x ∷ xs) acc h =
 
 pub starts_with_key-fold : (xs : List Column) (c : Column) (cs : List Column) → starts_with_key (fold with_column (c ∷ cs) xs) ≡ is_key_name c.name
 starts_with_key-fold [] c cs = refl
-starts_with_key-fold (x ∷ xs) c cs = at (has_column (c ∷ cs) x.name) where
-  later : (ds : List Column) → starts_with_key (fold with_column (c ∷ ds) xs) ≡ is_key_name c.name
-  later ds = starts_with_key-fold xs c ds
-  at : (b : Bool) → starts_with_key (fold with_column (cond b (c ∷ cs) (c ∷ (cs ++ x ∷ []))) xs) ≡ is_key_name c.name
-  at true = later cs
-  at false = later (cs ++ x ∷ [])
+starts_with_key-fold (x ∷ xs) c cs = at (has_column (c ∷ cs) x.name) (starts_with_key-fold xs c) where
+  at : (b : Bool) → ((ds : List Column) → starts_with_key (fold with_column (c ∷ ds) xs) ≡ is_key_name c.name) → starts_with_key (fold with_column (cond b (c ∷ cs) (c ∷ (cs ++ x ∷ []))) xs) ≡ is_key_name c.name
+  at true later = later cs
+  at false later = later (cs ++ x ∷ [])
 
 -- ---- the key comes last
 

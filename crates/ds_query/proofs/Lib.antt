@@ -1,6 +1,10 @@
 pub mod Booleans
 pub mod ColumnLaws
 pub mod ColumnLemmas
+pub mod LawfulColumns
+pub mod LawfulConditions
+pub mod LawfulNormals
 pub mod NameLemmas
+pub mod ReasonLaws
 pub mod RepeatLemmas
 pub mod SplitLemmas

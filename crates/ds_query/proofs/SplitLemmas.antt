@@ -2,7 +2,7 @@
 use Rattle.std.proofs.Common.{◌≡◌, ◌≢◌, ℕ, ◌+◌, ◌*◌, ◌-◌, ◌^◌, ◌<◌, ◌≤◌, min, List, [], ◌∷◌, ◌++◌, Bool, true, false, IsTrue, length, map, take, get_or, flat_map, fold, refl, sym, ap, ◌∙◌, subst, suc, lit≤, arith}
 
 use Rattle.std.specs.Prelude.{nat_le, ◌==◌}
-use Rattle.std.specs.List.{list_all}
+use Rattle.std.specs.List.{list_all, list_any}
 use Rattle.std.proofs.lemmas.List.{length-map, length-append}
 use Rattle.std.proofs.lemmas.List.Sums.{fold_more}
 use Rattle.std.proofs.lemmas.List.Folds.{list_all_at}
@@ -14,8 +14,9 @@ use Rattle.ds_query.specs.declared.query.Op.{Op}
 use Rattle.ds_query.specs.declared.query.Op.TheVariants as op
 use Rattle.ds_query.specs.declared.query.Filter.{Filter}
 use Rattle.ds_query.specs.declared.conditions.Conditions.{Conditions}
-use Rattle.ds_query.specs.Filters.{enough_values, has_operands}
+use Rattle.ds_query.specs.Filters.{enough_values, has_operands, is_split, is_several}
 use Rattle.ds_query.specs.Branching.{as_indexed, ways, choices, narrowed, split_by, split_all, conditions, unasked}
+use Rattle.ds_query.proofs.Booleans.{and_both, or_neither, true≢false}
 
 -- ---- one filter
 
@@ -116,3 +117,39 @@ counted_more filters i d item count k product new inside here all counted multip
     capped ∙ ap (λ n. min n greatest_told) (multiplied ∙ (λ j. min (before j * k_is j) (2 ^ 64 - 1)))
     ∙ capped_product so_far more greatest_told (2 ^ 64 - 1) (choices_some (get_or filters i d) (all_at has_operands filters i d inside all)) (lit≤ tt)
     ∙ ap (λ n. min n greatest_told) (sym (length-conditions_more filters i d inside))
+
+-- ---- how many branches there are
+
+-- there is a way
+pub conditions_some : (filters : List Filter) → IsTrue (list_all has_operands filters) → 0 < length (conditions filters)
+conditions_some filters all = some filters (unasked ∷ []) (lit≤ tt) all where
+  grown : (n k : ℕ) → 1 ≤ n → 1 ≤ k → 1 ≤ n * k
+  grown n k h g = let e : 1 * 1 ≤ n * k = mul-le-mul h g in omega arith
+  some : (fs : List Filter) (cs : List Conditions) → 1 ≤ length cs → list_all has_operands fs ≡ true → 1 ≤ length (fold split_all cs fs)
+  some [] cs h all = h
+  some (f ∷ fs) cs h all =
+      let both = and_both (has_operands f) (list_all has_operands fs) all in
+      some fs (split_all cs f) (subst (λ n. 1 ≤ n) (sym (length-split_all cs f)) (grown (length cs) (length (choices f)) h (choices_some f both.0))) both.1
+
+one_choice : (f : Filter) → IsTrue (has_operands f) → is_split f.op ≡ false → length (choices f) ≡ 1
+one_choice f h single = length-choices f.op f.values ∙ at f.op (length f.values) h single where
+  one : (n : ℕ) → (n == 1) ≡ true → n * 1 ≡ 1
+  one n h = let e = is_one n h in omega arith
+  at : (o : Op) (n : ℕ) → enough_values o n ≡ true → is_split o ≡ false → n * ways_count o ≡ 1
+  at op.NotEqual n h e = absurd (true≢false e)
+  at op.OneOf n h e = absurd (true≢false e)
+  at op.Equal n h e = one n h
+  at op.Less n h e = one n h
+  at op.LessEqual n h e = one n h
+  at op.Greater n h e = one n h
+  at op.GreaterEqual n h e = one n h
+
+-- without `!=` and `in` there is one
+pub conditions_single : (filters : List Filter) → IsTrue (list_all has_operands filters) → is_several filters ≡ false → length (conditions filters) ≡ 1
+conditions_single filters all none = single filters (unasked ∷ []) refl all none where
+  single : (fs : List Filter) (cs : List Conditions) → length cs ≡ 1 → list_all has_operands fs ≡ true → list_any (λ f. is_split f.op) fs ≡ false → length (fold split_all cs fs) ≡ 1
+  single [] cs h all none = h
+  single (f ∷ fs) cs h all none =
+      let both = and_both (has_operands f) (list_all has_operands fs) all in
+      let neither = or_neither (is_split f.op) (list_any (λ g. is_split g.op) fs) none in
+      single fs (split_all cs f) (length-split_all cs f ∙ (λ i. h i * one_choice f both.0 neither.0 i)) both.1 neither.1

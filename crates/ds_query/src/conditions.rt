@@ -7,9 +7,9 @@ use std::alloc::{AllocError, Global};
 #[derive(Drop)]
 pub struct Conditions {
     /// One pair for each equality, in the order of the filters.
-    pub(crate) equal: Pairs,
+    pub equal: Pairs,
     /// The values that meet each inequality.
-    pub(crate) range: Range,
+    pub range: Range,
 }
 
 impl TryCopy for Conditions {

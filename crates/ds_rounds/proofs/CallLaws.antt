@@ -1,20 +1,20 @@
 -- One call of a reader: what it has read so far, and what each of its ends says.
 use Rattle.std.proofs.Common.{◌≡◌, ◌≢◌, ℕ, ◌+◌, ◌<◌, ◌≤◌, List, [], ◌∷◌, ◌++◌, length, refl, ap, sym, ◌∙◌, arith, Bool, true, false, Option, Some, None, Result, Ok, Err, append-nil, length-append, subst, ◌⊎◌, inl, inr}
 use Rattle.std.specs.Prelude.{nat_lt}
-use Rattle.std.proofs.lemmas.Bool.{ltb-false}
+use Rattle.std.proofs.lemmas.Bool.{cases_lt, ltb-false}
 use Rattle.std.specs.Io.KnownBytes.{Consumes, IsAtEnd, Keeps}
 use Rattle.ds_base.specs.Limits.{most_input_bytes}
 use Rattle.ds_io.specs.KnownBytesLaws.{Consumes-kept, Consumes-none, Consumes-then}
 use Rattle.ds_rounds.specs.Drafts.{Absorbed, DraftParts, IsLine, IsOpen, IsSame, LeavesRound, Stands, WantsMemory, number_in, so_far}
 use Rattle.ds_rounds.specs.Lines.{lines_in}
-use Rattle.ds_rounds.specs.Reading.{Gives, GivesNone, IsReader, MayFollow, Outcome, ReaderParts, ReadsRound}
+use Rattle.ds_rounds.specs.Reading.{GivesNone, IsReader, Outcome, ReaderParts, ReadsRound}
 use Rattle.ds_rounds.specs.Rounds.{NumberedLine, found_rounds, lines_of_round, numbered, rounds_from, rounds_in}
 use Rattle.ds_rounds.specs.declared.round.Round.{Round}
 use Rattle.ds_rounds.specs.declared.stage.RoundRefused.{RoundRefused}
 use Rattle.ds_rounds.specs.declared.stage.RoundRefused.TheVariants as refused
 use Rattle.ds_rounds.specs.declared.stage.Stage.{Stage}
 use Rattle.ds_rounds.specs.declared.stage.Stage.TheVariants as stage
-use Rattle.ds_rounds.proofs.ReadLaws.{ahead, at_the_end, begin, gives_last, none_ended, read_on}
+use Rattle.ds_rounds.proofs.ReadLaws.{ahead, at_the_end, begin, gives_last, none_ended, read_on, rounds_in-nothing}
 
 pub nothing_wants : (draft : DraftParts) (bytes : List ℕ) → bytes ≡ [] → WantsMemory draft bytes → ⊥
 nothing_wants draft bytes none (inl several) = omega (arith, ap length none)
@@ -168,3 +168,39 @@ ends_input {first} {now} {old} {draft} {number} {taken} {piece} new (Some round)
   rises = omega (arith, next, reading.risen, reading.stands.counted);
   numbered = omega (arith, next, reading.passed, below);
 }
+
+-- ---- a call that reads nothing
+
+nothing_buffered : (old : ReaderParts) (ended : Bool) → old.buffered ≡ [] → GivesNone old [] ended
+nothing_buffered old ended none = ap (rounds_in ended old.number) (append-nil old.buffered ∙ none) ∙ rounds_in-nothing ended old.number
+
+-- behind the end
+pub reads_ended : (left : Option (List ℕ)) (old : ReaderParts) → IsReader old → old.stage ≡ stage.Ended → ReadsRound old old left left (Ok None)
+reads_ended left old ok is_ended = record {
+  read = [];
+  told = Consumes-none left;
+  counted = omega arith;
+  at_once = inl refl;
+  past_the_end = λ _. (refl, refl);
+  past_a_refusal = λ _. refl;
+  to_the_end = λ reading. absurd (let never : stage.Reading ≡ stage.Ended = sym reading ∙ is_ended in cc);
+  outcome = (nothing_buffered old true (ok.at_the_end is_ended), is_ended, ok.before_the_limit is_ended);
+}
+
+-- behind a refusal
+pub reads_failed : (left : Option (List ℕ)) (old : ReaderParts) (refusal : RoundRefused) → IsReader old → old.stage ≡ stage.Failed → (old.taken ≡ most_input_bytes → refusal ≡ refused.InputLimit) → (old.taken < most_input_bytes → refusal ≡ refused.NoMemory) → ReadsRound old old left left (Err refusal)
+reads_failed left old refusal ok failed limit memory = record {
+  read = [];
+  told = Consumes-none left;
+  counted = omega arith;
+  at_once = inl refl;
+  past_the_end = λ is_ended. absurd (let never : stage.Failed ≡ stage.Ended = sym failed ∙ is_ended in cc);
+  past_a_refusal = λ _. refl;
+  to_the_end = λ reading. absurd (let never : stage.Failed ≡ stage.Reading = sym failed ∙ reading in cc);
+  outcome = by (cases_lt old.taken most_input_bytes);
+} where
+  by : (old.taken < most_input_bytes) ⊎ (most_input_bytes ≤ old.taken) → Outcome old [] (Err refusal) old
+  by (inl below) = subst (λ e. Outcome old [] (Err e) old) (sym (memory below)) (failed, below)
+  by (inr reached) =
+      let at : old.taken ≡ most_input_bytes = omega (arith, ok.within) in
+      subst (λ e. Outcome old [] (Err e) old) (sym (limit at)) (nothing_buffered old false (ok.at_the_limit at), failed, at)

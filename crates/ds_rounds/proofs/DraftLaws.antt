@@ -1,12 +1,12 @@
 -- A draft's lines, and what ending a line makes of its rounds.
-use Rattle.std.proofs.Common.{◌≡◌, ℕ, suc, ◌+◌, ◌<◌, ◌≤◌, List, [], ◌∷◌, ◌++◌, length, take, drop, refl, ap, sym, ◌∙◌, arith, Bool, true, false, cond, subst, length-append, ◌⊎◌, inl, inr}
+use Rattle.std.proofs.Common.{◌≡◌, ℕ, suc, ◌+◌, ◌<◌, ◌≤◌, List, [], ◌∷◌, ◌++◌, length, refl, ap, sym, ◌∙◌, arith, Bool, true, false, length-append, ◌⊎◌, inl, inr}
 use Rattle.std.specs.Prelude.{nat_le, sum_by}
 use Rattle.ds_base.specs.Limits.{most_round_bytes, most_round_lines}
 use Rattle.std.proofs.lemmas.Bool.{cases_lt, le-leb, lt-leb}
 use Rattle.std.proofs.lemmas.List.Sums.{sum_by-cons}
 use Rattle.ds_rounds.specs.Drafts.{DraftParts, EndsInput, EndsLine, IsLine, IsOpen, IsUnbroken, Leaves, number_in, so_far}
 use Rattle.ds_rounds.specs.Lines.{Content, content_of, is_blank, kept_bytes, lines_in}
-use Rattle.ds_rounds.specs.Rounds.{NumberedLine, is_full, numbered, round_bytes, round_of, rounds_from, rounds_in}
+use Rattle.ds_rounds.specs.Rounds.{NumberedLine, is_full, numbered, round_bytes, round_of, rounds_from}
 use Rattle.ds_rounds.proofs.LineLaws.{content_of-kept, lines_in-last, lines_in-nothing}
 
 abbrev pub numbered_at : ℕ → Content → NumberedLine

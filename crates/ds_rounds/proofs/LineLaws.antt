@@ -1,12 +1,12 @@
 -- Lines piece by piece: bytes without a newline, and then a newline or the end.
-use Rattle.std.proofs.Common.{◌≡◌, ℕ, suc, ◌+◌, ◌<◌, ◌≤◌, List, [], ◌∷◌, ◌++◌, length, take, drop, refl, ap, sym, ◌∙◌, arith, Bool, true, false, cond, not, Some, None, subst}
-use Rattle.std.specs.Prelude.{◌==◌, ◌&&◌, nat_lt, nat_le, position}
-use Rattle.std.specs.List.{prefix_len, list_all}
+use Rattle.std.proofs.Common.{◌≡◌, ℕ, suc, ◌+◌, ◌<◌, ◌≤◌, List, [], ◌∷◌, ◌++◌, length, take, drop, refl, ap, ◌∙◌, arith, Bool, true, false, cond, not, Some, None, subst}
+use Rattle.std.specs.Prelude.{◌==◌, nat_lt, nat_le, position}
+use Rattle.std.specs.List.{prefix_len}
 use Rattle.std.proofs.lemmas.Bool.{eqb-true, leb-true, leb-false, lt-leb, ltb-true, ltb-false}
 use Rattle.std.proofs.lemmas.List.{length-take-le, take_all}
 use Rattle.ds_base.specs.Limits.{most_line_bytes}
 use Rattle.ds_rounds.specs.Drafts.{IsUnbroken}
-use Rattle.ds_rounds.specs.Lines.{Content, Kept, TooLong, content_of, in_front, kept_bytes, lines_in}
+use Rattle.ds_rounds.specs.Lines.{Kept, TooLong, content_of, in_front, kept_bytes, lines_in}
 
 -- a line that a newline ends, and the lines behind it
 pub lines_in-newline : (ended : Bool) (line more : List ℕ) → IsUnbroken line → lines_in ended (line ++ 10 ∷ more) ≡ line ∷ lines_in ended more

@@ -1,16 +1,12 @@
 -- Reading on: the bytes of one call, read by read.
-use Rattle.std.proofs.Common.{◌≡◌, ◌≢◌, ℕ, ◌+◌, ◌<◌, ◌≤◌, List, [], ◌∷◌, ◌++◌, length, refl, ap, sym, ◌∙◌, arith, Bool, true, false, Option, Some, None, append_assoc, append-nil, subst, ◌⊎◌, inl, inr}
-use Rattle.std.specs.Io.KnownBytes.{Consumes}
-use Rattle.ds_base.specs.Limits.{most_input_bytes}
-use Rattle.ds_rounds.specs.Drafts.{DraftParts, IsLine, IsOpen, IsSame, Stands, WantsMemory, number_in, so_far}
+use Rattle.std.proofs.Common.{◌≡◌, ℕ, List, [], ◌∷◌, ◌++◌, length, refl, ap, sym, ◌∙◌, arith, Bool, true, false, append_assoc, append-nil, subst}
+use Rattle.ds_rounds.specs.Drafts.{DraftParts, IsLine, IsSame, Stands, number_in, so_far}
 use Rattle.ds_rounds.specs.Lines.{lines_in}
-use Rattle.ds_rounds.specs.Reading.{Gives, GivesNone, IsReader, MayFollow, ReaderParts}
-use Rattle.ds_io.specs.KnownBytesLaws.{Consumes-none}
-use Rattle.ds_rounds.specs.declared.stage.Stage.{Stage}
-use Rattle.ds_rounds.specs.Rounds.{NumberedLine, found_rounds, lines_of_round, numbered, rounds_from, rounds_in}
+use Rattle.ds_rounds.specs.Reading.{Gives, GivesNone, MayFollow, ReaderParts}
+use Rattle.ds_rounds.specs.Rounds.{NumberedLine, numbered, rounds_from, rounds_in}
 use Rattle.ds_rounds.specs.declared.stage.Stage.TheVariants as stage
 use Rattle.ds_rounds.proofs.AbsorbLaws.{number_same, so_far_same}
-use Rattle.ds_rounds.proofs.LineLaws.{lines_in-nothing, lines_in-open}
+use Rattle.ds_rounds.proofs.LineLaws.{lines_in-open}
 
 -- the rounds of what was buffered, what was read in this call, and what comes behind
 abbrev pub ahead : ReaderParts → List ℕ → Bool → List ℕ → List (List NumberedLine)

@@ -1,11 +1,11 @@
 -- The lines that stand at spans of kept bytes.
-use Rattle.std.proofs.Common.{◌≡◌, ℕ, suc, ◌+◌, ◌-◌, ◌<◌, ◌≤◌, List, [], ◌∷◌, ◌++◌, length, take, drop, refl, ap, sym, ◌∙◌, arith, map}
+use Rattle.std.proofs.Common.{◌≡◌, ℕ, suc, ◌+◌, ◌-◌, ◌≤◌, List, [], ◌∷◌, ◌++◌, length, take, drop, refl, ap, sym, ◌∙◌, arith}
 use Rattle.std.specs.Prelude.{sum_by}
 use Rattle.std.proofs.Common.{length-drop}
-use Rattle.std.proofs.lemmas.List.{drop-drop, drop-take, length-take-le, map-append, take-take, take_all, take_rest}
+use Rattle.std.proofs.lemmas.List.{drop-drop, drop-take, length-take-le, map-append, take-take, take_rest}
 use Rattle.std.proofs.lemmas.List.Sums.{sum_by-cons}
 use Rattle.ds_base.specs.Limits.{most_line_bytes}
-use Rattle.ds_rounds.specs.Lines.{Content, content_of, contents, kept_bytes, spanned}
+use Rattle.ds_rounds.specs.Lines.{content_of, contents, kept_bytes, spanned}
 use Rattle.ds_rounds.specs.Spans.{AreWithin, IsWithin}
 use Rattle.ds_rounds.specs.declared.lines.Span.{Span}
 use Rattle.ds_rounds.proofs.LineLaws.{kept_bytes-content_of}

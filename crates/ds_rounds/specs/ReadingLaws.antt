@@ -1,9 +1,9 @@
 -- How the answers of successive calls join to the rounds of the whole input.
 use Rattle.std.specs.Prelude.{◌≡◌, ◌≢◌, ℕ, List, [], ◌∷◌, ◌++◌, Bool, true, false, Option, Some, None, Ok, Err, refl}
 use Rattle.std.specs.Io.KnownBytes.{IsAtEnd}
-use Rattle.std.proofs.Common.{sym, ◌∙◌, ap, subst, append_assoc, append-nil, ⊎_elim}
+use Rattle.std.proofs.Common.{sym, ◌∙◌, ap, append_assoc, append-nil}
 use Rattle.ds_io.specs.KnownBytesLaws.{Consumes-none, Consumes-then}
-use Rattle.ds_rounds.specs.Reading.{Gives, GivesNone, HasRead, MayFollow, ReaderParts, ReadsRound, first_reader}
+use Rattle.ds_rounds.specs.Reading.{GivesNone, HasRead, MayFollow, ReaderParts, ReadsRound, first_reader}
 use Rattle.ds_rounds.specs.Rounds.{NumberedLine, ended_rounds, lines_of_round, rounds_in, rounds_of_input}
 use Rattle.ds_rounds.specs.declared.round.Round.{Round}
 use Rattle.ds_rounds.specs.declared.stage.RoundRefused.TheVariants as refused

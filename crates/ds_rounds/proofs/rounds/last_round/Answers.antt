@@ -1,6 +1,6 @@
-use Rattle.std.proofs.Common.{◌≡◌, ◌∙◌, ◌∷◌, [], ap, arith, length, sym}
+use Rattle.std.proofs.Common.{◌∙◌, ◌∷◌, [], ap, arith, length, sym}
 use Rattle.std.proofs.lemmas.Bool.{eqb-false}
-use Rattle.ds_rounds.specs.Rounds.{numbered, round_of}
+use Rattle.ds_rounds.specs.Rounds.{numbered}
 use Rattle.ds_rounds.proofs.DraftLaws.{round_of-some}
 use Rattle.ds_rounds.proofs.rounds.last_round.Goals as goal
 

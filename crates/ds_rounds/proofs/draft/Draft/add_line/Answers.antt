@@ -1,4 +1,4 @@
-use Rattle.std.proofs.Common.{◌≡◌, ◌≤◌, ◌∙◌, ◌++◌, ◌∷◌, [], ap, refl, sym, arith, length, take}
+use Rattle.std.proofs.Common.{◌≡◌, ◌∙◌, ◌++◌, ◌∷◌, [], ap, refl, arith, length}
 use Rattle.std.proofs.lemmas.List.{take_all}
 use Rattle.ds_rounds.specs.Lines.{content_of, contents}
 use Rattle.ds_rounds.proofs.SpanLaws.{contents-push}

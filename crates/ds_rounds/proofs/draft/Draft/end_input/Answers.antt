@@ -1,4 +1,4 @@
-use Rattle.std.proofs.Common.{◌≡◌, ◌∙◌, ap, sym}
+use Rattle.std.proofs.Common.{◌∙◌, ap, sym}
 use Rattle.ds_rounds.proofs.DraftLaws.{EndsInput-added, EndsInput-dropped, IsAdded}
 use Rattle.ds_rounds.proofs.draft.Draft.end_input.Goals as goal
 

@@ -1,4 +1,4 @@
-use Rattle.std.proofs.Common.{◌≡◌, ◌∙◌, ◌<◌, ap, arith, sym, length}
+use Rattle.std.proofs.Common.{◌∙◌, ◌<◌, ap, arith, sym, length}
 use Rattle.std.proofs.lemmas.Bool.{eqb-true, eqb-false}
 use Rattle.ds_rounds.proofs.DraftLaws.{EndsLine-added, EndsLine-ended, EndsLine-skipped, IsAdded, Leaves-added, nothing}
 use Rattle.ds_rounds.proofs.draft.Draft.end_line.Goals as goal

@@ -1,4 +1,4 @@
-use Rattle.std.proofs.Common.{◌≡◌, ◌∙◌, ◌-◌, ◌++◌, ap, sym, arith, length, length-drop, take, drop}
+use Rattle.std.proofs.Common.{◌≡◌, ◌∙◌, ◌-◌, ◌++◌, ap, arith, length, length-drop, take, drop}
 use Rattle.std.proofs.lemmas.List.{drop-append-le, take_min}
 use Rattle.ds_rounds.proofs.draft.Draft.extend.Goals as goal
 

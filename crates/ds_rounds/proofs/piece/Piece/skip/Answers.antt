@@ -1,4 +1,4 @@
-use Rattle.std.proofs.Common.{◌≡◌, ◌+◌, ◌-◌, ◌≤◌, ◌∙◌, ap, sym, arith, drop, length, length-drop}
+use Rattle.std.proofs.Common.{◌≡◌, ◌-◌, ◌∙◌, ap, sym, arith, drop, length, length-drop}
 use Rattle.std.proofs.lemmas.List.{length-take-le}
 use Rattle.ds_rounds.proofs.SpanLaws.{part_of_part}
 use Rattle.ds_rounds.proofs.piece.Piece.skip.Goals as goal

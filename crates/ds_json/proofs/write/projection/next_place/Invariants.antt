@@ -1,5 +1,0 @@
-use Rattle.ds_json.proofs.Selection.{Found}
-use Rattle.ds_json.proofs.write.projection.next_place.Given as goal
-
-abbrev pub invariant-loop-i : goal.invariant-loop-i
-invariant-loop-i l = Found l.names l.values l.later l.last l.i l.best l.count

@@ -1,8 +1,0 @@
--- What is written from here on for what is left makes the whole text.
-use Rattle.std.proofs.Common.{drop, false}
-use Rattle.serde_json.specs.Written.{items_text}
-use Rattle.ds_json.specs.Replies.{result_items}
-use Rattle.ds_json.proofs.write.results.write_results.Given as goal
-
-abbrev pub invariant-loop-result : goal.invariant-loop-result
-invariant-loop-result g l = (u : _) → g.O.Output.Writes (items_text l.later (result_items l.select (drop l.result-index l.results))) l.out u → g.O.Output.Writes (items_text false (result_items l.select l.results)) l.initial.out u

@@ -1,6 +1,0 @@
-use Rattle.std.proofs.Common.{arith}
-use Rattle.ds_json.proofs.Escapes.{escape_byte-plain}
-use Rattle.ds_json.proofs.write.text.is_plain.Goals as goal
-
-pub returns : goal.returns
-returns c = λ _. escape_byte-plain c.args.byte (omega arith) (λ e. omega arith) (λ e. omega arith)

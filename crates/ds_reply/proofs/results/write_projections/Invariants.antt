@@ -1,0 +1,9 @@
+-- What is written from here on for what is left makes the whole text.
+use Rattle.std.proofs.Common.{drop, false}
+use Rattle.serde_json.specs.Written.{items_text}
+use Rattle.ds_query.specs.declared.query.Select.TheVariants as select
+use Rattle.ds_reply.specs.Printing.{result_items}
+use Rattle.ds_reply.proofs.results.write_projections.Given as goal
+
+abbrev pub invariant-loop-result : goal.invariant-loop-result
+invariant-loop-result g l = (u : _) → g.O.Output.Writes (items_text l.later (result_items (select.Projection l.names) (drop l.result-index l.results))) l.out u → g.O.Output.Writes (items_text false (result_items (select.Projection l.names) l.results)) l.initial.out u

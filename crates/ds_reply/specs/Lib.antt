@@ -1,0 +1,11 @@
+pub mod MemberNames
+pub mod Members
+pub mod Names
+pub mod Orders
+pub mod OutputLaws
+pub mod Outputs
+pub mod Printing
+pub mod Projections
+pub mod Refusals
+pub mod Replies
+pub mod Shown

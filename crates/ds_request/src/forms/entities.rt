@@ -1,0 +1,142 @@
+//! Entities: a key and properties.
+ghost use Rattle.std.specs.Prelude.{◌≡◌, [], IfOk, option_map};
+ghost use Rattle.serde_json.specs.Data.{object};
+ghost use Rattle.serde_json.specs.View.{view, members_view};
+ghost use Rattle.ds_request.specs.Reading.{Reads, defaulted};
+ghost use Rattle.ds_request.specs.Entities.{property_with, property_of, properties_of, entity_of, IsPut};
+
+use crate::call::Call;
+use crate::forms::Form;
+use crate::forms::entries::{EntryForm, read_entries};
+use crate::forms::keys::read_entity_key;
+use crate::forms::values::read_property_values;
+use crate::members::{Members, take_member};
+use crate::refusal::Refusal;
+use ds_base::{Key, Properties, Property, TextString, Values, is_name, is_reserved};
+use serde_json::Value;
+use std::alloc::Global;
+use std::marker::Model;
+
+/// What a put writes: a key, whether its last identifier was left open, and properties that an entity may have.
+#[derive(Drop)]
+pub(crate) struct Written {
+    pub(crate) key: Key,
+    pub(crate) incomplete: bool,
+    pub(crate) properties: Properties,
+}
+
+impl Model for Written {
+    ghost use Rattle.ds_request.specs.Entities.{PutParts, IsPut};
+
+    ghost Value = { PutParts };
+
+    ghost view = { λ w. record { key = w.key; incomplete = w.incomplete; properties = w.properties } };
+
+    ghost invariant = { λ w. IsPut w.properties };
+}
+
+impl Written {
+    ghost use Rattle.ds_request.specs.Lawful.{IsLawfulCall};
+
+    /// The call that writes it.
+    pub(crate) fn into_call(self) -> Call
+        ensures call { result ≡ Call.Put self.key self.incomplete self.properties }
+        ensures lawful { IsLawfulCall result }
+    {
+        Call::Put {
+            key: self.key,
+            incomplete: self.incomplete,
+            properties: self.properties,
+        }
+    }
+}
+
+/// An entity: an object with a key, which is looked at first, and properties.
+#[derive(Drop)]
+pub(crate) struct EntityForm;
+
+impl Form for EntityForm {
+    type Item = Written;
+
+    ghost reads = { λ _. entity_of };
+
+    fn read(&self, alloc: Global, value: Value) -> Result<Written, Refusal> {
+        match value {
+            Value::Object(members) => read_entity(alloc, members),
+            _ => Err(Refusal::Request),
+        }
+    }
+}
+
+fn read_entity(alloc: Global, mut members: Members) -> Result<Written, Refusal>
+    ensures { Reads Refusal.NoMemory (entity_of (object (members_view members.entries))) result }
+{
+    let Some(key) = take_member(&mut members, "key") else {
+        return Err(Refusal::Request);
+    };
+    let properties = take_member(&mut members, "properties");
+    let (key, incomplete) = read_entity_key(alloc, key)?;
+    let properties = read_properties(alloc, properties)?;
+    Ok(Written {
+        key,
+        incomplete,
+        properties,
+    })
+}
+
+/// Reads properties by name; none where the member is absent. An object of 2^32 properties or more, for which a line has no
+/// room, is refused as want of memory.
+fn read_properties(alloc: Global, given: Option<Value>) -> Result<Properties, Refusal>
+    ensures read { Reads Refusal.NoMemory (defaulted [] properties_of (option_map view given)) result }
+    ensures lawful { IfOk result IsPut }
+{
+    match given {
+        Some(Value::Object(members)) => read_each_property(alloc, members),
+        Some(_) => Err(Refusal::Request),
+        None => Ok(Properties::new(alloc)),
+    }
+}
+
+/// Reads the members of an object as properties, whose names ascend as the map's keys do.
+fn read_each_property(alloc: Global, members: Members) -> Result<Properties, Refusal>
+    ensures read { Reads Refusal.NoMemory (properties_of (object (members_view members.entries))) result }
+    ensures lawful { IfOk result IsPut }
+{
+    let properties = read_entries(alloc, &PropertyForm, members)?;
+    if properties.len() > u32::MAX as usize {
+        return Err(Refusal::NoMemory);
+    }
+    Ok(properties)
+}
+
+/// A property: a member whose name is a property's, and its values.
+#[derive(Drop)]
+struct PropertyForm;
+
+impl EntryForm for PropertyForm {
+    type Item = Property;
+
+    ghost reads = { λ _. property_of };
+
+    fn read(&self, alloc: Global, name: String, value: Value) -> Result<Option<Property>, Refusal> {
+        if !is_name(name.as_str().as_bytes()) || is_reserved(name.as_str().as_bytes()) {
+            return Err(Refusal::Value);
+        }
+        let (indexed, values) = read_property_values(alloc, value)?;
+        Ok(property_with(TextString::from_string(name), indexed, values))
+    }
+}
+
+/// The property of these values; none where there is no value.
+fn property_with(name: TextString, indexed: bool, values: Values) -> Option<Property>
+    ensures { result ≡ property_with name (indexed, values) }
+{
+    if values.len() == 0 {
+        return None;
+    }
+    Some(Property {
+        name,
+        indexed,
+        values,
+    })
+}

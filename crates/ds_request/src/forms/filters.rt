@@ -1,0 +1,94 @@
+//! Filters of a query.
+ghost use Rattle.std.specs.Prelude.{◌≡◌, [], ◌∷◌};
+ghost use Rattle.serde_json.specs.Data.{array};
+ghost use Rattle.serde_json.specs.View.{view, items_view};
+ghost use Rattle.ds_request.specs.Reading.{Reads, read_as};
+ghost use Rattle.ds_request.specs.Values.{value_of};
+ghost use Rattle.ds_request.specs.Queries.{op_of, operands_of, filter_of};
+
+use crate::forms::Form;
+use crate::forms::lists::{read_some, take_three};
+use crate::forms::scalars::name;
+use crate::forms::values::{ValueForm, only, read_value};
+use crate::refusal::Refusal;
+use ds_base::Values;
+use ds_query::{Filter, Op};
+use serde_json::Value;
+use std::alloc::Global;
+
+/// A filter: `[property, operator, value]`.
+#[derive(Drop)]
+pub(crate) struct FilterForm;
+
+impl Form for FilterForm {
+    type Item = Filter;
+
+    ghost reads = { λ _. filter_of };
+
+    fn read(&self, alloc: Global, value: Value) -> Result<Filter, Refusal> {
+        match value {
+            Value::Array(parts) => read_parts(alloc, parts),
+            _ => Err(Refusal::Request),
+        }
+    }
+}
+
+fn read_parts(alloc: Global, parts: Vec<Value>) -> Result<Filter, Refusal>
+    ensures { Reads Refusal.NoMemory (filter_of (array (items_view parts.items))) result }
+{
+    match take_three(parts) {
+        Some((property, op, operand)) => read_filter(alloc, property, op, operand),
+        None => Err(Refusal::Request),
+    }
+}
+
+fn read_filter(alloc: Global, property: Value, op: Value, operand: Value) -> Result<Filter, Refusal>
+    ensures { Reads Refusal.NoMemory
+        (filter_of (array (items_view (property ∷ op ∷ operand ∷ [])))) result }
+{
+    let property = name(property)?;
+    let op = operator(&op)?;
+    let values = operands(alloc, op, operand)?;
+    Ok(Filter {
+        property,
+        op,
+        values,
+    })
+}
+
+/// The operator that the value names.
+fn operator(value: &Value) -> Result<Op, Refusal>
+    ensures { result ≡ op_of (view value.now) }
+{
+    let Some(name) = value.as_str() else {
+        return Err(Refusal::Request);
+    };
+    match name {
+        "=" => Ok(Op::Equal),
+        "<" => Ok(Op::Less),
+        "<=" => Ok(Op::LessEqual),
+        ">" => Ok(Op::Greater),
+        ">=" => Ok(Op::GreaterEqual),
+        "!=" => Ok(Op::NotEqual),
+        "in" => Ok(Op::OneOf),
+        _ => Err(Refusal::Request),
+    }
+}
+
+/// The values that an operator compares with: an array of at least one for `in`, one value for every other operator.
+fn operands(alloc: Global, op: Op, value: Value) -> Result<Values, Refusal>
+    ensures { Reads Refusal.NoMemory (operands_of op (view value)) result }
+{
+    if op == Op::OneOf {
+        read_some(alloc, &ValueForm, value)
+    } else {
+        one_operand(alloc, value)
+    }
+}
+
+fn one_operand(alloc: Global, value: Value) -> Result<Values, Refusal>
+    ensures { Reads Refusal.NoMemory (read_as (λ v. v ∷ []) (value_of (view value))) result }
+{
+    let value = read_value(alloc, value)?;
+    only(alloc, value)
+}

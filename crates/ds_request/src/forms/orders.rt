@@ -1,0 +1,61 @@
+//! Orders of a query.
+ghost use Rattle.std.specs.Prelude.{◌≡◌, [], ◌∷◌};
+ghost use Rattle.serde_json.specs.Data.{array};
+ghost use Rattle.serde_json.specs.View.{view, items_view};
+ghost use Rattle.ds_request.specs.Queries.{direction_of, order_of};
+
+use crate::forms::Form;
+use crate::forms::lists::take_two;
+use crate::forms::scalars::name;
+use crate::refusal::Refusal;
+use ds_base::Column;
+use serde_json::Value;
+use std::alloc::Global;
+
+/// An order: `[property, "asc" or "desc"]`.
+#[derive(Drop)]
+pub(crate) struct OrderForm;
+
+impl Form for OrderForm {
+    type Item = Column;
+
+    ghost reads = { λ _. order_of };
+
+    fn read(&self, _alloc: Global, value: Value) -> Result<Column, Refusal> {
+        match value {
+            Value::Array(parts) => read_parts(parts),
+            _ => Err(Refusal::Request),
+        }
+    }
+}
+
+fn read_parts(parts: Vec<Value>) -> Result<Column, Refusal>
+    ensures { result ≡ order_of (array (items_view parts.items)) }
+{
+    match take_two(parts) {
+        Some((property, direction)) => read_order(property, direction),
+        None => Err(Refusal::Request),
+    }
+}
+
+fn read_order(property: Value, direction: Value) -> Result<Column, Refusal>
+    ensures { result ≡ order_of (array (items_view (property ∷ direction ∷ []))) }
+{
+    let name = name(property)?;
+    let descending = is_descending(&direction)?;
+    Ok(Column { name, descending })
+}
+
+/// Whether rows descend in the direction that the value names.
+fn is_descending(value: &Value) -> Result<bool, Refusal>
+    ensures { result ≡ direction_of (view value.now) }
+{
+    let Some(name) = value.as_str() else {
+        return Err(Refusal::Request);
+    };
+    match name {
+        "asc" => Ok(false),
+        "desc" => Ok(true),
+        _ => Err(Refusal::Request),
+    }
+}

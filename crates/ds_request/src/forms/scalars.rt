@@ -1,0 +1,169 @@
+//! Texts, truth values and numbers.
+ghost use Rattle.std.specs.Prelude.{◌≡◌};
+ghost use Rattle.serde_json.specs.View.{view};
+ghost use Rattle.ds_request.specs.Reading.{natural_of, up_to};
+ghost use Rattle.ds_request.specs.Queries.{text_of, name_of, namespace_of, flag_of, results_of, count_of, shard_of};
+
+use crate::forms::Form;
+use crate::refusal::Refusal;
+use ds_base::limits::MAX_RESULTS;
+use ds_base::{TextString, is_namespace};
+use serde_json::Value;
+use std::alloc::Global;
+
+/// The integer from 0 on that stands here. `1.0` and `-0` are no integers.
+pub(crate) fn natural(value: &Value) -> Option<u64>
+    ensures { result ≡ natural_of (view value.now) }
+{
+    let number = value.as_i64()?;
+    if number >= 0 {
+        Some(number as u64)
+    } else {
+        None
+    }
+}
+
+/// The integer from 0 up to `greatest` that stands here.
+pub(crate) fn up_to(greatest: u32, value: &Value) -> Option<u32>
+    ensures { result ≡ up_to greatest (view value.now) }
+{
+    let number = natural(value)?;
+    if number <= u64::from(greatest) {
+        Some(number as u32)
+    } else {
+        None
+    }
+}
+
+/// The text that stands here.
+fn text(value: Value) -> Result<TextString, Refusal>
+    ensures { result ≡ text_of (view value) }
+{
+    match value {
+        Value::String(text) => Ok(TextString::from_string(text)),
+        _ => Err(Refusal::Request),
+    }
+}
+
+/// The name of at least one byte that stands here.
+pub(crate) fn name(value: Value) -> Result<TextString, Refusal>
+    ensures { result ≡ name_of (view value) }
+{
+    let name = text(value)?;
+    if name.bytes().is_empty() {
+        return Err(Refusal::Request);
+    }
+    Ok(name)
+}
+
+/// The namespace that stands here.
+fn namespace(value: Value) -> Result<TextString, Refusal>
+    ensures { result ≡ namespace_of (view value) }
+{
+    let namespace = text(value)?;
+    if !is_namespace(namespace.bytes()) {
+        return Err(Refusal::Request);
+    }
+    Ok(namespace)
+}
+
+/// Any text.
+#[derive(Drop)]
+pub(crate) struct TextForm;
+
+impl Form for TextForm {
+    type Item = TextString;
+
+    ghost reads = { λ _. text_of };
+
+    fn read(&self, _alloc: Global, value: Value) -> Result<TextString, Refusal> {
+        text(value)
+    }
+}
+
+/// A kind or a property's name: a text of at least one byte.
+#[derive(Drop)]
+pub(crate) struct NameForm;
+
+impl Form for NameForm {
+    type Item = TextString;
+
+    ghost reads = { λ _. name_of };
+
+    fn read(&self, _alloc: Global, value: Value) -> Result<TextString, Refusal> {
+        name(value)
+    }
+}
+
+/// A namespace: a text of at most 100 bytes out of ASCII letters, digits, `.`, `_` and `-`.
+#[derive(Drop)]
+pub(crate) struct NamespaceForm;
+
+impl Form for NamespaceForm {
+    type Item = TextString;
+
+    ghost reads = { λ _. namespace_of };
+
+    fn read(&self, _alloc: Global, value: Value) -> Result<TextString, Refusal> {
+        namespace(value)
+    }
+}
+
+/// `true` or `false`.
+#[derive(Drop)]
+pub(crate) struct FlagForm;
+
+impl Form for FlagForm {
+    type Item = bool;
+
+    ghost reads = { λ _. flag_of };
+
+    fn read(&self, _alloc: Global, value: Value) -> Result<bool, Refusal> {
+        value.as_bool().ok_or(Refusal::Request)
+    }
+}
+
+/// A number of results: an offset or a limit.
+#[derive(Drop)]
+pub(crate) struct ResultsForm;
+
+impl Form for ResultsForm {
+    type Item = u32;
+
+    ghost reads = { λ _. results_of };
+
+    fn read(&self, _alloc: Global, value: Value) -> Result<u32, Refusal> {
+        up_to(MAX_RESULTS, &value).ok_or(Refusal::Request)
+    }
+}
+
+/// A number of ids, at least 1.
+#[derive(Drop)]
+pub(crate) struct CountForm;
+
+impl Form for CountForm {
+    type Item = u64;
+
+    ghost reads = { λ _. count_of };
+
+    fn read(&self, _alloc: Global, value: Value) -> Result<u64, Refusal> {
+        match natural(&value) {
+            Some(count) if count >= 1 => Ok(count),
+            _ => Err(Refusal::Request),
+        }
+    }
+}
+
+/// The number of a shard, whether there is such a shard or not.
+#[derive(Drop)]
+pub(crate) struct ShardForm;
+
+impl Form for ShardForm {
+    type Item = u64;
+
+    ghost reads = { λ _. shard_of };
+
+    fn read(&self, _alloc: Global, value: Value) -> Result<u64, Refusal> {
+        natural(&value).ok_or(Refusal::Request)
+    }
+}

@@ -1,0 +1,40 @@
+//! What a query gives of each result.
+ghost use Rattle.std.specs.Prelude.{◌≡◌};
+ghost use Rattle.serde_json.specs.Data.{string};
+ghost use Rattle.ds_request.specs.Queries.{select_of};
+
+use crate::forms::Form;
+use crate::forms::lists::read_some;
+use crate::forms::scalars::NameForm;
+use crate::refusal::Refusal;
+use ds_query::Select;
+use serde_json::Value;
+use std::alloc::Global;
+
+/// A selection: `"entities"`, `"keys"`, or an array of at least one property.
+#[derive(Drop)]
+pub(crate) struct SelectForm;
+
+impl Form for SelectForm {
+    type Item = Select;
+
+    ghost reads = { λ _. select_of };
+
+    fn read(&self, alloc: Global, value: Value) -> Result<Select, Refusal> {
+        match value {
+            Value::String(name) => selection(name.as_str()),
+            value => Ok(Select::Projection(read_some(alloc, &NameForm, value)?)),
+        }
+    }
+}
+
+/// The selection of this name.
+fn selection(name: &str) -> Result<Select, Refusal>
+    ensures { result ≡ select_of (string name.now) }
+{
+    match name {
+        "entities" => Ok(Select::Entities),
+        "keys" => Ok(Select::Keys),
+        _ => Err(Refusal::Request),
+    }
+}

@@ -1,0 +1,70 @@
+//! A statement of the query language: its members in the order in which they are looked at.
+ghost use Rattle.serde_json.specs.View.{members_view};
+ghost use Rattle.ds_request.specs.Reading.{Reads};
+ghost use Rattle.ds_request.specs.Requests.{gql_call_of};
+
+use crate::call::{Call, RequestRefused};
+use crate::forms::lists::ListForm;
+use crate::forms::named_values::NamedValuesForm;
+use crate::forms::scalars::{FlagForm, NamespaceForm, TextForm};
+use crate::forms::values::ValueForm;
+use crate::members::Members;
+use crate::members::one::{Defaulted, Optional, Required};
+use crate::members::several::ReadMembers;
+use ds_base::{NamedValues, TextString, Values};
+use ds_query::Field;
+use std::alloc::Global;
+
+/// Reads a statement.
+pub(crate) fn read_gql(alloc: Global, client: u32, members: Members) -> Result<Call, RequestRefused>
+    ensures { Reads RequestRefused.NoMemory (gql_call_of client (members_view members.entries)) result }
+{
+    let namespace = Defaulted {
+        field: Field::Namespace,
+        form: NamespaceForm,
+        absent: TextString::new(alloc),
+    };
+    let text = Required {
+        field: Field::Text,
+        form: TextForm,
+    };
+    let args = Defaulted {
+        field: Field::Args,
+        form: ListForm { item: ValueForm },
+        absent: Values::new(alloc),
+    };
+    let names = Defaulted {
+        field: Field::Names,
+        form: NamedValuesForm,
+        absent: NamedValues::new(alloc),
+    };
+    let start = Optional {
+        field: Field::Start,
+        form: TextForm,
+    };
+    let end = Optional {
+        field: Field::End,
+        form: TextForm,
+    };
+    let cursor = Defaulted {
+        field: Field::Cursor,
+        form: FlagForm,
+        absent: false,
+    };
+    let table = (
+        namespace,
+        (text, (args, (names, (start, (end, (cursor, ())))))),
+    );
+    let (namespace, (text, (args, (names, (start, (end, (cursor, ()))))))) = table.read(
+        alloc, client, members,
+    )?;
+    Ok(Call::Gql {
+        namespace,
+        text,
+        args,
+        names,
+        start,
+        end,
+        cursor,
+    })
+}

@@ -1,0 +1,100 @@
+//! A query: its members in the order in which they are looked at.
+ghost use Rattle.serde_json.specs.View.{members_view};
+ghost use Rattle.ds_request.specs.Reading.{Reads};
+ghost use Rattle.ds_request.specs.Requests.{query_call_of};
+
+use crate::call::{Call, RequestRefused};
+use crate::forms::filters::FilterForm;
+use crate::forms::keys::KeyForm;
+use crate::forms::lists::ListForm;
+use crate::forms::orders::OrderForm;
+use crate::forms::scalars::{FlagForm, NameForm, NamespaceForm, ResultsForm, TextForm};
+use crate::forms::selects::SelectForm;
+use crate::members::Members;
+use crate::members::one::{Defaulted, Optional};
+use crate::members::several::ReadMembers;
+use ds_base::{Columns, TextString};
+use ds_query::{Field, Filters, Select};
+use std::alloc::Global;
+
+/// Reads a query.
+pub(crate) fn read_query(
+    alloc: Global,
+    client: u32,
+    members: Members,
+) -> Result<Call, RequestRefused>
+    ensures { Reads RequestRefused.NoMemory (query_call_of client (members_view members.entries)) result }
+{
+    let namespace = Defaulted {
+        field: Field::Namespace,
+        form: NamespaceForm,
+        absent: TextString::new(alloc),
+    };
+    let kind = Optional {
+        field: Field::Kind,
+        form: NameForm,
+    };
+    let ancestor = Optional {
+        field: Field::Ancestor,
+        form: KeyForm,
+    };
+    let filters = Defaulted {
+        field: Field::Filters,
+        form: ListForm { item: FilterForm },
+        absent: Filters::new(alloc),
+    };
+    let orders = Defaulted {
+        field: Field::Orders,
+        form: ListForm { item: OrderForm },
+        absent: Columns::new(alloc),
+    };
+    let select = Defaulted {
+        field: Field::Select,
+        form: SelectForm,
+        absent: Select::Entities,
+    };
+    let offset = Defaulted {
+        field: Field::Offset,
+        form: ResultsForm,
+        absent: 0,
+    };
+    let limit = Optional {
+        field: Field::Limit,
+        form: ResultsForm,
+    };
+    let start = Optional {
+        field: Field::Start,
+        form: TextForm,
+    };
+    let end = Optional {
+        field: Field::End,
+        form: TextForm,
+    };
+    let cursor = Defaulted {
+        field: Field::Cursor,
+        form: FlagForm,
+        absent: false,
+    };
+    let page = (offset, (limit, (start, (end, (cursor, ())))));
+    let table = (
+        namespace,
+        (kind, (ancestor, (filters, (orders, (select, page))))),
+    );
+    let (namespace, (kind, (ancestor, (filters, (orders, (select, page)))))) = table.read(
+        alloc, client, members,
+    )?;
+    let (offset, (limit, (start, (end, (cursor, ()))))) = page;
+    Ok(Call::Query {
+        namespace,
+        kind,
+        ancestor,
+        filters,
+        orders,
+        select,
+        offset,
+        limit,
+        start,
+        end,
+        cursor,
+    })
+}
