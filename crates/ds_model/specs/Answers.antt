@@ -12,17 +12,17 @@ use Rattle.ds_base.specs.Keys.{KeyParts}
 use Rattle.ds_base.specs.Entities.{EntityParts, entity_refusal}
 use Rattle.ds_indexdef.specs.declared.IndexDef.{IndexDef}
 use Rattle.ds_query.specs.declared.query.Select.TheVariants as select
-use Rattle.ds_json.specs.declared.call.Call.{Call}
-use Rattle.ds_json.specs.declared.call.Call.TheVariants as call
-use Rattle.ds_json.specs.declared.call.Request.{Request}
-use Rattle.ds_json.specs.declared.call.RequestRefused.{RequestRefused}
-use Rattle.ds_json.specs.declared.call.RequestRefused.TheVariants as refused
-use Rattle.ds_json.specs.declared.call.Field.TheVariants as field
-use Rattle.ds_json.specs.declared.reply.WriteAt.TheVariants as at
-use Rattle.ds_json.specs.declared.reply.Body.{Body}
-use Rattle.ds_json.specs.declared.reply.Body.TheVariants as body
-use Rattle.ds_json.specs.declared.reply.Reply.{Reply}
-use Rattle.ds_json.specs.Requests.{request_of}
+use Rattle.ds_request.specs.declared.call.Call.{Call}
+use Rattle.ds_request.specs.declared.call.Call.TheVariants as call
+use Rattle.ds_request.specs.declared.call.Request.{Request}
+use Rattle.ds_request.specs.declared.call.RequestRefused.{RequestRefused}
+use Rattle.ds_request.specs.declared.call.RequestRefused.TheVariants as refused
+use Rattle.ds_query.specs.declared.field.Field.TheVariants as field
+use Rattle.ds_reply.specs.declared.reply.WriteAt.TheVariants as at
+use Rattle.ds_reply.specs.declared.reply.Body.{Body}
+use Rattle.ds_reply.specs.declared.reply.Body.TheVariants as body
+use Rattle.ds_reply.specs.declared.reply.Reply.{Reply}
+use Rattle.ds_request.specs.Requests.{request_of}
 use Rattle.ds_rounds.specs.Lines.{Content, Kept, TooLong}
 use Rattle.ds_rounds.specs.Rounds.{NumberedLine}
 use Rattle.ds_log.specs.declared.Commit.{Commit}
@@ -90,6 +90,7 @@ refusal_of s call.Settle = outside s.transaction where
   outside : {A : Type 0} → Option A → Option Body
   outside None = None
   outside (Some t) = Some body.InTransaction
+refusal_of s _ = None
 
 -- ---- ids
 

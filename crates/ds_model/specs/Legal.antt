@@ -6,11 +6,11 @@ use Rattle.ds_base.specs.declared.key.Ident.TheVariants.{Id, Name}
 use Rattle.ds_base.specs.declared.key.Elem.{Elem}
 use Rattle.ds_base.specs.Keys.{KeyParts}
 use Rattle.ds_indexdef.specs.declared.IndexDef.{IndexDef}
-use Rattle.ds_json.specs.declared.reply.WriteAt.{WriteAt}
-use Rattle.ds_json.specs.declared.reply.WriteAt.TheVariants as at
-use Rattle.ds_json.specs.declared.reply.Body.{Body}
-use Rattle.ds_json.specs.declared.reply.Body.TheVariants as body
-use Rattle.ds_json.specs.declared.reply.Reply.{Reply}
+use Rattle.ds_reply.specs.declared.reply.WriteAt.{WriteAt}
+use Rattle.ds_reply.specs.declared.reply.WriteAt.TheVariants as at
+use Rattle.ds_reply.specs.declared.reply.Body.{Body}
+use Rattle.ds_reply.specs.declared.reply.Body.TheVariants as body
+use Rattle.ds_reply.specs.declared.reply.Reply.{Reply}
 use Rattle.ds_rounds.specs.Rounds.{NumberedLine}
 use Rattle.ds_log.specs.declared.Commit.{Commit}
 use Rattle.ds_log.specs.declared.Entry.{Entry}
@@ -45,6 +45,8 @@ written_commit (at.Place p) = []
 
 abbrev pub acknowledged_in : Body → List ℕ
 acknowledged_in (body.Put key at) = written_commit at
+acknowledged_in (body.Delete key at) = written_commit at
+acknowledged_in (body.Commit n) = n ∷ []
 acknowledged_in _ = []
 
 -- the commit that a reply acknowledges
@@ -64,6 +66,7 @@ counter_ids = flat_map (λ e. counter_id e.ident)
 
 abbrev pub accepted_in : Body → List ℕ
 accepted_in (body.Put key at) = counter_ids key.elems
+accepted_in (body.Delete key at) = counter_ids key.elems
 accepted_in _ = []
 
 -- the accepted ids of a written key that are drawn from the counter

@@ -15,7 +15,7 @@ use Rattle.ds_rounds.specs.declared.stage.RoundRefused.{RoundRefused}
 use Rattle.ds_rounds.specs.declared.stage.RoundRefused.TheVariants as refused
 use Rattle.ds_rounds.specs.declared.stage.Stage.{Stage}
 use Rattle.ds_rounds.specs.declared.stage.Stage.TheVariants as stage
-use Rattle.ds_json.specs.Replies.{replies_text}
+use Rattle.ds_reply.specs.Replies.{replies_text}
 use Rattle.ds_log.specs.declared.Commit.{Commit}
 use Rattle.ds_single.specs.State.{SingleParts}
 use Rattle.ds_serve.specs.Runs.{AreFirst, HasNoFiles, HasTaken, IsBelow, IsLegalRun, IsSteady, WereRun, Wrote, read_faults, write_faults}

@@ -5,7 +5,7 @@ use Rattle.std.proofs.lemmas.List.{append-nil}
 use Rattle.std.proofs.lemmas.List.Elements.{All-head, All-tail}
 use Rattle.std.proofs.lemmas.Bool.{ne_eqb}
 use Rattle.ds_rounds.specs.Rounds.{NumberedLine}
-use Rattle.ds_json.specs.declared.reply.Reply.{Reply}
+use Rattle.ds_reply.specs.declared.reply.Reply.{Reply}
 use Rattle.ds_model.specs.Answers.{World, client_of}
 use Rattle.ds_model.specs.Legal.{Steps, RoundSteps}
 use Rattle.ds_model.specs.Sessions.{Session, first_id, greater_counts, greatest_counts, greatest_next, greatest_place, met}

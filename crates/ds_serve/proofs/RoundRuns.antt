@@ -7,8 +7,8 @@ use Rattle.std.proofs.lemmas.Grind.{flat_map-append}
 use Rattle.std.proofs.lemmas.List.Elements.{All-nil, All-push, All-append}
 use Rattle.ds_rounds.specs.Lines.{Content}
 use Rattle.ds_rounds.specs.Rounds.{NumberedLine, numbered}
-use Rattle.ds_json.specs.declared.reply.Reply.{Reply}
-use Rattle.ds_json.specs.Replies.{reply_text, replies_text}
+use Rattle.ds_reply.specs.declared.reply.Reply.{Reply}
+use Rattle.ds_reply.specs.Replies.{reply_text, replies_text}
 use Rattle.ds_log.specs.declared.Commit.{Commit}
 use Rattle.ds_model.specs.Answers.{World, Answers, client_of}
 use Rattle.ds_model.specs.Legal.{Steps, acknowledged, accepted, printed_next}

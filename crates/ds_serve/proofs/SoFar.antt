@@ -13,8 +13,8 @@ use Rattle.ds_rounds.specs.Reading.{ReaderParts, ReadsRound, first_reader}
 use Rattle.ds_rounds.specs.ReadingLaws.{read_nothing, read_round}
 use Rattle.ds_rounds.specs.Rounds.{NumberedLine, lines_of_round}
 use Rattle.ds_rounds.specs.declared.round.Round.{Round}
-use Rattle.ds_json.specs.declared.reply.Reply.{Reply}
-use Rattle.ds_json.specs.Replies.{reply_text, replies_text}
+use Rattle.ds_reply.specs.declared.reply.Reply.{Reply}
+use Rattle.ds_reply.specs.Replies.{reply_text, replies_text}
 use Rattle.ds_log.specs.declared.Commit.{Commit}
 use Rattle.ds_model.specs.Answers.{World}
 use Rattle.ds_model.specs.Legal.{RoundSteps, RoundsSteps, Legal, acknowledged, accepted, printed_next, drawn}

@@ -8,8 +8,8 @@ use Rattle.ds_rounds.specs.Rounds.{NumberedLine}
 use Rattle.ds_rounds.specs.Reading.{HasRead, ReaderParts}
 use Rattle.ds_rounds.specs.declared.stage.RoundRefused.{RoundRefused}
 use Rattle.ds_rounds.specs.declared.stage.RoundRefused.TheVariants as refused
-use Rattle.ds_json.specs.declared.reply.Reply.{Reply}
-use Rattle.ds_json.specs.Replies.{reply_text, replies_text}
+use Rattle.ds_reply.specs.declared.reply.Reply.{Reply}
+use Rattle.ds_reply.specs.Replies.{reply_text, replies_text}
 use Rattle.ds_log.specs.declared.Commit.{Commit}
 use Rattle.ds_model.specs.Answers.{client_of}
 use Rattle.ds_model.specs.Legal.{Steps, RoundsSteps, acknowledged, accepted, printed_next}

@@ -4,8 +4,8 @@ use Rattle.std.specs.Io.KnownBytes.{Appends, Consumes}
 use Rattle.ds_base.specs.Limits.{greatest_window, most_input_bytes}
 use Rattle.ds_io.specs.Faults.{Rose, next_count}
 use Rattle.ds_rounds.specs.Rounds.{NumberedLine, ended_rounds, rounds_in, rounds_of_input}
-use Rattle.ds_json.specs.declared.reply.Reply.{Reply}
-use Rattle.ds_json.specs.Replies.{replies_text}
+use Rattle.ds_reply.specs.declared.reply.Reply.{Reply}
+use Rattle.ds_reply.specs.Replies.{replies_text}
 use Rattle.ds_log.specs.declared.Commit.{Commit}
 use Rattle.ds_model.specs.Legal.{Legal}
 use Rattle.ds_serve.specs.declared.outcome.Status.{Status}

@@ -146,13 +146,7 @@ fn total_room(first: u64, lines: usize) -> Option<usize>
 }
 
 /// Answers each line of a round. There must be room for a reply to each that there was no memory: `room` bytes.
-fn answer_each<G: Gate>(
-    alloc: Global,
-    round: &Round,
-    room: usize,
-    server: &mut Server,
-    gate: &G,
-)
+fn answer_each<G: Gate>(alloc: Global, round: &Round, room: usize, server: &mut Server, gate: &G)
     requires numbers { round.now.first + length round.now.lines ≤ most_input_bytes + 1 }
     requires all { room ≡ room_from round.now.first (length round.now.lines) }
     requires taken { room ≤ server.old.text.spare }

@@ -32,8 +32,8 @@ use std::thread::Threads;
 /// - `Usage`: exactly where the words leave their form. Nothing is read or written, and the journal is empty.
 /// - `ReadFault`: exactly where a read failed; the source counts that one fault and no other. The round that was being read isn't
 ///   run, and those before it are.
-/// - `WriteFault`: exactly where a write failed; the sink counts that one fault and no other. `unsent` is the rest of that round's
-///   replies, and no further round is run.
+/// - `WriteFault`: exactly where a write or a flush failed; the sink counts that one fault and no other. `unsent` is the rest of that
+///   round's replies, none where the sink took them all and failed to send them on, and no further round is run.
 /// - `InputLimit`: exactly where `MAX_INPUT_BYTES` of `ds_base` were taken and every round that ended with them was run; the
 ///   input's end isn't asked for, and the round that was being read isn't run.
 /// - `NoMemory`: there was no memory to begin, to read a round, or for a reply to each of its lines that there was none. That round

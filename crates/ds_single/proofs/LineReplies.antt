@@ -2,16 +2,16 @@
 use Rattle.std.proofs.Common.{◌≡◌, ℕ, ◌⊎◌, inl, inr, List, ◌++◌, refl, arith, ap, sym, ◌∙◌, subst, Bool, true, false, cond, Option, Some, None}
 use Rattle.std.proofs.lemmas.Bool.{eqb-true}
 use Rattle.std.specs.Prelude.{Result, Ok, Err, ◌==◌}
-use Rattle.ds_json.specs.declared.call.Call.{Call}
-use Rattle.ds_json.specs.declared.call.Field.{Field}
-use Rattle.ds_json.specs.declared.call.Field.TheVariants as field
-use Rattle.ds_json.specs.declared.call.Request.{Request}
-use Rattle.ds_json.specs.declared.call.RequestRefused.{RequestRefused}
-use Rattle.ds_json.specs.declared.call.RequestRefused.TheVariants as refused
-use Rattle.ds_json.specs.declared.reply.Body.{Body}
-use Rattle.ds_json.specs.declared.reply.Body.TheVariants as body
-use Rattle.ds_json.specs.declared.reply.Reply.{Reply}
-use Rattle.ds_json.specs.Requests.{request_of}
+use Rattle.ds_request.specs.declared.call.Call.{Call}
+use Rattle.ds_query.specs.declared.field.Field.{Field}
+use Rattle.ds_query.specs.declared.field.Field.TheVariants as field
+use Rattle.ds_request.specs.declared.call.Request.{Request}
+use Rattle.ds_request.specs.declared.call.RequestRefused.{RequestRefused}
+use Rattle.ds_request.specs.declared.call.RequestRefused.TheVariants as refused
+use Rattle.ds_reply.specs.declared.reply.Body.{Body}
+use Rattle.ds_reply.specs.declared.reply.Body.TheVariants as body
+use Rattle.ds_reply.specs.declared.reply.Reply.{Reply}
+use Rattle.ds_request.specs.Requests.{request_of}
 use Rattle.ds_rounds.specs.Lines.{Content, Kept, TooLong}
 use Rattle.ds_model.specs.Answers.{BodyAnswers, AskedAnswers, asked, asked_of, client_asked, client_of}
 use Rattle.ds_model.specs.Built.{served, served_by, unbuilt_member}

@@ -4,12 +4,12 @@ use Rattle.std.specs.Prelude.{◌≡◌, ℕ, ◌+◌, ◌≤◌, ◌⊎◌, Lis
 use Rattle.std.specs.List.{range_with_len}
 use Rattle.ds_base.specs.Limits.{greatest_window}
 use Rattle.ds_query.specs.declared.query.Select.TheVariants as select
-use Rattle.ds_json.specs.declared.call.Call.TheVariants as call
-use Rattle.ds_json.specs.declared.call.Call.{Call}
-use Rattle.ds_json.specs.declared.reply.Body.{Body}
-use Rattle.ds_json.specs.declared.reply.Body.TheVariants as body
-use Rattle.ds_json.specs.declared.reply.Reply.{Reply}
-use Rattle.ds_json.specs.Replies.{reply_text}
+use Rattle.ds_request.specs.declared.call.Call.TheVariants as call
+use Rattle.ds_request.specs.declared.call.Call.{Call}
+use Rattle.ds_reply.specs.declared.reply.Body.{Body}
+use Rattle.ds_reply.specs.declared.reply.Body.TheVariants as body
+use Rattle.ds_reply.specs.declared.reply.Reply.{Reply}
+use Rattle.ds_reply.specs.Replies.{reply_text}
 use Rattle.ds_log.specs.declared.Commit.{Commit}
 use Rattle.ds_rounds.specs.Rounds.{NumberedLine}
 use Rattle.ds_model.specs.Answers.{World, Answers, BodyAnswers, client_of}

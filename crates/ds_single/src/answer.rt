@@ -2,22 +2,23 @@
 ghost use Rattle.std.specs.Prelude.{◌≡◌, ◌+◌, ◌<◌, ◌≤◌, ◌^◌, ◌++◌, ◌∷◌, [], length, false, None, Some, IsTrue, IsFalse, IfSome};
 ghost use Rattle.ds_base.specs.Entities.{names_ascend};
 ghost use Rattle.ds_rounds.specs.Lines.{IsWithinLimit, handed};
-ghost use Rattle.ds_json.specs.Replies.{reply_text};
-ghost use Rattle.ds_json.specs.Requests.{IsLawfulCall};
+ghost use Rattle.ds_reply.specs.Replies.{reply_text};
+ghost use Rattle.ds_request.specs.Lawful.{IsLawfulCall};
 ghost use Rattle.ds_model.specs.Answers.{put_refusal, first_unissued, unissued};
 ghost use Rattle.ds_model.specs.Built.{unbuilt_member};
 ghost use Rattle.ds_model.specs.Sessions.{first_id};
 ghost use Rattle.ds_single.specs.ReplySteps.{Answered, CallAnswered, HasAnswered, IsQuiet, no_memory_reply, kind_query};
 
 use crate::ask::ask;
-use crate::say::{make_room, say, say_no_memory};
+use crate::say::{make_room, say, say_no_memory, write_within};
 use crate::state::Single;
 use ds_base::limits::FIRST_DRAWN_ID;
 use ds_base::{
     Buffer, Counts, Elem, Entity, EntityRefused, Ident, Key, Properties, Seen, TextString, TryCopy,
 };
-use ds_json::{Body, Call, Field, Reply, WriteAt, write_reply_within};
-use ds_query::Select;
+use ds_query::{Field, Select};
+use ds_reply::{Body, Reply, WriteAt};
+use ds_request::Call;
 use ds_rounds::Line;
 use std::alloc::Global;
 
@@ -88,6 +89,8 @@ impl Single {
                 Some(kind) => self.query(alloc, number, &kind, keep, out),
                 None => say_no_memory(number, keep, out),
             },
+            // `ask` gives no other request: what isn't served yet is refused there.
+            _ => say_no_memory(number, keep, out),
         }
     }
 
@@ -128,7 +131,10 @@ impl Single {
     {
         match first_unissued(entity.key().elems().as_slice()) {
             Some(id) => {
-                let body = Body::IdNotIssued { id, next: FIRST_DRAWN_ID };
+                let body = Body::IdNotIssued {
+                    id,
+                    next: FIRST_DRAWN_ID,
+                };
                 say(number, body, keep, out)
             }
             None => self.put_unrefused(alloc, number, entity, keep, out),
@@ -169,7 +175,7 @@ impl Single {
         }
         match self.commit(alloc, entity) {
             Ok(()) => {
-                write_reply_within(&reply, out);
+                write_within(&reply, out);
                 reply
             }
             Err(_) => say_no_memory(number, keep, out),
@@ -198,7 +204,7 @@ impl Single {
             return say_no_memory(number, keep, out);
         }
         self.see(place, place);
-        write_reply_within(&reply, out);
+        write_within(&reply, out);
         reply
     }
 
@@ -262,7 +268,7 @@ impl Single {
         }
         let place = self.place.max(count);
         self.see(place, count);
-        write_reply_within(&reply, out);
+        write_within(&reply, out);
         reply
     }
 }

@@ -1,12 +1,13 @@
 //! What a line asks, as far as the server serves it.
 ghost use Rattle.std.specs.Prelude.{◌≡◌, ◌⊎◌, Ok, Err, None, is_none, IfOk, IfErr};
 ghost use Rattle.ds_rounds.specs.Lines.{IsWithinLimit, handed};
-ghost use Rattle.ds_json.specs.Requests.{IsLawfulCall};
+ghost use Rattle.ds_request.specs.Lawful.{IsLawfulCall};
 ghost use Rattle.ds_model.specs.Answers.{asked, asked_of};
 ghost use Rattle.ds_model.specs.Built.{unbuilt_member, served, unless, is_empty, is_entities};
 
-use ds_json::{Body, Call, Field, Request, RequestRefused, read_request};
-use ds_query::Select;
+use ds_query::{Field, Select};
+use ds_reply::Body;
+use ds_request::{Call, Request, RequestRefused, read_request};
 use ds_rounds::Line;
 use std::alloc::Global;
 
@@ -117,6 +118,14 @@ fn unbuilt_member(call: &Call) -> Option<Field>
                 ),
             )
         }
+        Call::Delete { .. }
+        | Call::Get { .. }
+        | Call::Gql { .. }
+        | Call::Begin { .. }
+        | Call::Commit
+        | Call::Rollback
+        | Call::AllocateIds { .. }
+        | Call::Apply { .. } => Some(Field::Op),
     }
 }
 
