@@ -1,5 +1,6 @@
 -- Escaped text, a run without zero bytes at a time.
-use Rattle.std.proofs.Common.{add-one, drop-drop, ◌≡◌, ℕ, zero, suc, ◌+◌, ◌<◌, ◌≤◌, List, [], ◌∷◌, ◌++◌, length, take, drop, slice_get, Some, inl, inr, ◌⊎◌, sym, ap, ◌∙◌, arith, refl}
+use Rattle.std.proofs.Common.{add-one, drop-drop, ◌≡◌, ℕ, zero, suc, ◌+◌, ◌<◌, ◌≤◌, List, [], ◌∷◌, ◌++◌, length, take, drop, slice_get}
+use Rattle.std.proofs.Common.{Some, inl, inr, ◌⊎◌, sym, ap, ◌∙◌, arith, refl}
 use Rattle.std.specs.Prelude.{flat_map}
 use Rattle.std.proofs.lemmas.Bool.Decides.{nat_tests}
 use Rattle.ds_lanes.specs.Kernels.{first_zero}
@@ -74,8 +75,8 @@ text_begins (zero ∷ t) [] a more is = absurd (apart is) where
 text_begins (zero ∷ t) (zero ∷ s) a more is =
     let later = text_begins t s a more (inside is) in
     record { rest = later.rest; text = ap (λ (xs : List ℕ). 0 ∷ xs) later.text; bytes = later.bytes } where
-  inside : 0 ∷ 255 ∷ (escaped s ++ a) ≡ 0 ∷ 255 ∷ (flat_map escaped_byte t ++ more) → escaped s ++ a ≡ flat_map escaped_byte t ++ more
-  inside is = cc
+      inside : 0 ∷ 255 ∷ (escaped s ++ a) ≡ 0 ∷ 255 ∷ (flat_map escaped_byte t ++ more) → escaped s ++ a ≡ flat_map escaped_byte t ++ more
+      inside is = cc
 text_begins (zero ∷ t) (suc b ∷ s) a more is = absurd (apart is) where
   apart : suc b ∷ (escaped s ++ a) ≡ 0 ∷ 255 ∷ (flat_map escaped_byte t ++ more) → ⊥
   apart is = cc
@@ -89,5 +90,5 @@ text_begins (suc c ∷ t) (suc b ∷ s) a more is =
     let both = inside is in
     let later = text_begins t s a more both.1 in
     record { rest = later.rest; text = λ i. both.0 i ∷ later.text i; bytes = later.bytes } where
-  inside : suc b ∷ (escaped s ++ a) ≡ suc c ∷ (flat_map escaped_byte t ++ more) → (suc b ≡ suc c) × (escaped s ++ a ≡ flat_map escaped_byte t ++ more)
-  inside is = (cc, cc)
+      inside : suc b ∷ (escaped s ++ a) ≡ suc c ∷ (flat_map escaped_byte t ++ more) → (suc b ≡ suc c) × (escaped s ++ a ≡ flat_map escaped_byte t ++ more)
+      inside is = (cc, cc)

@@ -1,5 +1,6 @@
 -- Pieces that are put one after another are put as one.
-use Rattle.std.proofs.Common.{◌≡◌, ℕ, ◌+◌, ◌-◌, ◌≤◌, Bool, true, false, List, [], ◌++◌, length, length-append, append_assoc, append-nil, sym, ap, ◌∙◌, arith, refl}
+use Rattle.std.proofs.Common.{◌≡◌, ℕ, ◌+◌, ◌-◌, ◌≤◌, Bool, true, false, List, [], ◌++◌, length, length-append, append_assoc, append-nil}
+use Rattle.std.proofs.Common.{sym, ap, ◌∙◌, arith, refl}
 use Rattle.std.proofs.lemmas.List.{length-map, map-append}
 use Rattle.ds_bytes.specs.declared.output.Output.{Output}
 use Rattle.ds_bytes.specs.Encoding.{directed}
@@ -30,13 +31,15 @@ pub puts_joined : (a b : List ℕ) (s t u : Output) → Puts a s t → Puts b t 
 puts_joined a b s t u f g = record {
   same = (g.same.0 ∙ f.same.0, g.same.1 ∙ f.same.1);
   ok = λ fine.
-    let second = g.ok fine in
-    let first = f.ok second.0 in
-    (first.0, second.1 ∙ (λ i. first.1 i ++ directed (f.same.0 i) b) ∙ append_assoc s.buffer.bytes (directed s.descending a) (directed s.descending b)
-      ∙ ap (λ (bs : List ℕ). s.buffer.bytes ++ bs) (sym (directed-append s.descending a b)));
+      let second = g.ok fine in
+      let first = f.ok second.0 in (
+        first.0,
+        second.1 ∙ (λ i. first.1 i ++ directed (f.same.0 i) b) ∙ append_assoc s.buffer.bytes (directed s.descending a) (directed s.descending b)
+            ∙ ap (λ (bs : List ℕ). s.buffer.bytes ++ bs) (sym (directed-append s.descending a b)),
+      );
   room = λ fine. omega (arith, f.room (g.ok fine).0, g.room fine, length-append a b);
   behind = (f.behind.0 ++ g.behind.0, g.behind.1 ∙ ap (λ (bs : List ℕ). bs ++ g.behind.0) f.behind.1 ∙ append_assoc s.buffer.bytes f.behind.0 g.behind.0);
   succeeds = λ fine fits.
-    let first = f.succeeds fine (omega (arith, length-append a b)) in
-    g.succeeds first (omega (arith, f.room first, length-append a b));
+      let first = f.succeeds fine (omega (arith, length-append a b)) in
+      g.succeeds first (omega (arith, f.room first, length-append a b));
 }

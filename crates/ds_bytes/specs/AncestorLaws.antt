@@ -1,5 +1,6 @@
 -- The keys under an ancestor are those whose encoding begins with the ancestor's without its last byte.
-use Rattle.std.specs.Prelude.{◌≡◌, ◌↔◌, ℕ, zero, ◌<◌, nat_eq, Bool, true, IsTrue, List, [], ◌∷◌, ◌++◌, flat_map, length, take, drop, All, refl}
+use Rattle.std.specs.Prelude.{◌≡◌, ◌↔◌, ℕ, zero, ◌<◌, nat_eq, Bool, true, IsTrue, List, [], ◌∷◌, ◌++◌, flat_map, length, take, drop, All}
+use Rattle.std.specs.Prelude.{refl}
 use Rattle.std.proofs.Common.{ap, sym, ◌∙◌, subst, append_assoc, append-nil, arith}
 use Rattle.std.proofs.lemmas.Grind.{flat_map-append}
 use Rattle.std.proofs.lemmas.Bool.{and_parts, and_from}
@@ -23,7 +24,8 @@ pub key_bytes-front : (k : KeyParts) → key_bytes k ≡ key_front k ++ 0x01 ∷
 key_bytes-front k = sym (append_assoc (namespace_bytes k.namespace) (flat_map elem_bytes k.elems) (1 ∷ []))
 
 -- the bytes of an element are read in one way
-pub elem_bytes-reads_once : (d e : Elem) (a b : List ℕ) → IsElemOfBytes d → IsElemOfBytes e → elem_bytes d ++ a ≡ elem_bytes e ++ b → (d ≡ e) × (a ≡ b)
+pub elem_bytes-reads_once : (d e : Elem) (a b : List ℕ) → IsElemOfBytes d → IsElemOfBytes e → elem_bytes d ++ a ≡ elem_bytes e ++ b
+    → (d ≡ e) × (a ≡ b)
 elem_bytes-reads_once d e a b p q is = reads_once elem_bytes-ordered elem_cmp-same d e a b p q is
 
 -- so are those of a text
@@ -37,22 +39,27 @@ pub record GoesOn (es ds : List Elem) (a more : List ℕ) : Type 0 where
   pub bytes : path_bytes rest ++ a ≡ more
 
 -- where the elements es stand at the front of a path's bytes, the path begins with them
-pub path_begins : (es ds : List Elem) (a more : List ℕ) → All IsElemOfBytes es → All IsElemOfBytes ds → path_bytes ds ++ a ≡ flat_map elem_bytes es ++ more → GoesOn es ds a more
+pub path_begins : (es ds : List Elem) (a more : List ℕ) → All IsElemOfBytes es → All IsElemOfBytes ds
+    → path_bytes ds ++ a ≡ flat_map elem_bytes es ++ more → GoesOn es ds a more
 path_begins [] ds a more p q is = record { rest = ds; path = refl; bytes = is }
 path_begins (e ∷ es) [] a more p q is = absurd (apart is) where
   apart : path_bytes [] ++ a ≡ flat_map elem_bytes (e ∷ es) ++ more → ⊥
   apart is = cc
 path_begins (e ∷ es) (d ∷ ds) a more p q is =
     let here : elem_bytes d ++ (path_bytes ds ++ a) ≡ elem_bytes e ++ (flat_map elem_bytes es ++ more) =
-        sym (append_assoc (elem_bytes d) (path_bytes ds) a) ∙ ap (λ (bs : List ℕ). bs ++ a) (sym (append_assoc (elem_bytes d) (flat_map elem_bytes ds) (1 ∷ []))) ∙ is ∙ append_assoc (elem_bytes e) (flat_map elem_bytes es) more in
-    let first = elem_bytes-reads_once d e (path_bytes ds ++ a) (flat_map elem_bytes es ++ more) (All-head IsElemOfBytes d ds q) (All-head IsElemOfBytes e es p) here in
+    sym (append_assoc (elem_bytes d) (path_bytes ds) a) ∙ ap (λ (bs : List ℕ). bs ++ a)
+    (sym (append_assoc (elem_bytes d) (flat_map elem_bytes ds) (1 ∷ []))) ∙ is
+    ∙ append_assoc (elem_bytes e) (flat_map elem_bytes es) more in
+    let first = elem_bytes-reads_once d e (path_bytes ds ++ a) (flat_map elem_bytes es ++ more) (All-head IsElemOfBytes d ds q)
+    (All-head IsElemOfBytes e es p) here in
     let later = path_begins es ds a more (All-tail IsElemOfBytes e es p) (All-tail IsElemOfBytes d ds q) first.1 in
     record { rest = later.rest; path = λ i. first.0 i ∷ later.path i; bytes = later.bytes }
 
 -- the bytes of elements and of those that follow them
 pub path_bytes-append : (es rest : List Elem) → path_bytes (es ++ rest) ≡ flat_map elem_bytes es ++ path_bytes rest
 path_bytes-append es rest =
-    ap (λ (bs : List ℕ). bs ++ 1 ∷ []) (flat_map-append elem_bytes es rest) ∙ append_assoc (flat_map elem_bytes es) (flat_map elem_bytes rest) (1 ∷ [])
+    ap (λ (bs : List ℕ). bs ++ 1 ∷ []) (flat_map-append elem_bytes es rest)
+    ∙ append_assoc (flat_map elem_bytes es) (flat_map elem_bytes rest) (1 ∷ [])
 
 -- ---- ancestors
 
@@ -61,23 +68,28 @@ under_begins : (k d : KeyParts) → IsTrue (is_ancestor k d) → (more : List �
 under_begins k d under =
     let both = and_parts (pointwise nat_eq k.namespace d.namespace) (starts_with (eq_by_cmp elem_cmp) d.elems k.elems) under in
     let namespace : k.namespace ≡ d.namespace = (bytes_decides k.namespace d.namespace).0 both.0 in
-    let front : k.elems ≡ take (length k.elems) d.elems = (pointwise_decides same_elem-decides k.elems (take (length k.elems) d.elems)).0 both.1 in
+    let front : k.elems ≡ take (length k.elems) d.elems = (pointwise_decides same_elem-decides k.elems
+    (take (length k.elems) d.elems)).0 both.1 in
     let rest : List Elem = drop (length k.elems) d.elems in
-    let path : d.elems ≡ k.elems ++ rest = sym (take-append-drop (length k.elems) d.elems) ∙ ap (λ (es : List Elem). es ++ rest) (sym front) in
-    (path_bytes rest,
+    let path : d.elems ≡ k.elems ++ rest = sym (take-append-drop (length k.elems) d.elems)
+    ∙ ap (λ (es : List Elem). es ++ rest) (sym front) in (
+      path_bytes rest,
       (λ i. namespace_bytes (sym namespace i) ++ path_bytes (path i))
-      ∙ ap (λ (bs : List ℕ). namespace_bytes k.namespace ++ bs) (path_bytes-append k.elems rest)
-      ∙ sym (append_assoc (namespace_bytes k.namespace) (flat_map elem_bytes k.elems) (path_bytes rest)))
+          ∙ ap (λ (bs : List ℕ). namespace_bytes k.namespace ++ bs) (path_bytes-append k.elems rest)
+          ∙ sym (append_assoc (namespace_bytes k.namespace) (flat_map elem_bytes k.elems) (path_bytes rest)),
+    )
 
 -- bytes that begin with those of elements, and those of a path that does
-path_under : (es ds : List Elem) (more : List ℕ) → All IsElemOfBytes es → All IsElemOfBytes ds → path_bytes ds ≡ flat_map elem_bytes es ++ more → IsTrue (starts_with (eq_by_cmp elem_cmp) ds es)
+path_under : (es ds : List Elem) (more : List ℕ) → All IsElemOfBytes es → All IsElemOfBytes ds
+    → path_bytes ds ≡ flat_map elem_bytes es ++ more → IsTrue (starts_with (eq_by_cmp elem_cmp) ds es)
 path_under es ds more p q is =
     let goes = path_begins es ds [] more p q (append-nil (path_bytes ds) ∙ is) in
     (pointwise_decides same_elem-decides es (take (length es) ds)).1 (sym (ap (take (length es)) goes.path ∙ take-append_seam es goes.rest))
 
 -- which namespace stands at the front
 namespace_under : (s t : List ℕ) (es ds : List Elem) (more : List ℕ) → 0 < length es → All IsElemOfBytes es → All IsElemOfBytes ds
-    → namespace_bytes t ++ path_bytes ds ≡ (namespace_bytes s ++ flat_map elem_bytes es) ++ more → (s ≡ t) × IsTrue (starts_with (eq_by_cmp elem_cmp) ds es)
+    → namespace_bytes t ++ path_bytes ds ≡ (namespace_bytes s ++ flat_map elem_bytes es) ++ more
+    → (s ≡ t) × IsTrue (starts_with (eq_by_cmp elem_cmp) ds es)
 namespace_under [] [] es ds more n p q is = (refl, path_under es ds more p q is)
 namespace_under [] (c ∷ t) [] ds more n p q is = absurd (omega arith)
 namespace_under [] (c ∷ t) (e ∷ es) ds more n p q is = absurd (apart is) where
@@ -90,8 +102,9 @@ namespace_under (c ∷ s) [] es (d ∷ ds) more n p q is = absurd (apart is) whe
   apart : namespace_bytes [] ++ path_bytes (d ∷ ds) ≡ (namespace_bytes (c ∷ s) ++ flat_map elem_bytes es) ++ more → ⊥
   apart is = cc
 namespace_under (c ∷ s) (b ∷ t) es ds more n p q is =
-    let front = reads_once (tagged-ordered escaped-ordered 3) bytes_cmp-same (b ∷ t) (c ∷ s) (path_bytes ds) (flat_map elem_bytes es ++ more) tt tt
-        (is ∙ append_assoc (namespace_bytes (c ∷ s)) (flat_map elem_bytes es) more) in
+    let front = reads_once (tagged-ordered escaped-ordered 3) bytes_cmp-same (b ∷ t) (c ∷ s) (path_bytes ds)
+    (flat_map elem_bytes es ++ more) tt tt
+    (is ∙ append_assoc (namespace_bytes (c ∷ s)) (flat_map elem_bytes es) more) in
     (sym front.0, path_under es ds more p q front.1)
 
 -- Of keys with at least one element, those under k are the ones whose encoding begins with that of k without its last byte.
@@ -101,4 +114,5 @@ ancestor_begins k d p q n = (under_begins k d, back) where
   back : ((more : List ℕ) × (key_bytes d ≡ key_front k ++ more)) → IsTrue (is_ancestor k d)
   back begins =
       let both = namespace_under k.namespace d.namespace k.elems d.elems begins.0 n p.elems q.elems begins.1 in
-      and_from (pointwise nat_eq k.namespace d.namespace) (starts_with (eq_by_cmp elem_cmp) d.elems k.elems) ((bytes_decides k.namespace d.namespace).1 both.0) both.1
+      and_from (pointwise nat_eq k.namespace d.namespace) (starts_with (eq_by_cmp elem_cmp) d.elems k.elems)
+      ((bytes_decides k.namespace d.namespace).1 both.0) both.1

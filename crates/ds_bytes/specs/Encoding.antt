@@ -22,7 +22,8 @@ escaped s = flat_map escaped_byte s ++ 0x00 ∷ 0x01 ∷ []
 -- a number below 2^64 as 8 bytes, highest first
 abbrev pub eight_bytes : ℕ → List ℕ
 eight_bytes n =
-    n / 2 ^ 56 % 256 ∷ n / 2 ^ 48 % 256 ∷ n / 2 ^ 40 % 256 ∷ n / 2 ^ 32 % 256 ∷ n / 2 ^ 24 % 256 ∷ n / 2 ^ 16 % 256 ∷ n / 2 ^ 8 % 256 ∷ n % 256 ∷ []
+    n / 2 ^ 56 % 256 ∷ n / 2 ^ 48 % 256 ∷ n / 2 ^ 40 % 256 ∷ n / 2 ^ 32 % 256 ∷ n / 2 ^ 24 % 256 ∷ n / 2 ^ 16 % 256 ∷ n / 2 ^ 8 % 256 ∷ n
+    % 256 ∷ []
 
 -- a signed number of 64 bits, raised by 2^63, so that none is negative; `negsuc n` is -(n + 1)
 abbrev pub raised : ℤ → ℕ

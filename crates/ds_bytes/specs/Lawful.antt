@@ -1,5 +1,5 @@
 -- Which keys and values there are: what the types of the code keep, in the words of the definitions.
-use Rattle.std.specs.Prelude.{ℕ, ◌<◌, ◌^◌, List, All, IsTrue, IsUtf8, FitsSigned}
+use Rattle.std.specs.Prelude.{◌≡◌, ◌≢◌, ℕ, ◌<◌, ◌^◌, List, [], All, IsTrue, IsUtf8, FitsSigned}
 use Rattle.std.specs.Int.{w64}
 use Rattle.ds_base.specs.declared.key.Ident.{Ident}
 use Rattle.ds_base.specs.declared.key.Ident.TheVariants.{Id, Name}
@@ -57,3 +57,12 @@ IsLawfulValue (class.Num n) = FitsSigned w64 n
 IsLawfulValue (class.Bool b) = Unit {0}
 IsLawfulValue (class.Bytes s) = AreBytes s
 IsLawfulValue (class.Key k) = IsLawfulKey k
+
+-- a key of the default namespace, and one of another
+pub record IsDefaultKey (k : KeyParts) : Type 0 where
+  pub lawful : IsLawfulKey k
+  pub default : k.namespace ≡ []
+
+pub record IsNamedKey (k : KeyParts) : Type 0 where
+  pub lawful : IsLawfulKey k
+  pub named : k.namespace ≢ []

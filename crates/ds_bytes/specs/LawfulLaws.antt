@@ -6,7 +6,8 @@ use Rattle.ds_base.specs.declared.key.Elem.{Elem}
 use Rattle.ds_base.specs.declared.index_value.IndexValue.{IndexValue}
 use Rattle.ds_base.specs.declared.index_value.IndexValue.TheVariants as class
 use Rattle.ds_base.specs.Keys.{KeyParts}
-use Rattle.ds_bytes.specs.Lawful.{IsIdentOfBytes, IsElemOfBytes, IsKeyOfBytes, IsValueOfBytes, IsLawfulIdent, IsLawfulElem, IsLawfulKey, IsLawfulValue}
+use Rattle.ds_bytes.specs.Lawful.{IsIdentOfBytes, IsElemOfBytes, IsKeyOfBytes, IsValueOfBytes, IsLawfulIdent, IsLawfulElem, IsLawfulKey}
+use Rattle.ds_bytes.specs.Lawful.{IsLawfulValue}
 
 pub ident_of_bytes : (i : Ident) → IsLawfulIdent i → IsIdentOfBytes i
 ident_of_bytes (Id n) p = p

@@ -9,6 +9,7 @@ pub mod NumberLaws
 pub mod Ordered
 pub mod OrderedLaws
 pub mod Reading
+pub mod ReadingLaws
 pub mod RowLaws
 pub mod Rows
 pub mod SignedLaws

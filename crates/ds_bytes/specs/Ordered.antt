@@ -7,7 +7,8 @@ use Rattle.ds_base.specs.KeyOrder.{bytes_cmp}
 -- Two written things compare as the things do, and where these are equal, as what follows them. So their bytes have the
 -- order of the things; and where only equal things tie, nothing that is written begins what is written of another thing.
 pub record IsOrderedBy {A : Type 0} (cmp : A → A → Ordering) (Lawful : A → Type 0) (written : A → List ℕ) : Type 0 where
-  pub compares : (x y : A) (a b : List ℕ) → Lawful x → Lawful y → bytes_cmp (written x ++ a) (written y ++ b) ≡ ordering_then (cmp x y) (bytes_cmp a b)
+  pub compares : (x y : A) (a b : List ℕ) → Lawful x → Lawful y
+      → bytes_cmp (written x ++ a) (written y ++ b) ≡ ordering_then (cmp x y) (bytes_cmp a b)
 
 -- an order, or the other way round
 abbrev pub directed_cmp : {A : Type 0} → Bool → (A → A → Ordering) → A → A → Ordering

@@ -35,7 +35,8 @@ row_bytes directions key_descends row = columns_bytes directions row.values ++ k
 
 -- column by column, and then by key
 abbrev pub row_cmp : List Bool → Bool → RowParts → RowParts → Ordering
-row_cmp directions key_descends x y = ordering_then (columns_cmp directions x.values y.values) (directed_cmp key_descends key_cmp x.key y.key)
+row_cmp directions key_descends x y = ordering_then (columns_cmp directions x.values y.values)
+    (directed_cmp key_descends key_cmp x.key y.key)
 
 -- a row has a value for each column
 pub record IsRow (directions : List Bool) (row : RowParts) : Type 0 where

@@ -28,7 +28,8 @@ raised_below (negsuc a) (negsuc b) fits below = let lt : b < a = ltb-true b a (s
 
 raised_cmp : (y z : ℤ) → FitsSigned w64 y → FitsSigned w64 z → nat_cmp (raised y) (raised z) ≡ int_cmp y z
 raised_cmp y z p q = sym (nat_cmp_is (raised y) (raised z) (int_cmp y z) (by (int_cmp y z) (int_ranks y z))) where
-  by : (r : Ordering) → MatchOrdering r (y <ℤ z) (y ≡ z) (z <ℤ y) → MatchOrdering r (raised y < raised z) (raised y ≡ raised z) (raised z < raised y)
+  by : (r : Ordering) → MatchOrdering r (y <ℤ z) (y ≡ z) (z <ℤ y)
+      → MatchOrdering r (raised y < raised z) (raised y ≡ raised z) (raised z < raised y)
   by Less h = raised_below y z p h
   by Equal h = ap raised h
   by Greater h = raised_below z y q h
@@ -37,5 +38,6 @@ raised_cmp y z p q = sym (nat_cmp_is (raised y) (raised z) (int_cmp y z) (by (in
 pub signed-ordered : IsOrderedBy int_cmp (FitsSigned w64) (λ z. eight_bytes (raised z))
 signed-ordered = record {
   compares = λ y z a b p q.
-    eight_bytes-ordered.compares (raised y) (raised z) a b (raised-small y p) (raised-small z q) ∙ ap (λ r. ordering_then r (bytes_cmp a b)) (raised_cmp y z p q)
+      eight_bytes-ordered.compares (raised y) (raised z) a b (raised-small y p) (raised-small z q)
+      ∙ ap (λ r. ordering_then r (bytes_cmp a b)) (raised_cmp y z p q);
 }

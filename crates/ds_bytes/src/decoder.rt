@@ -1,10 +1,11 @@
 //! Keys and values, read from the front of bytes.
-ghost use Rattle.std.specs.Prelude.{◌≡◌, ℕ, List, ◌∷◌, ◌++◌, All, IfOk, IfSome, IfNone};
+ghost use Rattle.std.specs.Prelude.{◌≡◌, ℕ, List, ◌∷◌, ◌++◌, All, IsTrue, MatchOption, IfOk, IfSome, IfNone};
 ghost use Rattle.ds_bytes.specs.Encoding.{directed, encoding, key_encoding, raised, ident_bytes, elem_rest, key_bytes, namespace_bytes, path_bytes, value_bytes};
-ghost use Rattle.ds_bytes.specs.Lawful.{IsText, IsLawfulIdent, IsLawfulElem, IsLawfulKey, IsLawfulValue};
-ghost use Rattle.ds_bytes.specs.Reading.{Begins, NoneBegins, Found, Reads};
+ghost use Rattle.ds_bytes.specs.Lawful.{IsText, IsLawfulIdent, IsLawfulElem, IsLawfulKey, IsDefaultKey, IsNamedKey, IsLawfulValue};
+ghost use Rattle.ds_bytes.specs.Reading.{Begins, NoneBegins, Found, Reads, IsKeyOf};
+ghost use Rattle.ds_base.specs.Keys.{is_key};
 
-use crate::input::{byte_at, read_bytes, read_number, read_text};
+use crate::input::{behind, byte_at, read_bytes, read_number, read_text};
 use ds_base::{Elem, Elems, Ident, IndexValue, Key, NoMemory, TextString};
 use std::alloc::Global;
 
@@ -36,7 +37,11 @@ pub fn decode(alloc: Global, bytes: &[u8], descending: bool) -> Result<Option<De
 }
 
 /// The key whose encoding stands at the front of the bytes, as `decode` reads a value.
-pub fn decode_key(alloc: Global, bytes: &[u8], descending: bool) -> Result<Option<DecodedKey>, NoMemory>
+pub fn decode_key(
+    alloc: Global,
+    bytes: &[u8],
+    descending: bool,
+) -> Result<Option<DecodedKey>, NoMemory>
     ensures found { IfOk result (λ found. IfSome found (λ d. Begins (key_encoding descending) bytes.now d.key d.rest)) }
     ensures lawful { IfOk result (λ found. IfSome found (λ d. IsLawfulKey d.key)) }
     ensures none { IfOk result (λ found. IfNone found (NoneBegins IsLawfulKey (key_encoding descending) bytes.now)) }
@@ -47,20 +52,30 @@ pub fn decode_key(alloc: Global, bytes: &[u8], descending: bool) -> Result<Optio
     }
 }
 
-fn read_value(alloc: Global, bytes: &[u8], descending: bool) -> Result<Option<(IndexValue, usize)>, NoMemory>
+fn read_value(
+    alloc: Global,
+    bytes: &[u8],
+    descending: bool,
+) -> Result<Option<(IndexValue, usize)>, NoMemory>
     ensures { Reads IsLawfulValue value_bytes (directed descending bytes.now) result }
 {
-    let Some(tag) = byte_at(bytes, 0, descending) else {
-        return Ok(None);
+    let class = match byte_at(bytes, 0, descending) {
+        None => return Ok(None),
+        Some(found) => found,
     };
-    let rest = &bytes[1..];
-    match tag {
-        0x10 => Ok(Some((IndexValue::Null, 1))),
-        0x20 => read_signed(rest, descending),
-        0x30 => read_truth(rest, descending),
-        0x40 => read_sequence(alloc, rest, descending),
-        0x50 => read_key_value(alloc, rest, descending),
-        _ => Ok(None),
+    let rest = behind(bytes, 1);
+    if class == 0x10 {
+        Ok(Some((IndexValue::Null, 1)))
+    } else if class == 0x20 {
+        read_signed(rest, descending)
+    } else if class == 0x30 {
+        read_truth(rest, descending)
+    } else if class == 0x40 {
+        read_sequence(alloc, rest, descending)
+    } else if class == 0x50 {
+        read_key_value(alloc, rest, descending)
+    } else {
+        Ok(None)
     }
 }
 
@@ -93,22 +108,30 @@ fn read_truth(rest: &[u8], descending: bool) -> Result<Option<(IndexValue, usize
 }
 
 /// The byte sequence whose escaped bytes stand behind its class.
-fn read_sequence(alloc: Global, rest: &[u8], descending: bool) -> Result<Option<(IndexValue, usize)>, NoMemory>
+fn read_sequence(
+    alloc: Global,
+    rest: &[u8],
+    descending: bool,
+) -> Result<Option<(IndexValue, usize)>, NoMemory>
     ensures { Reads IsLawfulValue value_bytes (0x40 ∷ directed descending rest.now) result }
 {
     match read_bytes(alloc, rest, descending)? {
         None => Ok(None),
-        Some((bytes, taken)) => Ok(Some((IndexValue::Bytes(bytes), taken + 1))),
+        Some((bytes, taken)) => Ok(Some((IndexValue::Bytes(bytes), 1 + taken))),
     }
 }
 
 /// The key whose encoding stands behind its class.
-fn read_key_value(alloc: Global, rest: &[u8], descending: bool) -> Result<Option<(IndexValue, usize)>, NoMemory>
+fn read_key_value(
+    alloc: Global,
+    rest: &[u8],
+    descending: bool,
+) -> Result<Option<(IndexValue, usize)>, NoMemory>
     ensures { Reads IsLawfulValue value_bytes (0x50 ∷ directed descending rest.now) result }
 {
     match read_key(alloc, rest, descending)? {
         None => Ok(None),
-        Some((key, taken)) => Ok(Some((IndexValue::Key(key), taken + 1))),
+        Some((key, taken)) => Ok(Some((IndexValue::Key(key), 1 + taken))),
     }
 }
 
@@ -116,86 +139,131 @@ fn read_key_value(alloc: Global, rest: &[u8], descending: bool) -> Result<Option
 fn read_key(alloc: Global, bytes: &[u8], descending: bool) -> Result<Option<(Key, usize)>, NoMemory>
     ensures { Reads IsLawfulKey key_bytes (directed descending bytes.now) result }
 {
-    let Some((namespace, before)) = read_namespace(alloc, bytes, descending)? else {
-        return Ok(None);
+    let first = match byte_at(bytes, 0, descending) {
+        None => return Ok(None),
+        Some(found) => found,
     };
-    let Some((path, taken)) = read_path(alloc, &bytes[before..], descending)? else {
-        return Ok(None);
-    };
-    match Key::within(namespace, path) {
-        Ok(key) => Ok(Some((key, before + taken))),
-        Err(_) => Ok(None),
+    if first == 0x03 {
+        read_named_key(alloc, behind(bytes, 1), descending)
+    } else {
+        read_default_key(alloc, bytes, descending)
     }
 }
 
-/// The namespace before a path: the default one where no other stands there.
-fn read_namespace(alloc: Global, bytes: &[u8], descending: bool) -> Result<Option<(TextString, usize)>, NoMemory>
-    ensures none { IfOk result (λ found. IfNone found ((s more : List ℕ) (es : List Elem) → IsText s → directed descending bytes.now ≡ namespace_bytes s ++ (path_bytes es ++ more) → ⊥)) }
-    ensures found { IfOk result (λ found. IfSome found (λ x. Found IsText namespace_bytes (directed descending bytes.now) x.0 x.1)) }
+/// A path that makes a key of the default namespace.
+fn read_default_key(
+    alloc: Global,
+    bytes: &[u8],
+    descending: bool,
+) -> Result<Option<(Key, usize)>, NoMemory>
+    ensures { Reads IsDefaultKey key_bytes (directed descending bytes.now) result }
 {
-    match byte_at(bytes, 0, descending) {
-        Some(0x03) => read_named(alloc, &bytes[1..], descending),
-        _ => Ok(Some((TextString::new(alloc), 0))),
+    match read_path(alloc, bytes, descending)? {
+        None => Ok(None),
+        Some((path, taken)) => Ok(key_of(TextString::new(alloc), path, taken)),
     }
 }
 
-/// The namespace whose escaped bytes stand behind the byte that announces it, and which is not the default one.
-fn read_named(alloc: Global, rest: &[u8], descending: bool) -> Result<Option<(TextString, usize)>, NoMemory>
-    ensures { Reads IsText namespace_bytes (0x03 ∷ directed descending rest.now) result }
+/// A namespace other than the default, behind the byte that announces it, and a path, which make a key.
+fn read_named_key(
+    alloc: Global,
+    rest: &[u8],
+    descending: bool,
+) -> Result<Option<(Key, usize)>, NoMemory>
+    ensures { Reads IsNamedKey key_bytes (0x03 ∷ directed descending rest.now) result }
 {
     match read_text(alloc, rest, descending)? {
         None => Ok(None),
-        Some((namespace, taken)) => {
+        Some((namespace, before)) => {
             if namespace.bytes().is_empty() {
-                Ok(None)
-            } else {
-                Ok(Some((namespace, taken + 1)))
+                return Ok(None);
+            }
+            match read_path(alloc, behind(rest, before), descending)? {
+                None => Ok(None),
+                Some((path, taken)) => Ok(key_of(namespace, path, 1 + before + taken)),
             }
         }
     }
 }
 
+/// The key of these parts, which take so many bytes; none where they break a rule of keys.
+fn key_of(namespace: TextString, path: Elems, taken: usize) -> Option<(Key, usize)>
+    ensures { MatchOption result (IsTrue (is_key (record { namespace = namespace; elems = path })) → ⊥) (λ x. IsKeyOf namespace path x.0 × (x.1 ≡ taken)) }
+{
+    match Key::within(namespace, path) {
+        Ok(key) => Some((key, taken)),
+        Err(_) => None,
+    }
+}
+
 /// Elements up to the byte that ends a path.
-fn read_path(alloc: Global, bytes: &[u8], descending: bool) -> Result<Option<(Elems, usize)>, NoMemory>
+fn read_path(
+    alloc: Global,
+    bytes: &[u8],
+    descending: bool,
+) -> Result<Option<(Elems, usize)>, NoMemory>
     ensures { Reads (All IsLawfulElem) path_bytes (directed descending bytes.now) result }
 {
     let mut path = Vec::new(alloc);
-    let mut at = 0;
-    while at < bytes.len() {
-        match byte_at(bytes, at, descending) {
-            Some(0x01) => return Ok(Some((Elems::from(path), at + 1))),
-            Some(0x02) => {}
-            _ => return Ok(None),
-        }
-        let Some((elem, taken)) = read_elem(alloc, &bytes[at + 1..], descending)? else {
-            return Ok(None);
+    let mut taken = 0;
+    let mut rest = bytes;
+    'elems: loop {
+        let tag = match byte_at(rest, 0, descending) {
+            None => return Ok(None),
+            Some(found) => found,
         };
-        path.push(elem)?;
-        at += 1 + taken;
+        if tag == 0x01 {
+            return Ok(Some((Elems::from(path), taken + 1)));
+        }
+        if tag != 0x02 {
+            return Ok(None);
+        }
+        match read_elem(alloc, behind(rest, 1), descending)? {
+            None => return Ok(None),
+            Some((elem, more)) => {
+                path.push(elem)?;
+                taken += 1 + more;
+                rest = behind(rest, 1 + more);
+            }
+        }
     }
-    Ok(None)
 }
 
 /// A kind and an identifier: an element without the byte in front of it.
-fn read_elem(alloc: Global, bytes: &[u8], descending: bool) -> Result<Option<(Elem, usize)>, NoMemory>
+fn read_elem(
+    alloc: Global,
+    bytes: &[u8],
+    descending: bool,
+) -> Result<Option<(Elem, usize)>, NoMemory>
     ensures { Reads IsLawfulElem elem_rest (directed descending bytes.now) result }
 {
-    let Some((kind, before)) = read_text(alloc, bytes, descending)? else {
-        return Ok(None);
-    };
-    let Some((ident, taken)) = read_ident(alloc, &bytes[before..], descending)? else {
-        return Ok(None);
-    };
-    Ok(Some((Elem { kind, ident }, before + taken)))
+    match read_text(alloc, bytes, descending)? {
+        None => Ok(None),
+        Some((kind, before)) => match read_ident(alloc, behind(bytes, before), descending)? {
+            None => Ok(None),
+            Some((ident, taken)) => Ok(Some((Elem { kind, ident }, before + taken))),
+        },
+    }
 }
 
-fn read_ident(alloc: Global, bytes: &[u8], descending: bool) -> Result<Option<(Ident, usize)>, NoMemory>
+fn read_ident(
+    alloc: Global,
+    bytes: &[u8],
+    descending: bool,
+) -> Result<Option<(Ident, usize)>, NoMemory>
     ensures { Reads IsLawfulIdent ident_bytes (directed descending bytes.now) result }
 {
-    match byte_at(bytes, 0, descending) {
-        Some(0x10) => read_id(&bytes[1..], descending),
-        Some(0x20) => read_name(alloc, &bytes[1..], descending),
-        _ => Ok(None),
+    let tag = match byte_at(bytes, 0, descending) {
+        None => return Ok(None),
+        Some(found) => found,
+    };
+    let rest = behind(bytes, 1);
+    if tag == 0x10 {
+        read_id(rest, descending)
+    } else if tag == 0x20 {
+        read_name(alloc, rest, descending)
+    } else {
+        Ok(None)
     }
 }
 
@@ -210,11 +278,15 @@ fn read_id(rest: &[u8], descending: bool) -> Result<Option<(Ident, usize)>, NoMe
 }
 
 /// The name whose escaped bytes stand behind the byte that announces it.
-fn read_name(alloc: Global, rest: &[u8], descending: bool) -> Result<Option<(Ident, usize)>, NoMemory>
+fn read_name(
+    alloc: Global,
+    rest: &[u8],
+    descending: bool,
+) -> Result<Option<(Ident, usize)>, NoMemory>
     ensures { Reads IsLawfulIdent ident_bytes (0x20 ∷ directed descending rest.now) result }
 {
     match read_text(alloc, rest, descending)? {
         None => Ok(None),
-        Some((name, taken)) => Ok(Some((Ident::Name(name), taken + 1))),
+        Some((name, taken)) => Ok(Some((Ident::Name(name), 1 + taken))),
     }
 }

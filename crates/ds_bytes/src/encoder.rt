@@ -39,7 +39,11 @@ pub fn encode_key(key: &Key, descending: bool, onto: &mut Buffer) -> Result<(), 
 }
 
 /// The buffer with the encoding of the value at its end, where it wasn't refused.
-fn append_value(buffer: Buffer, value: &IndexValue, descending: bool) -> (Buffer, Result<(), NoMemory>)
+fn append_value(
+    buffer: Buffer,
+    value: &IndexValue,
+    descending: bool,
+) -> (Buffer, Result<(), NoMemory>)
     ensures { Appends (encoding descending value.now) (IsLawfulValue value.now) buffer result.0 result.1 }
 {
     let mut output = begin(buffer, descending);

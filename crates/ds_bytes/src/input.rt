@@ -1,5 +1,5 @@
 //! The parts of an encoding, read from the front of bytes.
-ghost use Rattle.std.specs.Prelude.{◌≡◌, ℕ, ◌<◌, ◌≤◌, ◌++◌, ◌^◌, length, take, drop, slice_get, if◌then◌else◌, true, MatchOption, IfOk};
+ghost use Rattle.std.specs.Prelude.{◌≡◌, ℕ, ◌<◌, ◌≤◌, ◌++◌, ◌^◌, length, take, drop, slice_get, string_bytes, IsUtf8, MatchOption, IfOk};
 ghost use Rattle.ds_lanes.specs.Kernels.{first_zero, complement};
 ghost use Rattle.ds_bytes.specs.Encoding.{directed, escaped, eight_bytes};
 ghost use Rattle.ds_bytes.specs.Lawful.{AreBytes, IsText};
@@ -32,6 +32,14 @@ pub(crate) fn byte_at(bytes: &[u8], at: usize, descending: bool) -> Option<u8>
     }
 }
 
+/// What is behind the first bytes.
+pub(crate) fn behind(bytes: &[u8], first: usize) -> &[u8]
+    requires { first ≤ length bytes.now }
+    ensures { result.now ≡ drop first bytes.now }
+{
+    bytes.split_at(first).1
+}
+
 /// The number of 8 bytes at the front; none where there are fewer.
 pub(crate) fn read_number(bytes: &[u8], descending: bool) -> Option<u64>
     ensures { MatchOption result (length bytes.now < 8) (λ n. Begins eight_bytes (directed descending bytes.now) n 8) }
@@ -40,38 +48,50 @@ pub(crate) fn read_number(bytes: &[u8], descending: bool) -> Option<u64>
         return None;
     }
     let mut eight = [0; 8];
-    direct(&mut eight, &bytes[..8], descending);
+    direct(&mut eight, bytes.split_at(8).0, descending);
     Some(u64::from_be_bytes(eight))
 }
 
 /// The text at the front, with its zero bytes as they were before they were escaped.
-pub(crate) fn read_bytes(alloc: Global, bytes: &[u8], descending: bool) -> Result<Option<(ByteString, usize)>, NoMemory>
+pub(crate) fn read_bytes(
+    alloc: Global,
+    bytes: &[u8],
+    descending: bool,
+) -> Result<Option<(ByteString, usize)>, NoMemory>
     ensures { Reads AreBytes escaped (directed descending bytes.now) result }
 {
     let mut text = Vec::new(alloc);
-    let mut at = 0;
-    while bytes.len() - at >= 2 {
-        at += append_run(&bytes[at..], descending, &mut text)?;
-        match byte_at(bytes, at + 1, descending) {
-            Some(0x01) => return Ok(Some((ByteString::from_vec(text), at + 2))),
-            Some(0xff) => text.push(0)?,
-            _ => return Ok(None),
+    let mut taken = 0;
+    let mut rest = bytes;
+    'runs: loop {
+        let run = append_run(rest, descending, &mut text)?;
+        let follower = match byte_at(rest, run + 1, descending) {
+            None => return Ok(None),
+            Some(found) => found,
+        };
+        taken += run + 2;
+        if follower == 0x01 {
+            return Ok(Some((ByteString::from_vec(text), taken)));
         }
-        at += 2;
+        if follower != 0xff {
+            return Ok(None);
+        }
+        text.push(0)?;
+        rest = behind(rest, run + 2);
     }
-    Ok(None)
 }
 
 /// Appends the bytes before the first zero byte, and gives how many they are.
 fn append_run(bytes: &[u8], descending: bool, text: &mut Vec<u8>) -> Result<usize, NoMemory>
     ensures run { IfOk result (λ run. run ≡ first_zero (directed descending bytes.now)) }
     ensures appended { IfOk result (λ run. text.new.items ≡ text.old.items ++ take run (directed descending bytes.now)) }
+    ensures within { IfOk result (λ run. run ≤ length bytes.now) }
 {
     if descending {
         return append_turned_run(bytes, text);
     }
     let run = first_zero(bytes);
-    text.extend_from_slice(&bytes[..run])?;
+    text.extend_from_slice(bytes.split_at(run).0)?;
     Ok(run)
 }
 
@@ -79,23 +99,28 @@ fn append_run(bytes: &[u8], descending: bool, text: &mut Vec<u8>) -> Result<usiz
 fn append_turned_run(bytes: &[u8], text: &mut Vec<u8>) -> Result<usize, NoMemory>
     ensures run { IfOk result (λ run. run ≡ first_zero (complement bytes.now)) }
     ensures appended { IfOk result (λ run. text.new.items ≡ text.old.items ++ take run (complement bytes.now)) }
+    ensures within { IfOk result (λ run. run ≤ length bytes.now) }
 {
-    let mut at = 0;
-    while bytes.len() - at > BLOCK {
-        let run = append_block_run(&bytes[at..at + BLOCK], text)?;
-        at += run;
-        if run < BLOCK {
-            return Ok(at);
+    let mut run = 0;
+    let mut rest = bytes;
+    while rest.len() > BLOCK {
+        let (block, behind) = rest.split_at(BLOCK);
+        let plain = append_block_run(block, text)?;
+        run += plain;
+        if plain < BLOCK {
+            return Ok(run);
         }
+        rest = behind;
     }
-    let run = append_block_run(&bytes[at..], text)?;
-    Ok(at + run)
+    let plain = append_block_run(rest, text)?;
+    Ok(run + plain)
 }
 
 fn append_block_run(bytes: &[u8], text: &mut Vec<u8>) -> Result<usize, NoMemory>
     requires { length bytes.now ≤ BLOCK }
     ensures run { IfOk result (λ run. run ≡ first_zero (complement bytes.now)) }
     ensures appended { IfOk result (λ run. text.new.items ≡ text.old.items ++ take run (complement bytes.now)) }
+    ensures within { IfOk result (λ run. run ≤ length bytes.now) }
 {
     let mut block = [0; BLOCK];
     let turned = &mut block[..bytes.len()];
@@ -106,14 +131,28 @@ fn append_block_run(bytes: &[u8], text: &mut Vec<u8>) -> Result<usize, NoMemory>
 }
 
 /// The text at the front, which is UTF-8.
-pub(crate) fn read_text(alloc: Global, bytes: &[u8], descending: bool) -> Result<Option<(TextString, usize)>, NoMemory>
+pub(crate) fn read_text(
+    alloc: Global,
+    bytes: &[u8],
+    descending: bool,
+) -> Result<Option<(TextString, usize)>, NoMemory>
     ensures { Reads IsText escaped (directed descending bytes.now) result }
 {
-    let Some((text, taken)) = read_bytes(alloc, bytes, descending)? else {
-        return Ok(None);
-    };
-    match String::from_utf8(text.into_vec()) {
-        Ok(text) => Ok(Some((TextString::from_string(text), taken))),
-        Err(_) => Ok(None),
+    match read_bytes(alloc, bytes, descending)? {
+        None => Ok(None),
+        Some((text, taken)) => match String::from_utf8(text.into_vec()) {
+            Ok(text) => Ok(Some((text_of(text), taken))),
+            Err(_) => Ok(None),
+        },
     }
+}
+
+/// The text of a string, which is UTF-8.
+fn text_of(string: String) -> TextString
+    ensures value { result ≡ string_bytes string }
+    ensures utf8 { IsUtf8 result }
+{
+    let text = TextString::from_string(string);
+    let _ = text.bytes();
+    text
 }

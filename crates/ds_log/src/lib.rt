@@ -2,15 +2,16 @@
 //!
 //! A journal is a list of commits, numbered from 1. Each commit gives one log entry per entity group that it writes, to the
 //! shard of that group. The definitions stand in `specs/`: `Logs` (groups, shard lists), `Shards` (which shard a group
-//! belongs to) and `After` (what a list of writes leaves). `hash` computes the hash that tells shards apart.
+//! belongs to) and `After` (what a list of writes leaves). `hash` computes the hash that tells shards apart, and `shard` the
+//! shard of a group.
 #![tactic(auto)]
 
 pub mod hash;
-#[cfg(test)]
-mod tests;
+pub mod shard;
 
 use ds_base::{Entity, Key, Sequence};
 pub use hash::fnv1a;
+pub use shard::shard_of;
 
 /// A write of one entity.
 #[derive(Drop)]

@@ -8,8 +8,8 @@ ghost use Rattle.ds_request.specs.Queries.{op_of, operands_of, filter_of};
 
 use crate::forms::Form;
 use crate::forms::lists::{read_some, take_three};
-use crate::forms::scalars::name;
-use crate::forms::values::{ValueForm, only, read_value};
+use crate::forms::scalars::NameForm;
+use crate::forms::values::{ValueForm, only};
 use crate::refusal::Refusal;
 use ds_base::Values;
 use ds_query::{Filter, Op};
@@ -46,7 +46,7 @@ fn read_filter(alloc: Global, property: Value, op: Value, operand: Value) -> Res
     ensures { Reads Refusal.NoMemory
         (filter_of (array (items_view (property ∷ op ∷ operand ∷ [])))) result }
 {
-    let property = name(property)?;
+    let property = NameForm.read(alloc, property)?;
     let op = operator(&op)?;
     let values = operands(alloc, op, operand)?;
     Ok(Filter {
@@ -82,13 +82,6 @@ fn operands(alloc: Global, op: Op, value: Value) -> Result<Values, Refusal>
     if op == Op::OneOf {
         read_some(alloc, &ValueForm, value)
     } else {
-        one_operand(alloc, value)
+        only(alloc, ValueForm.read(alloc, value)?)
     }
-}
-
-fn one_operand(alloc: Global, value: Value) -> Result<Values, Refusal>
-    ensures { Reads Refusal.NoMemory (read_as (λ v. v ∷ []) (value_of (view value))) result }
-{
-    let value = read_value(alloc, value)?;
-    only(alloc, value)
 }

@@ -1,8 +1,8 @@
 //! Keys: elements, paths, and the completion of a path.
 ghost use Rattle.std.specs.Prelude.{◌≡◌, ◌++◌, [], IsTrue, length};
 ghost use Rattle.std.specs.Vec.Iter.{into_iter_items};
-ghost use Rattle.serde_json.specs.Data.{number as number_data, array, item, no_items};
-ghost use Rattle.serde_json.specs.View.{view, number_view, items_view};
+ghost use Rattle.serde_json.specs.Data.{array, item, no_items};
+ghost use Rattle.serde_json.specs.View.{view, items_view};
 ghost use Rattle.ds_request.specs.Reading.{Reads, and_then, each_of};
 ghost use Rattle.ds_request.specs.Keys.{ident_of, elem_of, key_of, lawful_key, writable_key_of, completed, is_incomplete, entity_key_of};
 
@@ -10,12 +10,12 @@ use crate::forms::Form;
 use crate::forms::lists::{read_rest, take_two};
 use crate::refusal::Refusal;
 use ds_base::{Elem, Elems, Ident, Key, TextString};
-use serde_json::{Number, Value};
+use serde_json::Value;
 use std::alloc::Global;
 use std::mem;
 use std::vec::IntoIter;
 
-/// A key; reserved kinds and names are allowed.
+/// A key: an array of elements, before which its namespace may stand. Reserved kinds and names are allowed.
 #[derive(Drop)]
 pub(crate) struct KeyForm;
 
@@ -25,7 +25,10 @@ impl Form for KeyForm {
     ghost reads = { λ _. key_of };
 
     fn read(&self, alloc: Global, value: Value) -> Result<Key, Refusal> {
-        read_key(alloc, value)
+        match value {
+            Value::Array(items) => read_items(alloc, items),
+            _ => Err(Refusal::Key),
+        }
     }
 }
 
@@ -39,28 +42,12 @@ impl Form for WritableKeyForm {
     ghost reads = { λ _. writable_key_of };
 
     fn read(&self, alloc: Global, value: Value) -> Result<Key, Refusal> {
-        read_writable_key(alloc, value)
+        let key = KeyForm.read(alloc, value)?;
+        if !key.writable() {
+            return Err(Refusal::Key);
+        }
+        Ok(key)
     }
-}
-
-/// Reads a key: an array of elements, before which its namespace may stand.
-pub(crate) fn read_key(alloc: Global, value: Value) -> Result<Key, Refusal>
-    ensures { Reads Refusal.NoMemory (key_of (view value)) result }
-{
-    match value {
-        Value::Array(items) => read_items(alloc, items),
-        _ => Err(Refusal::Key),
-    }
-}
-
-fn read_writable_key(alloc: Global, value: Value) -> Result<Key, Refusal>
-    ensures { Reads Refusal.NoMemory (writable_key_of (view value)) result }
-{
-    let key = read_key(alloc, value)?;
-    if !key.writable() {
-        return Err(Refusal::Key);
-    }
-    Ok(key)
 }
 
 /// Reads the key of an entity, and tells whether it is incomplete: its last identifier is null, and read as the id 1.
@@ -77,7 +64,7 @@ fn read_entity_items(alloc: Global, mut items: Vec<Value>) -> Result<(Key, bool)
     ensures { Reads Refusal.NoMemory (entity_key_of (array (items_view items.items))) result }
 {
     let incomplete = complete(&mut items);
-    let key = read_writable_key(alloc, Value::Array(items))?;
+    let key = WritableKeyForm.read(alloc, Value::Array(items))?;
     Ok((key, incomplete))
 }
 
@@ -161,7 +148,7 @@ fn read_default(alloc: Global, first: Value, rest: IntoIter<Value>) -> Result<Ke
     ensures { Reads Refusal.NoMemory
         (and_then (each_of elem_of (item (view first) (items_view (into_iter_items rest)))) (lawful_key [])) result }
 {
-    let elem = read_elem(first)?;
+    let elem = ElemForm.read(alloc, first)?;
     let mut path = Vec::new(alloc);
     match path.push(elem) {
         Ok(()) => read_path(alloc, TextString::new(alloc), path, rest),
@@ -193,7 +180,7 @@ fn lawful(namespace: TextString, path: Elems) -> Result<Key, Refusal>
     }
 }
 
-/// An element of a path.
+/// An element of a path: a kind and an identifier.
 #[derive(Drop)]
 struct ElemForm;
 
@@ -203,17 +190,10 @@ impl Form for ElemForm {
     ghost reads = { λ _. elem_of };
 
     fn read(&self, _alloc: Global, value: Value) -> Result<Elem, Refusal> {
-        read_elem(value)
-    }
-}
-
-/// Reads an element: a kind and an identifier.
-fn read_elem(value: Value) -> Result<Elem, Refusal>
-    ensures { result ≡ elem_of (view value) }
-{
-    match value {
-        Value::Array(parts) => read_parts(parts),
-        _ => Err(Refusal::Key),
+        match value {
+            Value::Array(parts) => read_parts(parts),
+            _ => Err(Refusal::Key),
+        }
     }
 }
 
@@ -246,17 +226,11 @@ fn read_ident(value: Value) -> Result<Ident, Refusal>
     ensures { result ≡ ident_of (view value) }
 {
     match value {
-        Value::Number(id) => read_id(&id),
+        Value::Number(id) => match id.as_i64() {
+            Some(id) if id >= 0 => Ok(Ident::Id(id as u64)),
+            _ => Err(Refusal::Key),
+        },
         Value::String(name) => Ok(Ident::Name(TextString::from_string(name))),
-        _ => Err(Refusal::Key),
-    }
-}
-
-fn read_id(number: &Number) -> Result<Ident, Refusal>
-    ensures { result ≡ ident_of (number_data (number_view number.now)) }
-{
-    match number.as_i64() {
-        Some(id) if id >= 0 => Ok(Ident::Id(id as u64)),
         _ => Err(Refusal::Key),
     }
 }

@@ -3,7 +3,7 @@ ghost use Rattle.ds_request.specs.Queries.{named_value_of, named_values_of};
 
 use crate::forms::Form;
 use crate::forms::entries::{EntryForm, read_entries};
-use crate::forms::values::read_value;
+use crate::forms::values::ValueForm;
 use crate::refusal::Refusal;
 use ds_base::{NamedValue, NamedValues, TextString};
 use serde_json::Value;
@@ -43,7 +43,7 @@ impl EntryForm for NamedValueForm {
     ) -> Result<Option<NamedValue>, Refusal> {
         Ok(Some(NamedValue {
             name: TextString::from_string(name),
-            value: read_value(alloc, value)?,
+            value: ValueForm.read(alloc, value)?,
         }))
     }
 }

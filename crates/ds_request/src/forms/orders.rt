@@ -2,11 +2,12 @@
 ghost use Rattle.std.specs.Prelude.{◌≡◌, [], ◌∷◌};
 ghost use Rattle.serde_json.specs.Data.{array};
 ghost use Rattle.serde_json.specs.View.{view, items_view};
+ghost use Rattle.ds_request.specs.Reading.{Reads};
 ghost use Rattle.ds_request.specs.Queries.{direction_of, order_of};
 
 use crate::forms::Form;
 use crate::forms::lists::take_two;
-use crate::forms::scalars::name;
+use crate::forms::scalars::NameForm;
 use crate::refusal::Refusal;
 use ds_base::Column;
 use serde_json::Value;
@@ -21,27 +22,27 @@ impl Form for OrderForm {
 
     ghost reads = { λ _. order_of };
 
-    fn read(&self, _alloc: Global, value: Value) -> Result<Column, Refusal> {
+    fn read(&self, alloc: Global, value: Value) -> Result<Column, Refusal> {
         match value {
-            Value::Array(parts) => read_parts(parts),
+            Value::Array(parts) => read_parts(alloc, parts),
             _ => Err(Refusal::Request),
         }
     }
 }
 
-fn read_parts(parts: Vec<Value>) -> Result<Column, Refusal>
-    ensures { result ≡ order_of (array (items_view parts.items)) }
+fn read_parts(alloc: Global, parts: Vec<Value>) -> Result<Column, Refusal>
+    ensures { Reads Refusal.NoMemory (order_of (array (items_view parts.items))) result }
 {
     match take_two(parts) {
-        Some((property, direction)) => read_order(property, direction),
+        Some((property, direction)) => read_order(alloc, property, direction),
         None => Err(Refusal::Request),
     }
 }
 
-fn read_order(property: Value, direction: Value) -> Result<Column, Refusal>
-    ensures { result ≡ order_of (array (items_view (property ∷ direction ∷ []))) }
+fn read_order(alloc: Global, property: Value, direction: Value) -> Result<Column, Refusal>
+    ensures { Reads Refusal.NoMemory (order_of (array (items_view (property ∷ direction ∷ [])))) result }
 {
-    let name = name(property)?;
+    let name = NameForm.read(alloc, property)?;
     let descending = is_descending(&direction)?;
     Ok(Column { name, descending })
 }

@@ -35,38 +35,6 @@ pub(crate) fn up_to(greatest: u32, value: &Value) -> Option<u32>
     }
 }
 
-/// The text that stands here.
-fn text(value: Value) -> Result<TextString, Refusal>
-    ensures { result ≡ text_of (view value) }
-{
-    match value {
-        Value::String(text) => Ok(TextString::from_string(text)),
-        _ => Err(Refusal::Request),
-    }
-}
-
-/// The name of at least one byte that stands here.
-pub(crate) fn name(value: Value) -> Result<TextString, Refusal>
-    ensures { result ≡ name_of (view value) }
-{
-    let name = text(value)?;
-    if name.bytes().is_empty() {
-        return Err(Refusal::Request);
-    }
-    Ok(name)
-}
-
-/// The namespace that stands here.
-fn namespace(value: Value) -> Result<TextString, Refusal>
-    ensures { result ≡ namespace_of (view value) }
-{
-    let namespace = text(value)?;
-    if !is_namespace(namespace.bytes()) {
-        return Err(Refusal::Request);
-    }
-    Ok(namespace)
-}
-
 /// Any text.
 #[derive(Drop)]
 pub(crate) struct TextForm;
@@ -77,7 +45,10 @@ impl Form for TextForm {
     ghost reads = { λ _. text_of };
 
     fn read(&self, _alloc: Global, value: Value) -> Result<TextString, Refusal> {
-        text(value)
+        match value {
+            Value::String(text) => Ok(TextString::from_string(text)),
+            _ => Err(Refusal::Request),
+        }
     }
 }
 
@@ -90,8 +61,12 @@ impl Form for NameForm {
 
     ghost reads = { λ _. name_of };
 
-    fn read(&self, _alloc: Global, value: Value) -> Result<TextString, Refusal> {
-        name(value)
+    fn read(&self, alloc: Global, value: Value) -> Result<TextString, Refusal> {
+        let name = TextForm.read(alloc, value)?;
+        if name.bytes().is_empty() {
+            return Err(Refusal::Request);
+        }
+        Ok(name)
     }
 }
 
@@ -104,8 +79,12 @@ impl Form for NamespaceForm {
 
     ghost reads = { λ _. namespace_of };
 
-    fn read(&self, _alloc: Global, value: Value) -> Result<TextString, Refusal> {
-        namespace(value)
+    fn read(&self, alloc: Global, value: Value) -> Result<TextString, Refusal> {
+        let namespace = TextForm.read(alloc, value)?;
+        if !is_namespace(namespace.bytes()) {
+            return Err(Refusal::Request);
+        }
+        Ok(namespace)
     }
 }
 

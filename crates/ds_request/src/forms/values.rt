@@ -16,7 +16,7 @@ ghost use Rattle.ds_request.specs.Keys.{key_of};
 ghost use Rattle.ds_request.specs.Values.{base64_of, tagged_value_of, value_of, property_value_of, values_of, property_values_of};
 
 use crate::forms::Form;
-use crate::forms::keys::read_key;
+use crate::forms::keys::KeyForm;
 use crate::forms::lists::read_each;
 use crate::forms::scalars::up_to;
 use crate::members::Members;
@@ -38,24 +38,17 @@ impl Form for ValueForm {
     ghost reads = { λ _. value_of };
 
     fn read(&self, alloc: Global, value: Json) -> Result<Value, Refusal> {
-        read_value(alloc, value)
-    }
-}
-
-/// Reads a value.
-pub(crate) fn read_value(alloc: Global, value: Json) -> Result<Value, Refusal>
-    ensures { Reads Refusal.NoMemory (value_of (view value)) result }
-{
-    match value {
-        Json::Null => Ok(Value::Null),
-        Json::Bool(b) => Ok(Value::Bool(b)),
-        Json::Number(number) => match number.as_i64() {
-            Some(n) => Ok(Value::Int(n)),
-            None => Err(Refusal::Value),
-        },
-        Json::String(text) => Ok(Value::Str(TextString::from_string(text))),
-        Json::Array(_) => Err(Refusal::Value),
-        Json::Object(members) => read_tagged(alloc, members),
+        match value {
+            Json::Null => Ok(Value::Null),
+            Json::Bool(b) => Ok(Value::Bool(b)),
+            Json::Number(number) => match number.as_i64() {
+                Some(n) => Ok(Value::Int(n)),
+                None => Err(Refusal::Value),
+            },
+            Json::String(text) => Ok(Value::Str(TextString::from_string(text))),
+            Json::Array(_) => Err(Refusal::Value),
+            Json::Object(members) => read_tagged(alloc, members),
+        }
     }
 }
 
@@ -89,7 +82,7 @@ fn read_tagged_value(alloc: Global, name: &str, value: Json) -> Result<Value, Re
         "bytes" => Ok(Value::Bytes(read_base64(alloc, value)?)),
         "text" => read_text(value),
         "blob" => Ok(Value::Blob(read_base64(alloc, value)?)),
-        "key" => Ok(Value::Key(read_key(alloc, value)?)),
+        "key" => Ok(Value::Key(KeyForm.read(alloc, value)?)),
         _ => Err(Refusal::Value),
     }
 }
@@ -150,6 +143,13 @@ pub(crate) fn read_property_values(alloc: Global, value: Json) -> Result<(bool, 
     }
 }
 
+fn read_indexed(alloc: Global, value: Json) -> Result<(bool, Values), Refusal>
+    ensures { Reads Refusal.NoMemory (read_as (λ vs. (true, vs)) (values_of true (view value))) result }
+{
+    let values = read_values(alloc, true, value)?;
+    Ok((true, values))
+}
+
 fn read_object_values(alloc: Global, members: Members) -> Result<(bool, Values), Refusal>
     ensures { Reads Refusal.NoMemory (property_values_of (object (members_view members.entries))) result }
 {
@@ -174,28 +174,14 @@ fn read_member_values(alloc: Global, name: &str, value: Json) -> Result<(bool, V
     }
 }
 
-fn read_indexed(alloc: Global, value: Json) -> Result<(bool, Values), Refusal>
-    ensures { Reads Refusal.NoMemory (read_as (λ vs. (true, vs)) (values_of true (view value))) result }
-{
-    let values = read_values(alloc, true, value)?;
-    Ok((true, values))
-}
-
 /// Reads one value, or an array of them.
 fn read_values(alloc: Global, indexed: bool, value: Json) -> Result<Values, Refusal>
     ensures { Reads Refusal.NoMemory (values_of indexed (view value)) result }
 {
     match value {
         Json::Array(items) => read_each(alloc, &PropertyValueForm { indexed }, items),
-        value => read_only(alloc, indexed, value),
+        value => only(alloc, PropertyValueForm { indexed }.read(alloc, value)?),
     }
-}
-
-fn read_only(alloc: Global, indexed: bool, value: Json) -> Result<Values, Refusal>
-    ensures { Reads Refusal.NoMemory (read_as (λ v. v ∷ []) (property_value_of indexed (view value))) result }
-{
-    let value = read_property_value(alloc, indexed, value)?;
-    only(alloc, value)
 }
 
 /// The list of one value.
@@ -221,15 +207,9 @@ impl Form for PropertyValueForm {
     ghost reads = { λ form. property_value_of form.indexed };
 
     fn read(&self, alloc: Global, value: Json) -> Result<Value, Refusal> {
-        read_property_value(alloc, self.indexed, value)
+        let value = ValueForm.read(alloc, value)?;
+        unless_faulty(self.indexed, value)
     }
-}
-
-fn read_property_value(alloc: Global, indexed: bool, value: Json) -> Result<Value, Refusal>
-    ensures { Reads Refusal.NoMemory (property_value_of indexed (view value)) result }
-{
-    let value = read_value(alloc, value)?;
-    unless_faulty(indexed, value)
 }
 
 /// The value, unless no property may have it: what indexes hold is too long.

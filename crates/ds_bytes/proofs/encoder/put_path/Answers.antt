@@ -16,7 +16,7 @@ loop-elem-preserved c =
     let below : i < length path = c.loop-elem-test.true in
     let one_more : take i path ++ e ∷ [] ≡ take (i + 1) path = ap (λ x. take i path ++ x ∷ []) c.elem-item.is ∙ sym (take_more path i e below) in
     let joined : flat_map elem_bytes (take i path) ++ elem_bytes e ≡ flat_map elem_bytes (take (i + 1) path) =
-        flat_map_more elem_bytes [] (take i path) e ∙ ap (flat_map elem_bytes) one_more in
+    flat_map_more elem_bytes [] (take i path) e ∙ ap (flat_map elem_bytes) one_more in
     record {
       so_far = subst (λ bs. Puts bs c.args.output.now c.put_elem.new.output) joined (puts_joined _ _ _ _ _ c.loop-elem.invariant.so_far c.put_elem.ensures.puts);
       lawful = All-more IsLawfulElem path i e below c.loop-elem.invariant.lawful (subst IsLawfulElem c.elem-item.is c.put_elem.ensures.lawful);

@@ -13,11 +13,11 @@ loop-run-preserved c =
     let back : c.split_at-in-loop-run.result.1.now ≡ drop (suc c.loop-run.run) rest = behind_run rest c.loop-run.run _ _ c.split_at.ensures.back c.split_at-in-loop-run.ensures.back in
     let below : c.loop-run.run < length rest = c.loop-run-test.true in
     let whole : (c.split_at.result.0.now ++ 0 ∷ 255 ∷ []) ++ escaped c.split_at-in-loop-run.result.1.now ≡ escaped rest =
-        (λ i. (front i ++ 0 ∷ 255 ∷ []) ++ escaped (back i)) ∙ sym (escaped-run rest c.loop-run.run c.loop-run.invariant.first below) in
+    (λ i. (front i ++ 0 ∷ 255 ∷ []) ++ escaped (back i)) ∙ sym (escaped-run rest c.loop-run.run c.loop-run.invariant.first below) in
     record {
       first = c.first_zero-run-in-loop-run.ensures.value;
       whole = λ u h. c.loop-run.invariant.whole u
-        (subst (λ bs. Puts bs c.loop-run.output u) whole (puts_joined _ _ _ _ _ (puts_joined _ _ _ _ _ c.put.ensures c.put-in-loop-run.ensures) h));
+          (subst (λ bs. Puts bs c.loop-run.output u) whole (puts_joined _ _ _ _ _ (puts_joined _ _ _ _ _ c.put.ensures c.put-in-loop-run.ensures) h));
     }
 
 pub returns : goal.returns
