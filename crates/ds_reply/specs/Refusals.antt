@@ -2,11 +2,11 @@
 use Rattle.std.specs.Prelude.{ℕ, List, [], ◌∷◌, codes}
 use Rattle.serde_json.specs.Data.{string}
 use Rattle.ds_query.specs.declared.field.Field.{Field}
-use Rattle.ds_query.specs.declared.refusal.Reason.{Reason}
+use Rattle.ds_query.specs.Fields.{field_name}
 use Rattle.ds_reply.specs.declared.reply.Body.{Body}
 use Rattle.ds_reply.specs.declared.reply.Body.TheVariants as body
 use Rattle.ds_reply.specs.Members.{Named, named}
-use Rattle.ds_reply.specs.Names.{field_name, reason_name}
+use Rattle.ds_reply.specs.Names.{reason_name}
 use Rattle.ds_reply.specs.Printing.{natural, key_data, optional_key_data, constraint_data, index_def_data}
 
 -- a refusal tells its number, its name and more

@@ -4,7 +4,8 @@ ghost use Rattle.serde_json.specs.Data.{string, array};
 ghost use Rattle.arrayvec.specs.ArrayVec.{array_vec_len};
 ghost use Rattle.ds_reply.specs.Printing.{natural, key_data, optional_key_data, optional_entity_data, result_items, count_items};
 ghost use Rattle.ds_reply.specs.Members.{named};
-ghost use Rattle.ds_reply.specs.Shown.{name_text, member_named};
+ghost use Rattle.ds_reply.specs.MemberNames.{name_text};
+ghost use Rattle.ds_reply.specs.Shown.{member_named};
 
 use crate::member_name::{MemberName, compare_names};
 use crate::order::HasName;

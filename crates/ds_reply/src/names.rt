@@ -1,38 +1,8 @@
-//! The names of fields and reasons.
+//! The names of the rules that a query may break.
 ghost use Rattle.std.specs.Prelude.{◌≡◌};
-ghost use Rattle.ds_reply.specs.Names.{field_name, reason_name};
+ghost use Rattle.ds_reply.specs.Names.{reason_name};
 
-use ds_query::{Field, Reason};
-
-/// The name of the member that a refusal tells.
-pub(crate) fn field_name(field: Field) -> &'static [u8]
-    ensures { result.now ≡ field_name field }
-{
-    match field {
-        Field::Line => b"line",
-        Field::Client => b"client",
-        Field::Op => b"op",
-        Field::Namespace => b"namespace",
-        Field::Entity => b"entity",
-        Field::Key => b"key",
-        Field::Kind => b"kind",
-        Field::Ancestor => b"ancestor",
-        Field::Filters => b"filters",
-        Field::Orders => b"orders",
-        Field::Select => b"select",
-        Field::Offset => b"offset",
-        Field::Limit => b"limit",
-        Field::Start => b"start",
-        Field::End => b"end",
-        Field::Cursor => b"cursor",
-        Field::Text => b"text",
-        Field::Args => b"args",
-        Field::Names => b"names",
-        Field::Xg => b"xg",
-        Field::Count => b"count",
-        Field::Shard => b"shard",
-    }
-}
+use ds_query::Reason;
 
 /// The name of the rule that a query breaks.
 pub(crate) fn reason_name(reason: Reason) -> &'static [u8]

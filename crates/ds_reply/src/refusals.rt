@@ -6,7 +6,7 @@ ghost use Rattle.ds_reply.specs.Shown.{member_named};
 
 use crate::member::{Member, Members, Shown, add_members, key, number, optional_key, text};
 use crate::member_name::MemberName;
-use crate::names::{field_name, reason_name};
+use crate::names::reason_name;
 use crate::reply::Body;
 use ds_query::Field;
 
@@ -152,5 +152,5 @@ fn add_refused<'a>(members: &mut Members<'a>, code: u64, name: &'static [u8], mo
 fn at_field<'a>(field: Field) -> Member<'a>
     ensures { member_named result ≡ at_field field }
 {
-    text(MemberName::Field, field_name(field))
+    text(MemberName::Field, field.name().as_bytes())
 }

@@ -47,3 +47,24 @@ returns-in-IdsExhausted-clause-items c = refusal_told _ _ _ _ _ c.in-IdsExhauste
 
 pub returns-in-Expired-clause-items : goal.returns-in-Expired-clause-items
 returns-in-Expired-clause-items c = refusal_told _ _ _ _ _ c.in-Expired.is c.add_refused-in-Expired.ensures.items (three (refused 23 (codes "Expired")) _ _ _ _ _ _ c.number-in-Expired.ensures c.number-in-Expired-2.ensures c.number-in-Expired-3.ensures)
+
+pub returns-in-LineTooLong-clause-items : goal.returns-in-LineTooLong-clause-items
+returns-in-LineTooLong-clause-items c = refusal_told _ _ _ _ _ c.in-LineTooLong.is c.add_refused-in-LineTooLong.ensures.items refl
+
+pub returns-in-InTransaction-clause-items : goal.returns-in-InTransaction-clause-items
+returns-in-InTransaction-clause-items c = refusal_told _ _ _ _ _ c.in-InTransaction.is c.add_refused-in-InTransaction.ensures.items refl
+
+pub returns-in-NoTransaction-clause-items : goal.returns-in-NoTransaction-clause-items
+returns-in-NoTransaction-clause-items c = refusal_told _ _ _ _ _ c.in-NoTransaction.is c.add_refused-in-NoTransaction.ensures.items refl
+
+pub returns-in-TooManyGroups-clause-items : goal.returns-in-TooManyGroups-clause-items
+returns-in-TooManyGroups-clause-items c = refusal_told _ _ _ _ _ c.in-TooManyGroups.is c.add_refused-in-TooManyGroups.ensures.items refl
+
+pub returns-in-TooManyWrites-clause-items : goal.returns-in-TooManyWrites-clause-items
+returns-in-TooManyWrites-clause-items c = refusal_told _ _ _ _ _ c.in-TooManyWrites.is c.add_refused-in-TooManyWrites.ensures.items refl
+
+pub returns-in-NeedAncestor-clause-items : goal.returns-in-NeedAncestor-clause-items
+returns-in-NeedAncestor-clause-items c = refusal_told _ _ _ _ _ c.in-NeedAncestor.is c.add_refused-in-NeedAncestor.ensures.items refl
+
+pub returns-in-NoMemory-clause-items : goal.returns-in-NoMemory-clause-items
+returns-in-NoMemory-clause-items c = refusal_told _ _ _ _ _ c.in-NoMemory.is c.add_refused-in-NoMemory.ensures.items refl
