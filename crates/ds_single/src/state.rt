@@ -181,6 +181,7 @@ fn delete(entities: &mut BTreeMap<Key, Entity>, key: &Key)
     ensures removed { entities.new.entries ≡ remove_entry (is_at (key_cmp key.now)) entities.old.entries }
     ensures ordered { IsOrdered key_cmp entities.old }
 {
+    // For the proof alone: the call tells that the map is in order.
     let _ = entities.len();
     let _ = entities.remove(key);
 }

@@ -1,9 +1,9 @@
-use Rattle.std.proofs.Common.{◌≡◌, refl, sym, ◌∙◌, ap, subst, Option, None, List, ℕ}
+use Rattle.std.proofs.Common.{◌≡◌, sym, ◌∙◌, ap, subst, Option, None, List, ℕ}
 use Rattle.ds_request.specs.declared.call.Call.{Call}
 use Rattle.ds_request.specs.declared.call.Call.TheVariants as call
 use Rattle.ds_model.specs.Built.{unbuilt_member}
 use Rattle.ds_single.specs.ReplySteps.{CallAnswered}
-use Rattle.ds_single.proofs.CallReplies.{query_built, unsaid}
+use Rattle.ds_single.proofs.CallReplies.{query_built}
 use Rattle.ds_single.proofs.state.Single.answer_call.Goals as goal
 
 pub returns-in-Some-clause-answered : goal.returns-in-Some-clause-answered
@@ -13,7 +13,3 @@ returns-in-Some-clause-answered c =
     (sym (is ∙ query_built c.in-Query.namespace c.in-Some.kind c.in-Query.ancestor c.in-Query.filters c.in-Query.orders c.in-Query.select c.in-Query.offset c.in-Query.limit c.in-Query.start c.in-Query.end c.in-Query.cursor
     (subst (λ (asked : Call). unbuilt_member asked ≡ None) is c.requires.built)))
     c.query.ensures.answered
-
-pub returns-in_default-clause-answered : goal.returns-in_default-clause-answered
-returns-in_default-clause-answered c =
-    unsaid c.args.self.now c.args.self.now c.args.number c.args.call c.say_no_memory-in_default.result c.say_no_memory-in_default.ensures.said refl refl
