@@ -1,5 +1,5 @@
 -- What one reply says, of a journal and one list of entries per shard, from the session before to the session after.
-use Rattle.std.specs.Prelude.{◌≡◌, ℕ, ◌+◌, ◌-◌, ◌^◌, ◌<◌, ◌≤◌, nat_lt, nat_le, ◌&&◌, not, List, [], ◌∷◌, Bool, true, false, Option, Some, None, Result, Ok, Err, cond, length, take, slice_get, map, ⊤}
+use Rattle.std.specs.Prelude.{◌≡◌, ℕ, ◌+◌, ◌-◌, ◌^◌, ◌<◌, ◌≤◌, nat_le, ◌&&◌, not, List, [], ◌∷◌, Bool, true, false, Option, Some, None, Result, Ok, Err, cond, length, take, slice_get, map, ⊤}
 use Rattle.ds_base.specs.declared.key.Ident.{Ident}
 use Rattle.ds_base.specs.declared.key.Ident.TheVariants.{Id, Name}
 use Rattle.ds_base.specs.declared.key.Elem.{Elem}
@@ -12,23 +12,24 @@ use Rattle.ds_base.specs.Keys.{KeyParts}
 use Rattle.ds_base.specs.Entities.{EntityParts, entity_refusal}
 use Rattle.ds_indexdef.specs.declared.IndexDef.{IndexDef}
 use Rattle.ds_query.specs.declared.query.Select.TheVariants as select
-use Rattle.ds_json.specs.declared.call.Call.{Call}
-use Rattle.ds_json.specs.declared.call.Call.TheVariants as call
-use Rattle.ds_json.specs.declared.call.Request.{Request}
-use Rattle.ds_json.specs.declared.call.RequestRefused.{RequestRefused}
-use Rattle.ds_json.specs.declared.call.RequestRefused.TheVariants as refused
-use Rattle.ds_json.specs.declared.call.Field.TheVariants as field
-use Rattle.ds_json.specs.declared.reply.WriteAt.TheVariants as at
-use Rattle.ds_json.specs.declared.reply.Body.{Body}
-use Rattle.ds_json.specs.declared.reply.Body.TheVariants as body
-use Rattle.ds_json.specs.declared.reply.Reply.{Reply}
-use Rattle.ds_json.specs.Requests.{request_of}
+use Rattle.ds_request.specs.declared.call.Call.{Call}
+use Rattle.ds_request.specs.declared.call.Call.TheVariants as call
+use Rattle.ds_request.specs.declared.call.Request.{Request}
+use Rattle.ds_request.specs.declared.call.RequestRefused.{RequestRefused}
+use Rattle.ds_request.specs.declared.call.RequestRefused.TheVariants as refused
+use Rattle.ds_query.specs.declared.field.Field.TheVariants as field
+use Rattle.ds_reply.specs.declared.reply.WriteAt.TheVariants as at
+use Rattle.ds_reply.specs.declared.reply.Body.{Body}
+use Rattle.ds_reply.specs.declared.reply.Body.TheVariants as body
+use Rattle.ds_reply.specs.declared.reply.Reply.{Reply}
+use Rattle.ds_request.specs.Requests.{request_of}
+use Rattle.ds_rounds.specs.Lines.{Content, Kept, TooLong}
+use Rattle.ds_rounds.specs.Rounds.{NumberedLine}
 use Rattle.ds_log.specs.declared.Commit.{Commit}
 use Rattle.ds_log.specs.declared.Entry.{Entry}
 use Rattle.ds_log.specs.declared.Write.TheVariants.{Put, Delete}
 use Rattle.ds_log.specs.Logs.{shard_list}
 use Rattle.ds_model.specs.Built.{served}
-use Rattle.ds_model.specs.Lines.{Line, most_line_bytes}
 use Rattle.ds_model.specs.Results.{kind_results}
 use Rattle.ds_model.specs.Sessions.{Session, first_id, saw_place, saw_counts, saw_next, next_above}
 use Rattle.ds_model.specs.Views.{global_view}
@@ -57,15 +58,16 @@ asked_of (Ok r) = Ok r
 asked_of (Err e) = Err (refused_line e)
 
 -- what a line asks, or how it is refused before anything else is looked at
-abbrev pub asked : List ℕ → Result Request (ℕ × Body)
-asked line = cond (nat_lt most_line_bytes (length line)) (Err (0, body.LineTooLong)) (asked_of (served (request_of line)))
+abbrev pub asked : Content → Result Request (ℕ × Body)
+asked (Kept bytes) = asked_of (served (request_of bytes))
+asked TooLong = Err (0, body.LineTooLong)
 
 abbrev pub client_asked : Result Request (ℕ × Body) → ℕ
 client_asked (Ok r) = r.client
 client_asked (Err e) = e.0
 
 -- whose line it is; one whose client can't be read is client 0's
-abbrev pub client_of : List ℕ → ℕ
+abbrev pub client_of : Content → ℕ
 client_of line = client_asked (asked line)
 
 -- ---- refusals that the line and the session before decide
@@ -88,6 +90,7 @@ refusal_of s call.Settle = outside s.transaction where
   outside : {A : Type 0} → Option A → Option Body
   outside None = None
   outside (Some t) = Some body.InTransaction
+refusal_of s _ = None
 
 -- ---- ids
 
@@ -165,7 +168,7 @@ BodyAnswers w s line body.NoMemory after = after ≡ s
 BodyAnswers w s line said after = AskedAnswers w s line said after
 
 -- one reply to one line
-pub record Answers (w : World) (s : Session) (line : Line) (reply : Reply) (after : Session) : Type 0 where
+pub record Answers (w : World) (s : Session) (line : NumberedLine) (reply : Reply) (after : Session) : Type 0 where
   pub numbered : reply.line ≡ line.number
-  pub addressed : reply.client ≡ client_of line.bytes
-  pub said : BodyAnswers w s (asked line.bytes) reply.body after
+  pub addressed : reply.client ≡ client_of line.content
+  pub said : BodyAnswers w s (asked line.content) reply.body after

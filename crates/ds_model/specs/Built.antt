@@ -2,13 +2,13 @@
 use Rattle.std.specs.Prelude.{ℕ, List, [], ◌∷◌, Bool, true, false, not, ◌==◌, cond, Option, Some, None, is_some, is_none, Result, Ok, Err}
 use Rattle.ds_query.specs.declared.query.Select.{Select}
 use Rattle.ds_query.specs.declared.query.Select.TheVariants as select
-use Rattle.ds_json.specs.declared.call.Call.{Call}
-use Rattle.ds_json.specs.declared.call.Call.TheVariants as call
-use Rattle.ds_json.specs.declared.call.Request.{Request}
-use Rattle.ds_json.specs.declared.call.Field.{Field}
-use Rattle.ds_json.specs.declared.call.Field.TheVariants as field
-use Rattle.ds_json.specs.declared.call.RequestRefused.{RequestRefused}
-use Rattle.ds_json.specs.declared.call.RequestRefused.TheVariants as refused
+use Rattle.ds_request.specs.declared.call.Call.{Call}
+use Rattle.ds_request.specs.declared.call.Call.TheVariants as call
+use Rattle.ds_request.specs.declared.call.Request.{Request}
+use Rattle.ds_query.specs.declared.field.Field.{Field}
+use Rattle.ds_query.specs.declared.field.Field.TheVariants as field
+use Rattle.ds_request.specs.declared.call.RequestRefused.{RequestRefused}
+use Rattle.ds_request.specs.declared.call.RequestRefused.TheVariants as refused
 
 abbrev pub is_empty : {A : Type 0} → List A → Bool
 is_empty [] = true
@@ -22,7 +22,8 @@ is_entities _ = false
 abbrev pub unless : Bool → Field → Option Field → Option Field
 unless fine f later = cond fine later (Some f)
 
--- the first member that isn't served yet: incomplete keys, and of a query all but the kind, which it must have
+-- the first member that isn't served yet: incomplete keys, of a query all but the kind, which it must have, and the name of every
+-- other operation but settle
 abbrev pub unbuilt_member : Call → Option Field
 unbuilt_member (call.Put key incomplete properties) = unless (not incomplete) field.Entity None
 unbuilt_member (call.Query namespace kind ancestor filters orders selected offset limit start end cursor) =
@@ -38,6 +39,7 @@ unbuilt_member (call.Query namespace kind ancestor filters orders selected offse
     (unless (is_none end) field.End
     (unless (not cursor) field.Cursor None))))))))))
 unbuilt_member call.Settle = None
+unbuilt_member _ = Some field.Op
 
 abbrev pub served_by : Request → Option Field → Result Request RequestRefused
 served_by r None = Ok r

@@ -1,7 +1,6 @@
 pub mod Answers
 pub mod Built
 pub mod Legal
-pub mod Lines
 pub mod Results
 pub mod Sessions
 pub mod Views

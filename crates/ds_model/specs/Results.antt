@@ -1,11 +1,13 @@
 -- Filter and order: the results of a query of one kind over a list of entities.
-use Rattle.std.specs.Prelude.{ℕ, List, [], ◌∷◌, Bool, ◌&&◌, Option, Some, None, filter, map, fold}
-use Rattle.std.specs.Ordering.{match_ordering}
+use Rattle.std.specs.Prelude.{ℕ, List, [], ◌∷◌, Bool, ◌&&◌, Option, Some, None, bytes_eq, filter, map}
+use Rattle.std.specs.Ordering.{on}
+use Rattle.std.specs.declared.cmp.Ordering.{Ordering}
 use Rattle.ds_base.specs.declared.key.Elem.{Elem}
 use Rattle.ds_base.specs.declared.results.Item.{Item}
-use Rattle.ds_base.specs.Keys.{KeyParts, same_bytes}
+use Rattle.ds_base.specs.Keys.{KeyParts}
 use Rattle.ds_base.specs.KeyOrder.{key_cmp}
 use Rattle.ds_base.specs.Entities.{EntityParts}
+use Rattle.ds_base.specs.Sorting.{sorted_by}
 
 -- the kind of the entity itself: that of its path's last element
 abbrev pub kind_of : List Elem → List ℕ
@@ -15,16 +17,14 @@ kind_of (e ∷ f ∷ es) = kind_of (f ∷ es)
 
 -- an entity counts whose key has the namespace and ends in the kind
 abbrev pub is_of_kind : List ℕ → List ℕ → EntityParts → Bool
-is_of_kind namespace kind e = same_bytes e.key.namespace namespace && same_bytes (kind_of e.key.elems) kind
+is_of_kind namespace kind e = bytes_eq e.key.namespace namespace && bytes_eq (kind_of e.key.elems) kind
 
--- an entity at its place among sorted ones
-abbrev pub insert_by_key : EntityParts → List EntityParts → List EntityParts
-insert_by_key e [] = e ∷ []
-insert_by_key e (f ∷ fs) = match_ordering (key_cmp e.key f.key) (e ∷ f ∷ fs) (e ∷ f ∷ fs) (f ∷ insert_by_key e fs)
+-- entities by the order of their keys; keys are distinct, so no two entities tie
+abbrev pub entity_cmp : EntityParts → EntityParts → Ordering
+entity_cmp = on (λ (e : EntityParts). e.key) key_cmp
 
--- by the order of keys; keys are distinct, so no two entities tie
 abbrev pub sorted_by_key : List EntityParts → List EntityParts
-sorted_by_key = fold (λ es e. insert_by_key e es) []
+sorted_by_key = sorted_by entity_cmp
 
 -- a result of a query for whole entities
 abbrev pub whole_item : EntityParts → Item

@@ -1,5 +1,6 @@
 -- What a client has seen: its replies so far raise it, and nothing lowers it.
-use Rattle.std.specs.Prelude.{ℕ, ◌+◌, ◌^◌, max, List, [], ◌∷◌, Bool, nat_le, cond, Option, Some, None, replicate, take, fold}
+use Rattle.std.specs.Prelude.{ℕ, ◌+◌, max, List, [], ◌∷◌, Bool, nat_le, cond, Option, Some, None, replicate, take, fold}
+use Rattle.ds_base.specs.Limits.{first_drawn_id, greatest_client}
 use Rattle.ds_base.specs.declared.key.Ident.{Ident}
 use Rattle.ds_base.specs.declared.key.Ident.TheVariants.{Id, Name}
 use Rattle.ds_base.specs.declared.key.Elem.{Elem}
@@ -22,14 +23,14 @@ pub record Session : Type 0 where
 
 -- automatic ids are drawn from here on
 abbrev pub first_id : ℕ
-first_id = 2 ^ 52
+first_id = first_drawn_id
 
 abbrev pub first_session : ℕ → Session
 first_session shards = record { place = 0; counts = replicate shards 0; next_id = first_id; transaction = None }
 
--- the clients are numbered from 0 to 15
+-- one for each client, who are numbered from 0 up to the greatest number
 abbrev pub first_sessions : ℕ → List Session
-first_sessions shards = replicate 16 (first_session shards)
+first_sessions shards = replicate (greatest_client + 1) (first_session shards)
 
 -- a printed commit or place raises the place
 abbrev pub saw_place : ℕ → Session → Session

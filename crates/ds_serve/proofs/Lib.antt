@@ -1,3 +1,5 @@
-pub mod InputLines
-pub mod Pieces
+pub mod Ends
+pub mod Meetings
 pub mod RoundRuns
+pub mod SoFar
+pub mod Written

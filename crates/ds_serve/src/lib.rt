@@ -1,17 +1,16 @@
 //! The server: from the bytes of its input to the bytes of its output, with the main theorem.
 //!
-//! Begin with `top`: `serve` reads the input (`input`), cuts it into numbered lines (`lines`), answers them as one round
-//! (`round`, by `ds_single`), and writes the replies (`output`). `outcome` holds what it gives, `words` the form of the command
-//! line. In `specs/`, `Runs` says what a legal run of the server is, and `Rounds` what running a round leaves.
+//! Begin with `top`: `serve` reads the input round after round (by `ds_rounds`); `server` runs each round (by `ds_single`) and
+//! writes its replies (`output`) before the next one is read. `outcome` holds what a run gives, `words` the form of the command
+//! line. In `specs/`, `Runs` has the words of the main theorem; `RunSteps` has those of its proof.
 #![tactic(auto)]
 
-mod input;
-mod lines;
 pub mod outcome;
 mod output;
-mod round;
+mod server;
 pub mod top;
 mod words;
 
-pub use outcome::{Run, Status, Unsent};
+pub use ds_rounds::Unsent;
+pub use outcome::{Run, Status};
 pub use top::serve;

@@ -1,14 +1,16 @@
 //! Writing the replies.
-ghost use Rattle.std.specs.Prelude.{◌≡◌, ◌<◌, ◌++◌, length, take, drop, option_map, OnOk, IfErr, OnErr};
+ghost use Rattle.std.specs.Prelude.{◌≡◌, ◌≤◌, length, take, IfErr, OnErr, OnOk};
+ghost use Rattle.std.specs.Io.KnownBytes.{Appends};
 ghost use Rattle.ds_io.specs.Faults.{next_count};
 
 use ds_io::Sink;
 
-/// Writes a text to its end, or says how many of its bytes were taken when a write failed; no further one is made.
+/// Writes a text to its end and sends it on its way, or says how many of its bytes were taken when a write failed; no further
+/// one is made. Where sending them on fails, all bytes were taken.
 pub(crate) fn write_all<O: Sink>(output: &mut O, text: &[u8]) -> Result<(), usize>
-    ensures ok { OnOk result (O.held output.new ≡ option_map (λ held. held ++ text.now) (O.held output.old)) }
-    ensures err { IfErr result (λ sent. O.held output.new ≡ option_map (λ held. held ++ take sent text.now) (O.held output.old)) }
-    ensures less { IfErr result (λ sent. sent < length text.now) }
+    ensures ok { OnOk result (Appends (O.held output.old) (O.held output.new) text.now) }
+    ensures err { IfErr result (λ sent. Appends (O.held output.old) (O.held output.new) (take sent text.now)) }
+    ensures within { IfErr result (λ sent. sent ≤ length text.now) }
     ensures fault { OnErr result (O.faults output.new ≡ next_count (O.faults output.old)) }
     ensures no_fault { OnOk result (O.faults output.new ≡ O.faults output.old) }
 {
@@ -19,5 +21,8 @@ pub(crate) fn write_all<O: Sink>(output: &mut O, text: &[u8]) -> Result<(), usiz
         };
         sent += n;
     }
-    Ok(())
+    match output.flush() {
+        Ok(()) => Ok(()),
+        Err(_) => Err(text.len()),
+    }
 }

@@ -1,7 +1,8 @@
 //! Tests of the server's calls over memory; no running code of its own.
 //!
 //! `serving` holds what the tests share: a run over a source and a sink in memory, and how its text is compared. `inputs` are
-//! runs where all goes well, `faults` those where the outside fails, and `engine` is the plain engine by itself.
+//! runs where nothing fails, `faults` those where the outside fails, `limits` long lines and rounds, `waiting` is a source that
+//! waits for the replies to a round, and `engine` the plain engine by itself.
 #![tactic(auto)]
 
 #[cfg(test)]
@@ -11,4 +12,8 @@ mod faults;
 #[cfg(test)]
 mod inputs;
 #[cfg(test)]
+mod limits;
+#[cfg(test)]
 mod serving;
+#[cfg(test)]
+mod waiting;

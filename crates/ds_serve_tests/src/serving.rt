@@ -19,6 +19,36 @@ pub const REPLIES: &[u8] = br#"{"client":0,"commit":1,"key":[["Task","a"]],"line
 {"applied":[1],"client":0,"line":3,"ok":"query","results":[{"key":[["Task","a"]],"properties":{"n":5,"s":"x"}}]}
 "#;
 
+/// The same lines as three rounds.
+pub const ROUNDS: [&[u8]; 3] = [
+    br#"{"op":"put","entity":{"key":[["Task","a"]],"properties":{"n":5,"s":"x"}}}
+
+"#,
+    br#"{"op":"settle"}
+
+"#,
+    br#"{"op":"query","kind":"Task"}"#,
+];
+
+/// The replies to each of them.
+pub const ROUND_REPLIES: [&[u8]; 3] = [
+    br#"{"client":0,"commit":1,"key":[["Task","a"]],"line":1,"ok":"put"}
+"#,
+    br#"{"applied":[1],"client":0,"line":3,"ok":"settle","place":1}
+"#,
+    br#"{"applied":[1],"client":0,"line":5,"ok":"query","results":[{"key":[["Task","a"]],"properties":{"n":5,"s":"x"}}]}
+"#,
+];
+
+/// The pieces one behind another.
+pub fn joined(alloc: Global, pieces: &[&[u8]]) -> Result<Vec<u8>, AllocError> {
+    let mut text = Vec::new(alloc);
+    for piece in pieces {
+        text.extend_from_slice(piece)?;
+    }
+    Ok(text)
+}
+
 /// How an input is given and an output taken: so many bytes a call, and which call fails, 0 for none.
 #[derive(Clone, Copy)]
 pub struct Outside {

@@ -1,35 +1,38 @@
 -- The reply to a request, from what the state became and what was written.
-use Rattle.std.proofs.Common.{◌≡◌, ℕ, ◌+◌, ◌≤◌, inl, inr, List, [], ◌∷◌, ◌++◌, length, refl, ap, sym, ◌∙◌, subst, Bool, true, false, arith, Option, Some, None}
+use Rattle.std.proofs.Common.{◌≡◌, ◌⊎◌, ℕ, ◌+◌, ◌≤◌, inl, inr, List, [], ◌∷◌, ◌++◌, length, refl, ap, sym, ◌∙◌, subst, Bool, true, false, arith, Option, Some, None}
 use Rattle.std.proofs.lemmas.Bool.{eqb-true}
 use Rattle.std.proofs.lemmas.List.{append-nil}
 use Rattle.std.proofs.lemmas.List.Elements.{All-cons, All-nil}
 use Rattle.std.specs.Prelude.{All, max, Result, Ok, not, ◌==◌, is_none}
+use Rattle.ds_base.specs.declared.entity.EntityRefused.{EntityRefused}
+use Rattle.ds_base.specs.declared.entity.EntityRefused.TheVariants as entity
 use Rattle.ds_base.specs.declared.entity.Property.{Property}
 use Rattle.ds_base.specs.declared.results.Item.{Item}
-use Rattle.ds_base.specs.declared.results.Column.{Column}
+use Rattle.ds_base.specs.declared.column.Column.{Column}
 use Rattle.ds_base.specs.declared.results.Seen.TheVariants as seen
 use Rattle.ds_base.specs.Keys.{KeyParts}
 use Rattle.ds_base.specs.Entities.{EntityParts, entity_refusal}
 use Rattle.ds_query.specs.declared.query.Filter.{Filter}
 use Rattle.ds_query.specs.declared.query.Select.{Select}
 use Rattle.ds_query.specs.declared.query.Select.TheVariants as select
-use Rattle.ds_json.specs.declared.call.Call.{Call}
-use Rattle.ds_json.specs.declared.call.Call.TheVariants as call
-use Rattle.ds_json.specs.declared.call.Field.{Field}
-use Rattle.ds_json.specs.declared.call.Field.TheVariants as field
-use Rattle.ds_json.specs.declared.call.Request.{Request}
-use Rattle.ds_json.specs.declared.reply.WriteAt.TheVariants as at
-use Rattle.ds_json.specs.declared.reply.Body.{Body}
-use Rattle.ds_json.specs.declared.reply.Body.TheVariants as body
-use Rattle.ds_json.specs.declared.reply.Reply.{Reply}
+use Rattle.ds_request.specs.declared.call.Call.{Call}
+use Rattle.ds_request.specs.declared.call.Call.TheVariants as call
+use Rattle.ds_query.specs.declared.field.Field.{Field}
+use Rattle.ds_query.specs.declared.field.Field.TheVariants as field
+use Rattle.ds_request.specs.declared.call.Request.{Request}
+use Rattle.ds_reply.specs.declared.reply.WriteAt.TheVariants as at
+use Rattle.ds_reply.specs.declared.reply.Body.{Body}
+use Rattle.ds_reply.specs.declared.reply.Body.TheVariants as body
+use Rattle.ds_reply.specs.declared.reply.Reply.{Reply}
 use Rattle.ds_log.specs.declared.Commit.{Commit}
 use Rattle.ds_log.specs.After.{after}
 use Rattle.ds_model.specs.Answers.{World, BodyAnswers, AskedAnswers, RequestAnswers, refusal_of, put_refusal, first_unissued}
 use Rattle.ds_model.specs.Built.{unbuilt_member, unless, is_empty, is_entities}
 use Rattle.ds_model.specs.Results.{kind_results}
 use Rattle.ds_model.specs.Sessions.{Session, first_id}
-use Rattle.ds_single.specs.State.{SingleParts, session_of, world, IsSingle, applied_writes, put_into}
-use Rattle.ds_single.specs.Answered.{Says, Tells, CallAnswered, IsQuiet, no_memory_reply, kind_query}
+use Rattle.ds_single.specs.State.{SingleParts, IsSingle, applied_writes, put_into}
+use Rattle.ds_single.specs.ReplySteps.{session_of, world}
+use Rattle.ds_single.specs.ReplySteps.{Says, Tells, CallAnswered, IsQuiet, no_memory_reply, kind_query}
 use Rattle.ds_single.proofs.Steps.{put_answers, kind_answers, settle_answers, counter_ids-none}
 
 -- what is said of a request is said of its line, and where nothing was seen it may be that there was no memory
@@ -38,8 +41,10 @@ said w s after line body.NoMemory answers same = same
 said w s after line _ answers same = answers
 
 -- a reply that changes nothing in the journal and tells no number
-pub quiet_tells : (s t : SingleParts) (reply : Reply) → t.journal ≡ s.journal → IsQuiet reply.body → Tells s t reply
-quiet_tells s t reply same quiet = record {
+pub quiet_tells : (s t : SingleParts) (reply : Reply) → t.journal ≡ s.journal → s.place ≤ t.place → s.count ≤ t.count → IsQuiet reply.body → Tells s t reply
+quiet_tells s t reply same place count quiet = record {
+  later_place = place;
+  later_count = count;
   added = [];
   journal = same ∙ sym (append-nil s.journal);
   acknowledges = quiet.acknowledges;
@@ -50,6 +55,17 @@ quiet_tells s t reply same quiet = record {
 pub no_memory_quiet : IsQuiet body.NoMemory
 no_memory_quiet = record { acknowledges = refl; accepts = refl; prints = refl }
 
+first_count : List ℕ → ℕ
+first_count [] = 0
+first_count (n ∷ ns) = n
+
+seen_place : (s t : SingleParts) → session_of t ≡ session_of s → s.place ≤ t.place
+seen_place s t same = let place : t.place ≡ s.place = ap (λ (v : Session). v.place) same in omega (arith, place)
+
+seen_count : (s t : SingleParts) → session_of t ≡ session_of s → s.count ≤ t.count
+unfolding first_count
+seen_count s t same = let count : t.count ≡ s.count = ap (λ (v : Session). first_count v.counts) same in omega (arith, count)
+
 -- want of memory, where nothing that the client has seen was changed
 pub unsaid : (s t : SingleParts) (number : ℕ) (c : Call) (reply : Reply) → reply ≡ no_memory_reply number → t.journal ≡ s.journal → session_of t ≡ session_of s → CallAnswered s t number c reply
 unsaid s t number c reply is same seen = subst (λ r. CallAnswered s t number c r) (sym is) answered where
@@ -58,11 +74,11 @@ unsaid s t number c reply is same seen = subst (λ r. CallAnswered s t number c 
     numbered = refl;
     addressed = refl;
     said = λ more. seen;
-    told = quiet_tells s t (no_memory_reply number) same no_memory_quiet;
+    told = quiet_tells s t (no_memory_reply number) same (seen_place s t seen) (seen_count s t seen) no_memory_quiet;
   }
 
 -- a refusal that the session before decides
-pub refused : (s : SingleParts) (number : ℕ) (c : Call) (b : Body) (reply : Reply) → Says number b reply → refusal_of (session_of s) c ≡ Some b → IsQuiet b → CallAnswered s s number c reply
+refused : (s : SingleParts) (number : ℕ) (c : Call) (b : Body) (reply : Reply) → Says number b reply → refusal_of (session_of s) c ≡ Some b → IsQuiet b → CallAnswered s s number c reply
 refused s number c b reply (inr is) decided quiet = unsaid s s number c reply is refl refl
 refused s number c b reply (inl is) decided quiet = subst (λ r. CallAnswered s s number c r) (sym is) answered where
   answered : CallAnswered s s number c (record { client = 0; line = number; body = b })
@@ -71,8 +87,24 @@ refused s number c b reply (inl is) decided quiet = subst (λ r. CallAnswered s 
     addressed = refl;
     said = λ more. said (world (s.journal ++ more)) (session_of s) (session_of s) (Ok (record { client = 0; call = c })) b
         (subst (λ o. RequestAnswers (world (s.journal ++ more)) (record { client = 0; call = c }) (session_of s) o b (session_of s)) (sym decided) (refl, refl)) refl;
-    told = quiet_tells s s (record { client = 0; line = number; body = b }) refl quiet;
+    told = quiet_tells s s (record { client = 0; line = number; body = b }) refl (omega arith) (omega arith) quiet;
   }
+
+abbrev body_of : Option Body → Body
+body_of None = body.BadJson
+body_of (Some b) = b
+
+-- an entity that is refused by its rules, or for want of memory
+pub refused_entity : (s : SingleParts) (number : ℕ) (key : KeyParts) (properties : List Property) (why : EntityRefused) (b : Body) (reply : Reply) → Says number b reply → put_refusal (Some why) ≡ Some b → IsQuiet b →
+    (Some why ≡ entity_refusal key properties) ⊎ ((Some why ≡ Some entity.NoMemory) × (entity_refusal key properties ≡ None)) → CallAnswered s s number (call.Put key false properties) reply
+refused_entity s number key properties why b reply says is quiet (inl decided) = refused s number (call.Put key false properties) b reply says (ap put_refusal (sym decided) ∙ is) quiet
+refused_entity s number key properties why b reply says is quiet (inr (none, fine)) = unsaid s s number (call.Put key false properties) reply (either says) refl refl where
+  no_memory : b ≡ body.NoMemory
+  no_memory = ap body_of (sym is ∙ ap put_refusal none)
+
+  either : Says number b reply → reply ≡ no_memory_reply number
+  either (inl same) = same ∙ ap (λ b. record { client = 0; line = number; body = b }) no_memory
+  either (inr same) = same
 
 put_unrefused : (s : SingleParts) (e : EntityParts) → entity_refusal e.key e.properties ≡ None → refusal_of (session_of s) (call.Put e.key false e.properties) ≡ None
 put_unrefused s e fine = ap put_refusal fine
@@ -89,6 +121,8 @@ not_issued s number id e reply (inl is) fine first = subst (λ r. CallAnswered s
         subst (λ o. RequestAnswers (world (s.journal ++ more)) (record { client = 0; call = call.Put e.key false e.properties }) (session_of s) o (body.IdNotIssued id first_id) (session_of s)) (sym (put_unrefused s e fine))
         (record { shown = omega arith; first = first }, refl);
     told = record {
+      later_place = omega arith;
+      later_count = omega arith;
       added = [];
       journal = sym (append-nil s.journal);
       acknowledges = refl;
@@ -112,7 +146,7 @@ put_said s t entries number n e key kept same_key same_n fine none same_t =
             let answers = put_answers s e.key e.properties more kept.place_within none in
             subst (λ o. RequestAnswers (world ((put_into s e).journal ++ more)) (record { client = 0; call = call.Put e.key false e.properties }) (session_of s) o (body.Put e.key (at.Commit (length s.journal + 1))) (session_of (put_into s e))) (sym (put_unrefused s e fine))
             (refl, refl, answers.0, answers.1);
-        told = record { added = _; journal = refl; acknowledges = refl; accepts = counter_ids-none e.key.elems none; prints = All-nil (λ next. next ≤ first_id) };
+        told = record { later_place = omega (arith, kept.place_within); later_count = omega arith; added = _; journal = refl; acknowledges = refl; accepts = counter_ids-none e.key.elems none; prints = All-nil (λ next. next ≤ first_id) };
       }
 
 -- how many commits were applied before doesn't matter to a reply
@@ -122,7 +156,7 @@ from_before s u t number c reply journal place count a =
       numbered = a.numbered;
       addressed = a.addressed;
       said = a.said;
-      told = record { added = a.told.added; journal = a.told.journal; acknowledges = a.told.acknowledges; accepts = a.told.accepts; prints = a.told.prints };
+      told = record { later_place = a.told.later_place; later_count = a.told.later_count; added = a.told.added; journal = a.told.journal; acknowledges = a.told.acknowledges; accepts = a.told.accepts; prints = a.told.prints };
     })
 
 -- a settle, from the state `u` after all commits are applied
@@ -144,7 +178,7 @@ settle_said s u t entries number place counts kept same_journal same_seen same_c
         numbered = refl;
         addressed = refl;
         said = λ more. settle_answers u more kept.one_write_each kept.place_within kept.count_within kept.applied_within;
-        told = quiet_tells u settled (record { client = 0; line = number; body = body.Settle (length u.journal) (length u.journal ∷ []) }) refl (record { acknowledges = refl; accepts = refl; prints = refl });
+        told = quiet_tells u settled (record { client = 0; line = number; body = body.Settle (length u.journal) (length u.journal ∷ []) }) refl kept.place_within (omega (arith, kept.count_within, kept.applied_within)) (record { acknowledges = refl; accepts = refl; prints = refl });
       }
 
 -- a query of a kind
@@ -162,7 +196,7 @@ query_said s t entries number kind results counts place count kept same_counts s
         numbered = refl;
         addressed = refl;
         said = λ more. let answers = kind_answers s kind more results place kept.one_write_each kept.count_within kept.applied_within (same_place ∙ ap (λ n. max s.place n) same_count) exact in (refl, refl, answers.0, answers.1);
-        told = quiet_tells s shown (record { client = 0; line = number; body = body.Query select.Entities results (seen.Counts (s.applied ∷ [])) None }) refl (record { acknowledges = refl; accepts = refl; prints = refl });
+        told = quiet_tells s shown (record { client = 0; line = number; body = body.Query select.Entities results (seen.Counts (s.applied ∷ [])) None }) refl (omega (arith, same_place)) kept.count_within (record { acknowledges = refl; accepts = refl; prints = refl });
       }
 
 -- ---- what the rules on unbuilt members leave of a query

@@ -6,7 +6,8 @@ use Rattle.std.proofs.lemmas.List.{map-append, append-nil}
 use Rattle.std.specs.Prelude.{filter, slice_get, ◌==◌}
 use Rattle.std.specs.Map.Iter.{deref}
 use denote.Bor.{Bor}
-use Rattle.ds_base.specs.Keys.{KeyParts, same_bytes}
+use Rattle.ds_base.specs.Keys.{KeyParts}
+use Rattle.std.specs.Prelude.{bytes_eq}
 use Rattle.ds_base.specs.Entities.{EntityParts}
 use Rattle.ds_base.specs.declared.key.Elem.{Elem}
 use Rattle.ds_base.specs.declared.results.Item.{Item}
@@ -60,6 +61,6 @@ kind_of-none (f ∷ g ∷ es) is =
     kind_of-none (g ∷ es) (subst (λ i. slice_get (f ∷ g ∷ es) i ≡ None) further is)
 
 -- the empty text is the same as a text of no bytes alone
-pub empty_same : (k : List ℕ) → (length k == 0) ≡ same_bytes [] k
+pub empty_same : (k : List ℕ) → (length k == 0) ≡ bytes_eq [] k
 empty_same [] = refl
 empty_same (b ∷ bs) = ne_eqb (length (b ∷ bs)) 0 (λ e. absurd (omega arith))

@@ -1,22 +1,23 @@
 -- The reply to a line, from what it asks.
-use Rattle.std.proofs.Common.{◌≡◌, ℕ, ◌⊎◌, inl, inr, List, ◌++◌, length, refl, ap, sym, ◌∙◌, subst, Bool, true, false, cond, Option, Some, None}
+use Rattle.std.proofs.Common.{◌≡◌, ℕ, ◌⊎◌, inl, inr, List, ◌++◌, refl, arith, ap, sym, ◌∙◌, subst, Bool, true, false, cond, Option, Some, None}
 use Rattle.std.proofs.lemmas.Bool.{eqb-true}
-use Rattle.std.specs.Prelude.{Result, Ok, Err, ◌==◌, nat_lt}
-use Rattle.ds_json.specs.declared.call.Call.{Call}
-use Rattle.ds_json.specs.declared.call.Field.{Field}
-use Rattle.ds_json.specs.declared.call.Field.TheVariants as field
-use Rattle.ds_json.specs.declared.call.Request.{Request}
-use Rattle.ds_json.specs.declared.call.RequestRefused.{RequestRefused}
-use Rattle.ds_json.specs.declared.call.RequestRefused.TheVariants as refused
-use Rattle.ds_json.specs.declared.reply.Body.{Body}
-use Rattle.ds_json.specs.declared.reply.Body.TheVariants as body
-use Rattle.ds_json.specs.declared.reply.Reply.{Reply}
-use Rattle.ds_json.specs.Requests.{request_of}
+use Rattle.std.specs.Prelude.{Result, Ok, Err, ◌==◌}
+use Rattle.ds_request.specs.declared.call.Call.{Call}
+use Rattle.ds_query.specs.declared.field.Field.{Field}
+use Rattle.ds_query.specs.declared.field.Field.TheVariants as field
+use Rattle.ds_request.specs.declared.call.Request.{Request}
+use Rattle.ds_request.specs.declared.call.RequestRefused.{RequestRefused}
+use Rattle.ds_request.specs.declared.call.RequestRefused.TheVariants as refused
+use Rattle.ds_reply.specs.declared.reply.Body.{Body}
+use Rattle.ds_reply.specs.declared.reply.Body.TheVariants as body
+use Rattle.ds_reply.specs.declared.reply.Reply.{Reply}
+use Rattle.ds_request.specs.Requests.{request_of}
+use Rattle.ds_rounds.specs.Lines.{Content, Kept, TooLong}
 use Rattle.ds_model.specs.Answers.{BodyAnswers, AskedAnswers, asked, asked_of, client_asked, client_of}
 use Rattle.ds_model.specs.Built.{served, served_by, unbuilt_member}
-use Rattle.ds_model.specs.Lines.{most_line_bytes}
-use Rattle.ds_single.specs.State.{SingleParts, session_of, world}
-use Rattle.ds_single.specs.Answered.{Says, Answered, CallAnswered, IsQuiet, no_memory_reply}
+use Rattle.ds_single.specs.State.{SingleParts}
+use Rattle.ds_single.specs.ReplySteps.{session_of, world}
+use Rattle.ds_single.specs.ReplySteps.{Says, Answered, CallAnswered, IsQuiet, no_memory_reply}
 use Rattle.ds_single.proofs.CallReplies.{said, quiet_tells, no_memory_quiet}
 
 -- ---- while client 0 alone is served, each line is its
@@ -39,11 +40,9 @@ client_zero-served (Err (refused.BadKey client f)) = client_zero-refused client 
 client_zero-served (Err (refused.BadValue client f)) = client_zero-refused client (refused.BadValue client f) refl
 client_zero-served (Err refused.NoMemory) = refl
 
-pub client_zero : (line : List ℕ) → client_of line ≡ 0
-client_zero line = of_length (nat_lt most_line_bytes (length line)) where
-  of_length : (long : Bool) → client_asked (cond long (Err (0, body.LineTooLong)) (asked_of (served (request_of line)))) ≡ 0
-  of_length true = refl
-  of_length false = client_zero-served (request_of line)
+pub client_zero : (line : Content) → client_of line ≡ 0
+client_zero (Kept bytes) = client_zero-served (request_of bytes)
+client_zero TooLong = refl
 
 -- ---- the refusal of a line acknowledges and accepts nothing
 
@@ -62,15 +61,13 @@ asked_quiet-of (Err (refused.BadKey own f)) client b is = subst IsQuiet (inner i
 asked_quiet-of (Err (refused.BadValue own f)) client b is = subst IsQuiet (inner is) (record { acknowledges = refl; accepts = refl; prints = refl })
 asked_quiet-of (Err refused.NoMemory) client b is = subst IsQuiet (inner is) no_memory_quiet
 
-asked_quiet : (line : List ℕ) (client : ℕ) (b : Body) → asked line ≡ Err (client, b) → IsQuiet b
-asked_quiet line client b = of_length (nat_lt most_line_bytes (length line)) where
-  of_length : (long : Bool) → cond long (Err (0, body.LineTooLong)) (asked_of (served (request_of line))) ≡ Err (client, b) → IsQuiet b
-  of_length true is = subst IsQuiet (inner is) (record { acknowledges = refl; accepts = refl; prints = refl })
-  of_length false is = asked_quiet-of (served (request_of line)) client b is
+asked_quiet : (line : Content) (client : ℕ) (b : Body) → asked line ≡ Err (client, b) → IsQuiet b
+asked_quiet (Kept bytes) client b is = asked_quiet-of (served (request_of bytes)) client b is
+asked_quiet TooLong client b is = subst IsQuiet (inner is) (record { acknowledges = refl; accepts = refl; prints = refl })
 
 -- ---- the reply
 
-pub answered_call : (s t : SingleParts) (number : ℕ) (line : List ℕ) (c : Call) (reply : Reply) → asked line ≡ Ok (record { client = 0; call = c }) → CallAnswered s t number c reply → Answered s t (record { number = number; bytes = line }) reply
+pub answered_call : (s t : SingleParts) (number : ℕ) (line : Content) (c : Call) (reply : Reply) → asked line ≡ Ok (record { client = 0; call = c }) → CallAnswered s t number c reply → Answered s t (record { number = number; content = line }) reply
 answered_call s t number line c reply is a = record {
   own = client_zero line;
   answers = λ more. record {
@@ -82,22 +79,22 @@ answered_call s t number line c reply is a = record {
 }
 
 -- want of memory, where nothing was changed
-answered_no_memory : (s : SingleParts) (number : ℕ) (line : List ℕ) (reply : Reply) → reply ≡ no_memory_reply number → Answered s s (record { number = number; bytes = line }) reply
-answered_no_memory s number line reply is = subst (λ r. Answered s s (record { number = number; bytes = line }) r) (sym is) (record {
+answered_no_memory : (s : SingleParts) (number : ℕ) (line : Content) (reply : Reply) → reply ≡ no_memory_reply number → Answered s s (record { number = number; content = line }) reply
+answered_no_memory s number line reply is = subst (λ r. Answered s s (record { number = number; content = line }) r) (sym is) (record {
   own = client_zero line;
   answers = λ more. record { numbered = refl; addressed = sym (client_zero line); said = refl };
-  told = quiet_tells s s (no_memory_reply number) refl no_memory_quiet;
+  told = quiet_tells s s (no_memory_reply number) refl (omega arith) (omega arith) no_memory_quiet;
 })
 
-pub answered_refused : (s : SingleParts) (number : ℕ) (line : List ℕ) (b : Body) (reply : Reply) → Says number b reply → (b ≡ body.NoMemory) ⊎ (asked line ≡ Err (0, b)) → Answered s s (record { number = number; bytes = line }) reply
+pub answered_refused : (s : SingleParts) (number : ℕ) (line : Content) (b : Body) (reply : Reply) → Says number b reply → (b ≡ body.NoMemory) ⊎ (asked line ≡ Err (0, b)) → Answered s s (record { number = number; content = line }) reply
 answered_refused s number line b reply (inr is) why = answered_no_memory s number line reply is
 answered_refused s number line b reply (inl is) (inl none) = answered_no_memory s number line reply (is ∙ ap (λ b. record { client = 0; line = number; body = b }) none)
-answered_refused s number line b reply (inl is) (inr refused) = subst (λ r. Answered s s (record { number = number; bytes = line }) r) (sym is) (record {
+answered_refused s number line b reply (inl is) (inr refused) = subst (λ r. Answered s s (record { number = number; content = line }) r) (sym is) (record {
   own = client_zero line;
   answers = λ more. record {
     numbered = refl;
     addressed = sym (client_zero line);
     said = said (world (s.journal ++ more)) (session_of s) (session_of s) (asked line) b (subst (λ l. AskedAnswers (world (s.journal ++ more)) (session_of s) l b (session_of s)) (sym refused) (refl, refl)) refl;
   };
-  told = quiet_tells s s (record { client = 0; line = number; body = b }) refl (asked_quiet line 0 b refused);
+  told = quiet_tells s s (record { client = 0; line = number; body = b }) refl (omega arith) (omega arith) (asked_quiet line 0 b refused);
 })

@@ -1,9 +1,7 @@
 -- Entities by key: the sorted list of the model, and the entries of the ordered map that holds it.
 use Rattle.std.proofs.Common.{◌≡◌, List, [], ◌∷◌, ◌++◌, refl, ap, sym, ◌∙◌, subst, Bool, true, false, cond, not, map}
-use Rattle.std.proofs.lemmas.Bool.{true≢false}
-use Rattle.std.proofs.lemmas.List.Sums.{fold-append}
-use Rattle.std.specs.Prelude.{filter, fold, ⊤}
-use Rattle.std.specs.Cmp.{upto}
+use Rattle.std.specs.Prelude.{filter, ⊤}
+use Rattle.std.specs.Cmp.{IsTotalOrder, on_total}
 use Rattle.std.specs.declared.cmp.Ordering.{Ordering}
 use Rattle.std.specs.declared.cmp.Ordering.TheVariants.{Less, Equal, Greater}
 use Rattle.std.specs.Ordering.{is_eq, is_gt, ordering_reverse, match_ordering}
@@ -15,19 +13,12 @@ use Rattle.ds_base.specs.Keys.{KeyParts}
 use Rattle.ds_base.specs.KeyOrder.{key_cmp, same_key}
 use Rattle.ds_base.specs.KeyOrderLaws.{key_cmp-total, key_cmp-same}
 use Rattle.ds_base.specs.Entities.{EntityParts}
+use Rattle.ds_base.specs.Sorting.{insert_by}
+use Rattle.ds_base.specs.SortingLaws.{NoneBefore, insert_by-front, sorted_by-filter, sorted_by-push}
 use Rattle.ds_log.specs.declared.Write.TheVariants.{Put, Delete}
 use Rattle.ds_log.specs.After.{apply_write, without}
-use Rattle.ds_model.specs.Results.{insert_by_key, sorted_by_key}
+use Rattle.ds_model.specs.Results.{entity_cmp, sorted_by_key}
 use Rattle.ds_single.specs.State.{keyed}
-
--- no entity of the list comes before x
-abbrev pub NoneBefore : EntityParts → List EntityParts → Type 0
-NoneBefore x [] = ⊤
-NoneBefore x (f ∷ fs) = (is_gt (key_cmp x.key f.key) ≡ false) × NoneBefore x fs
-
-abbrev pub Sorted : List EntityParts → Type 0
-Sorted [] = ⊤
-Sorted (f ∷ fs) = NoneBefore f fs × Sorted fs
 
 -- every entity of the list comes after k
 abbrev pub AllAfter : KeyParts → List EntityParts → Type 0
@@ -38,95 +29,12 @@ abbrev pub StrictlySorted : List EntityParts → Type 0
 StrictlySorted [] = ⊤
 StrictlySorted (f ∷ fs) = AllAfter f.key fs × StrictlySorted fs
 
-NoneBefore-earlier : (x y : EntityParts) (fs : List EntityParts) → is_gt (key_cmp x.key y.key) ≡ false → NoneBefore y fs → NoneBefore x fs
-NoneBefore-earlier x y [] below rest = tt
-NoneBefore-earlier x y (f ∷ fs) below rest =
-    (upto key_cmp-total x.key y.key f.key below rest.0, NoneBefore-earlier x y fs below rest.1)
-
-NoneBefore-insert : (x e : EntityParts) (fs : List EntityParts) → is_gt (key_cmp x.key e.key) ≡ false → NoneBefore x fs → NoneBefore x (insert_by_key e fs)
-NoneBefore-insert x e [] below rest = (below, tt)
-NoneBefore-insert x e (f ∷ fs) below rest = placed (NoneBefore-insert x e fs below rest.1) (key_cmp e.key f.key) where
-  placed : NoneBefore x (insert_by_key e fs) → (r : Ordering) → NoneBefore x (match_ordering r (e ∷ f ∷ fs) (e ∷ f ∷ fs) (f ∷ insert_by_key e fs))
-  placed later Less = (below, rest)
-  placed later Equal = (below, rest)
-  placed later Greater = (rest.0, later)
-
-reverse-Greater : (r : Ordering) → r ≡ Greater → is_gt (ordering_reverse r) ≡ false
-reverse-Greater Less e = cc
-reverse-Greater Equal e = refl
-reverse-Greater Greater e = refl
-
-not_after : (x y : KeyParts) → key_cmp x y ≡ Greater → is_gt (key_cmp y x) ≡ false
-not_after x y e = ap is_gt (key_cmp-total.antisymm y x) ∙ reverse-Greater (key_cmp x y) e
-
-Sorted-insert : (e : EntityParts) (fs : List EntityParts) → Sorted fs → Sorted (insert_by_key e fs)
-Sorted-insert e [] sorted = (tt, tt)
-Sorted-insert e (f ∷ fs) sorted = placed (Sorted-insert e fs sorted.1) (key_cmp e.key f.key) refl where
-  front : is_gt (key_cmp e.key f.key) ≡ false → Sorted (e ∷ f ∷ fs)
-  front below = ((below, NoneBefore-earlier e f fs below sorted.0), sorted)
-
-  placed : Sorted (insert_by_key e fs) → (r : Ordering) → key_cmp e.key f.key ≡ r → Sorted (match_ordering r (e ∷ f ∷ fs) (e ∷ f ∷ fs) (f ∷ insert_by_key e fs))
-  placed later Less is = front (ap is_gt is)
-  placed later Equal is = front (ap is_gt is)
-  placed later Greater is = (NoneBefore-insert f e fs (not_after e.key f.key is) sorted.0, later)
-
-Sorted-fold : (done es : List EntityParts) → Sorted done → Sorted (fold (λ fs e. insert_by_key e fs) done es)
-Sorted-fold done [] sorted = sorted
-Sorted-fold done (e ∷ es) sorted = Sorted-fold (insert_by_key e done) es (Sorted-insert e done sorted)
-
--- an entity before all others goes to the front
-insert-front : (e : EntityParts) (fs : List EntityParts) → NoneBefore e fs → insert_by_key e fs ≡ e ∷ fs
-insert-front e [] first = refl
-insert-front e (f ∷ fs) first = placed (key_cmp e.key f.key) first.0 where
-  placed : (r : Ordering) → is_gt r ≡ false → match_ordering r (e ∷ f ∷ fs) (e ∷ f ∷ fs) (f ∷ insert_by_key e fs) ≡ e ∷ f ∷ fs
-  placed Less below = refl
-  placed Equal below = refl
-  placed Greater below = absurd (true≢false below)
-
-NoneBefore-filter : (p : EntityParts → Bool) (e : EntityParts) (fs : List EntityParts) → NoneBefore e fs → NoneBefore e (filter p fs)
-NoneBefore-filter p e [] first = tt
-NoneBefore-filter p e (f ∷ fs) first = kept (NoneBefore-filter p e fs first.1) (p f) where
-  kept : NoneBefore e (filter p fs) → (b : Bool) → NoneBefore e (cond b (f ∷ filter p fs) (filter p fs))
-  kept later true = (first.0, later)
-  kept later false = later
-
--- what is filtered out of a sorted list leaves the place of the others
-filter-insert : (p : EntityParts → Bool) (e : EntityParts) (fs : List EntityParts) → Sorted fs → filter p (insert_by_key e fs) ≡ cond (p e) (insert_by_key e (filter p fs)) (filter p fs)
-filter-insert p e [] sorted = refl
-filter-insert p e (f ∷ fs) sorted = placed (filter-insert p e fs sorted.1) (key_cmp e.key f.key) refl where
-  front : is_gt (key_cmp e.key f.key) ≡ false → filter p (e ∷ f ∷ fs) ≡ cond (p e) (insert_by_key e (filter p (f ∷ fs))) (filter p (f ∷ fs))
-  front below =
-      let first : NoneBefore e (f ∷ fs) = (below, NoneBefore-earlier e f fs below sorted.0) in
-      ap (λ gs. cond (p e) gs (filter p (f ∷ fs))) (sym (insert-front e (filter p (f ∷ fs)) (NoneBefore-filter p e (f ∷ fs) first)))
-
-  behind : (kept : Bool) (here : Bool) → key_cmp e.key f.key ≡ Greater → cond kept (f ∷ cond here (insert_by_key e (filter p fs)) (filter p fs)) (cond here (insert_by_key e (filter p fs)) (filter p fs)) ≡ cond here (insert_by_key e (cond kept (f ∷ filter p fs) (filter p fs))) (cond kept (f ∷ filter p fs) (filter p fs))
-  behind true true is = sym (ap (λ r. match_ordering r (e ∷ f ∷ filter p fs) (e ∷ f ∷ filter p fs) (f ∷ insert_by_key e (filter p fs))) is)
-  behind true false is = refl
-  behind false true is = refl
-  behind false false is = refl
-
-  placed : filter p (insert_by_key e fs) ≡ cond (p e) (insert_by_key e (filter p fs)) (filter p fs) → (r : Ordering) → key_cmp e.key f.key ≡ r → filter p (match_ordering r (e ∷ f ∷ fs) (e ∷ f ∷ fs) (f ∷ insert_by_key e fs)) ≡ cond (p e) (insert_by_key e (filter p (f ∷ fs))) (filter p (f ∷ fs))
-  placed later Less is = front (ap is_gt is)
-  placed later Equal is = front (ap is_gt is)
-  placed later Greater is = ap (λ gs. cond (p f) (f ∷ gs) gs) later ∙ behind (p f) (p e) is
-
-filter-fold : (p : EntityParts → Bool) (done es : List EntityParts) → Sorted done → fold (λ fs e. insert_by_key e fs) (filter p done) (filter p es) ≡ filter p (fold (λ fs e. insert_by_key e fs) done es)
-filter-fold p done [] sorted = refl
-filter-fold p done (e ∷ es) sorted = kept (filter-fold p (insert_by_key e done) es (Sorted-insert e done sorted)) (p e) refl where
-  kept : fold (λ fs x. insert_by_key x fs) (filter p (insert_by_key e done)) (filter p es) ≡ filter p (fold (λ fs x. insert_by_key x fs) (insert_by_key e done) es) → (b : Bool) → p e ≡ b → fold (λ fs x. insert_by_key x fs) (filter p done) (cond b (e ∷ filter p es) (filter p es)) ≡ filter p (fold (λ fs x. insert_by_key x fs) (insert_by_key e done) es)
-  kept later true is =
-      ap (λ fs. fold (λ gs x. insert_by_key x gs) fs (filter p es)) (sym (filter-insert p e done sorted ∙ ap (λ b. cond b (insert_by_key e (filter p done)) (filter p done)) is))
-      ∙ later
-  kept later false is =
-      ap (λ fs. fold (λ gs x. insert_by_key x gs) fs (filter p es)) (sym (filter-insert p e done sorted ∙ ap (λ b. cond b (insert_by_key e (filter p done)) (filter p done)) is))
-      ∙ later
+total : IsTotalOrder entity_cmp
+total = on_total (λ (e : EntityParts). e.key) key_cmp-total
 
 -- to filter and to sort in either order is the same
 pub sorted_by_key-filter : (p : EntityParts → Bool) (es : List EntityParts) → sorted_by_key (filter p es) ≡ filter p (sorted_by_key es)
-sorted_by_key-filter p es = filter-fold p [] es tt
-
-pub sorted_by_key-push : (es : List EntityParts) (e : EntityParts) → sorted_by_key (es ++ e ∷ []) ≡ insert_by_key e (sorted_by_key es)
-sorted_by_key-push es e = fold-append (λ fs x. insert_by_key x fs) [] es (e ∷ [])
+sorted_by_key-filter p es = sorted_by-filter total p es
 
 -- ---- the ordered map's entries
 
@@ -143,7 +51,7 @@ AllAfter-earlier : (k l : KeyParts) (fs : List EntityParts) → key_cmp k l ≡ 
 AllAfter-earlier k l [] less rest = tt
 AllAfter-earlier k l (f ∷ fs) less rest = (key_cmp-total.trans k l f.key less rest.0, AllAfter-earlier k l fs less rest.1)
 
-AllAfter-NoneBefore : (e : EntityParts) (fs : List EntityParts) → AllAfter e.key fs → NoneBefore e fs
+AllAfter-NoneBefore : (e : EntityParts) (fs : List EntityParts) → AllAfter e.key fs → NoneBefore entity_cmp e fs
 AllAfter-NoneBefore e [] rest = tt
 AllAfter-NoneBefore e (f ∷ fs) rest = (ap is_gt rest.0, AllAfter-NoneBefore e fs rest.1)
 
@@ -156,7 +64,7 @@ AllAfter-Equal : (k l : KeyParts) (fs : List EntityParts) → key_cmp k l ≡ Eq
 AllAfter-Equal k l fs equal = subst (λ m. AllAfter m fs) (sym (key_cmp-same k l equal))
 
 -- the map's insertion is the model's
-pub insert_entry-keyed : (e : EntityParts) (fs : List EntityParts) → StrictlySorted fs → insert_entry key_cmp (map keyed fs) e.key e ≡ map keyed (insert_by_key e (without e.key fs))
+pub insert_entry-keyed : (e : EntityParts) (fs : List EntityParts) → StrictlySorted fs → insert_entry key_cmp (map keyed fs) e.key e ≡ map keyed (insert_by entity_cmp (without e.key fs) e)
 insert_entry-keyed e [] sorted = refl
 insert_entry-keyed e (f ∷ fs) sorted = placed (insert_entry-keyed e fs sorted.1) (key_cmp e.key f.key) refl where
   kept : same_key f.key e.key ≡ false → without e.key (f ∷ fs) ≡ f ∷ without e.key fs
@@ -165,21 +73,21 @@ insert_entry-keyed e (f ∷ fs) sorted = placed (insert_entry-keyed e fs sorted.
   dropped : same_key f.key e.key ≡ true → without e.key (f ∷ fs) ≡ without e.key fs
   dropped same = ap (λ b. cond (not b) (f ∷ without e.key fs) (without e.key fs)) same
 
-  placed : insert_entry key_cmp (map keyed fs) e.key e ≡ map keyed (insert_by_key e (without e.key fs)) → (r : Ordering) → key_cmp e.key f.key ≡ r → match_ordering r ((e.key, e) ∷ keyed f ∷ map keyed fs) ((f.key, e) ∷ map keyed fs) (keyed f ∷ insert_entry key_cmp (map keyed fs) e.key e) ≡ map keyed (insert_by_key e (without e.key (f ∷ fs)))
+  placed : insert_entry key_cmp (map keyed fs) e.key e ≡ map keyed (insert_by entity_cmp (without e.key fs) e) → (r : Ordering) → key_cmp e.key f.key ≡ r → match_ordering r ((e.key, e) ∷ keyed f ∷ map keyed fs) ((f.key, e) ∷ map keyed fs) (keyed f ∷ insert_entry key_cmp (map keyed fs) e.key e) ≡ map keyed (insert_by entity_cmp (without e.key (f ∷ fs)) e)
   placed later Less is =
       ap (map keyed)
-      (sym (ap (insert_by_key e) (kept (same_key-Less e.key f.key is) ∙ ap (λ gs. f ∷ gs) (without-AllAfter e.key fs (AllAfter-earlier e.key f.key fs is sorted.0)))
-      ∙ ap (λ r. match_ordering r (e ∷ f ∷ fs) (e ∷ f ∷ fs) (f ∷ insert_by_key e fs)) is))
+      (sym (ap (λ gs. insert_by entity_cmp gs e) (kept (same_key-Less e.key f.key is) ∙ ap (λ gs. f ∷ gs) (without-AllAfter e.key fs (AllAfter-earlier e.key f.key fs is sorted.0)))
+      ∙ ap (λ r. match_ordering r (e ∷ f ∷ fs) (e ∷ f ∷ fs) (f ∷ insert_by entity_cmp fs e)) is))
   placed later Equal is =
       ap (λ k. (k, e) ∷ map keyed fs) (sym (key_cmp-same e.key f.key is))
       ∙ ap (map keyed)
-      (sym (ap (insert_by_key e) (dropped (same_key-Equal e.key f.key is) ∙ without-AllAfter e.key fs (AllAfter-Equal e.key f.key fs is sorted.0))
-      ∙ insert-front e fs (AllAfter-NoneBefore e fs (AllAfter-Equal e.key f.key fs is sorted.0))))
+      (sym (ap (λ gs. insert_by entity_cmp gs e) (dropped (same_key-Equal e.key f.key is) ∙ without-AllAfter e.key fs (AllAfter-Equal e.key f.key fs is sorted.0))
+      ∙ insert_by-front total fs e (AllAfter-NoneBefore e fs (AllAfter-Equal e.key f.key fs is sorted.0))))
   placed later Greater is =
       ap (λ gs. keyed f ∷ gs) later
       ∙ ap (map keyed)
-      (sym (ap (insert_by_key e) (kept (same_key-Greater e.key f.key is))
-      ∙ ap (λ r. match_ordering r (e ∷ f ∷ without e.key fs) (e ∷ f ∷ without e.key fs) (f ∷ insert_by_key e (without e.key fs))) is))
+      (sym (ap (λ gs. insert_by entity_cmp gs e) (kept (same_key-Greater e.key f.key is))
+      ∙ ap (λ r. match_ordering r (e ∷ f ∷ without e.key fs) (e ∷ f ∷ without e.key fs) (f ∷ insert_by entity_cmp (without e.key fs) e)) is))
 
 -- and so is its removal
 pub remove_entry-keyed : (k : KeyParts) (fs : List EntityParts) → StrictlySorted fs → remove_entry (is_at (key_cmp k)) (map keyed fs) ≡ map keyed (without k fs)
@@ -207,7 +115,7 @@ pub put-keyed : (es : List EntityParts) (e : EntityParts) (entries : List (KeyPa
 put-keyed es e entries is ordered =
     ap (λ xs. insert_entry key_cmp xs e.key e) is
     ∙ insert_entry-keyed e (sorted_by_key es) (StrictlySorted-keys (sorted_by_key es) (subst (λ xs. IsStrictlySortedBy key_cmp (map (λ (x : KeyParts × EntityParts). x.0) xs)) is ordered))
-    ∙ ap (map keyed) (sym (sorted_by_key-push (without e.key es) e ∙ ap (insert_by_key e) (sorted_by_key-filter (λ x. not (same_key x.key e.key)) es)))
+    ∙ ap (map keyed) (sym (sorted_by-push entity_cmp (without e.key es) e ∙ ap (λ gs. insert_by entity_cmp gs e) (sorted_by_key-filter (λ x. not (same_key x.key e.key)) es)))
 
 -- a delete, in the map and in the model
 pub delete-keyed : (es : List EntityParts) (k : KeyParts) (entries : List (KeyParts × EntityParts)) → entries ≡ map keyed (sorted_by_key es) → IsStrictlySortedBy key_cmp (map (λ (x : KeyParts × EntityParts). x.0) entries) → remove_entry (is_at (key_cmp k)) entries ≡ map keyed (sorted_by_key (apply_write es (Delete k)))

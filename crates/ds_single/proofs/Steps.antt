@@ -18,7 +18,8 @@ use Rattle.ds_model.specs.Answers.{PutAnswers, SettleAnswers, KindAnswers, first
 use Rattle.ds_model.specs.Results.{kind_results}
 use Rattle.ds_model.specs.Sessions.{first_id, saw_place, saw_counts, saw_next, next_above}
 use Rattle.ds_model.specs.Legal.{counter_id, counter_ids}
-use Rattle.ds_single.specs.State.{SingleParts, session_of, world, HasOneWrite, applied_writes}
+use Rattle.ds_single.specs.State.{SingleParts, HasOneWrite, applied_writes}
+use Rattle.ds_single.specs.ReplySteps.{session_of, world}
 use Rattle.ds_single.proofs.OneShard.{OneWriteEach, OneWriteEach-All, take-shard_list, length-shard_list, length-whole_shard_list, last_commit-shard_list, writes-entries_from}
 
 -- ---- ids that no counter gave

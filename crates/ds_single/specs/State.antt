@@ -1,5 +1,5 @@
 -- The state of a server for one client.
-use Rattle.std.specs.Prelude.{◌≡◌, ℕ, ◌+◌, ◌≤◌, List, [], ◌∷◌, ◌++◌, Some, None, length, take, map, All}
+use Rattle.std.specs.Prelude.{◌≡◌, ℕ, ◌+◌, ◌≤◌, List, [], ◌∷◌, ◌++◌, length, take, map, All}
 use Rattle.ds_base.specs.Keys.{KeyParts}
 use Rattle.ds_base.specs.Entities.{EntityParts}
 use Rattle.ds_log.specs.declared.Commit.{Commit}
@@ -7,10 +7,7 @@ use Rattle.ds_log.specs.declared.Write.{Write}
 use Rattle.ds_log.specs.declared.Write.TheVariants.{Put}
 use Rattle.ds_log.specs.After.{after}
 use Rattle.ds_log.specs.Logs.{writes_of}
-use Rattle.ds_model.specs.Answers.{World}
-use Rattle.ds_model.specs.Legal.{world_of}
 use Rattle.ds_model.specs.Results.{sorted_by_key}
-use Rattle.ds_model.specs.Sessions.{Session, first_id}
 
 pub record SingleParts : Type 0 where
   pub journal : List Commit
@@ -21,17 +18,6 @@ pub record SingleParts : Type 0 where
 -- the writes of the commits that are applied
 abbrev pub applied_writes : SingleParts → List Write
 applied_writes s = writes_of (take s.applied s.journal)
-
--- what the client has seen, of the one shard; no id was ever drawn, and there is no transaction
-abbrev pub session_of : SingleParts → Session
-session_of s = record { place = s.place; counts = s.count ∷ []; next_id = first_id; transaction = None }
-
--- the run is about this journal, one shard, no index definitions, and the window that no words ask for
-abbrev pub default_window : ℕ
-default_window = 65536
-
-abbrev pub world : List Commit → World
-world = world_of [] 1 (Some default_window)
 
 -- an entity beside its key
 abbrev pub keyed : EntityParts → KeyParts × EntityParts

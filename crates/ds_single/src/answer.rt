@@ -1,25 +1,26 @@
 //! The reply to one line.
 ghost use Rattle.std.specs.Prelude.{◌≡◌, ◌+◌, ◌<◌, ◌≤◌, ◌^◌, ◌++◌, ◌∷◌, [], length, false, None, Some, IsTrue, IsFalse, IfSome};
 ghost use Rattle.ds_base.specs.Entities.{names_ascend};
-ghost use Rattle.ds_json.specs.Replies.{reply_text};
-ghost use Rattle.ds_json.specs.Requests.{IsLawfulCall};
+ghost use Rattle.ds_rounds.specs.Lines.{IsWithinLimit, handed};
+ghost use Rattle.ds_reply.specs.Replies.{reply_text};
+ghost use Rattle.ds_request.specs.Lawful.{IsLawfulCall};
 ghost use Rattle.ds_model.specs.Answers.{put_refusal, first_unissued, unissued};
 ghost use Rattle.ds_model.specs.Built.{unbuilt_member};
 ghost use Rattle.ds_model.specs.Sessions.{first_id};
-ghost use Rattle.ds_single.specs.Answered.{Answered, CallAnswered, IsQuiet, no_memory_reply, kind_query};
+ghost use Rattle.ds_single.specs.ReplySteps.{Answered, CallAnswered, HasAnswered, IsQuiet, no_memory_reply, kind_query};
 
 use crate::ask::ask;
-use crate::say::{make_room, say, say_no_memory};
+use crate::say::{make_room, say, say_no_memory, write_within};
 use crate::state::Single;
+use ds_base::limits::FIRST_DRAWN_ID;
 use ds_base::{
     Buffer, Counts, Elem, Entity, EntityRefused, Ident, Key, Properties, Seen, TextString, TryCopy,
 };
-use ds_json::{Body, Call, Field, Reply, WriteAt, write_reply_within};
-use ds_query::Select;
+use ds_query::{Field, Select};
+use ds_reply::{Body, Reply, WriteAt};
+use ds_request::Call;
+use ds_rounds::Line;
 use std::alloc::Global;
-
-/// Automatic ids are drawn from here on; none is drawn yet, so no written id may be as great.
-const FIRST_ID: u64 = 4_503_599_627_370_496;
 
 impl Single {
     /// Answers one line: the reply is put at the end of `out`, and `keep` bytes of room are left behind it. There must be
@@ -29,12 +30,30 @@ impl Single {
         &mut self,
         alloc: Global,
         number: u64,
-        line: &[u8],
+        line: Line<'_>,
+        keep: usize,
+        out: &mut Buffer,
+    )
+        requires room { keep + length (reply_text (no_memory_reply number)) ≤ out.old.spare }
+        requires within { IsWithinLimit line }
+        ensures answered { HasAnswered self.old self.new (record { number = number; content = handed line.entry }) out.old.bytes out.new.bytes }
+        ensures kept { keep ≤ out.new.spare }
+    {
+        // The proof alone needs the reply: its text stands in `out`.
+        let _reply = self.reply_to(alloc, number, line, keep, out);
+    }
+
+    fn reply_to(
+        &mut self,
+        alloc: Global,
+        number: u64,
+        line: Line<'_>,
         keep: usize,
         out: &mut Buffer,
     ) -> Reply
-        requires { keep + length (reply_text (no_memory_reply number)) ≤ out.old.spare }
-        ensures answered { Answered self.old self.new (record { number = number; bytes = line.now }) result }
+        requires room { keep + length (reply_text (no_memory_reply number)) ≤ out.old.spare }
+        requires within { IsWithinLimit line }
+        ensures answered { Answered self.old self.new (record { number = number; content = handed line.entry }) result }
         ensures text { out.new.bytes ≡ out.old.bytes ++ reply_text result }
         ensures kept { keep ≤ out.new.spare }
     {
@@ -70,6 +89,8 @@ impl Single {
                 Some(kind) => self.query(alloc, number, &kind, keep, out),
                 None => say_no_memory(number, keep, out),
             },
+            // `ask` gives no other request: what isn't served yet is refused there.
+            _ => say_no_memory(number, keep, out),
         }
     }
 
@@ -110,7 +131,10 @@ impl Single {
     {
         match first_unissued(entity.key().elems().as_slice()) {
             Some(id) => {
-                let body = Body::IdNotIssued { id, next: FIRST_ID };
+                let body = Body::IdNotIssued {
+                    id,
+                    next: FIRST_DRAWN_ID,
+                };
                 say(number, body, keep, out)
             }
             None => self.put_unrefused(alloc, number, entity, keep, out),
@@ -151,7 +175,7 @@ impl Single {
         }
         match self.commit(alloc, entity) {
             Ok(()) => {
-                write_reply_within(&reply, out);
+                write_within(&reply, out);
                 reply
             }
             Err(_) => say_no_memory(number, keep, out),
@@ -180,7 +204,7 @@ impl Single {
             return say_no_memory(number, keep, out);
         }
         self.see(place, place);
-        write_reply_within(&reply, out);
+        write_within(&reply, out);
         reply
     }
 
@@ -244,7 +268,7 @@ impl Single {
         }
         let place = self.place.max(count);
         self.see(place, count);
-        write_reply_within(&reply, out);
+        write_within(&reply, out);
         reply
     }
 }
@@ -276,7 +300,7 @@ fn refused_entity(refused: EntityRefused) -> Body
     }
 }
 
-/// The first id of a path that only the server gives.
+/// The first id of a path that only the server gives. None is drawn yet, so no written id may be as great as the first drawn one.
 fn first_unissued(path: &[Elem]) -> Option<u64>
     ensures { result ≡ first_unissued first_id path.now }
 {
@@ -294,7 +318,7 @@ fn unissued(ident: &Ident) -> Option<u64>
     ensures { result ≡ unissued first_id ident.now }
 {
     match ident {
-        Ident::Id(id) if *id >= FIRST_ID => Some(*id),
+        Ident::Id(id) if *id >= FIRST_DRAWN_ID => Some(*id),
         Ident::Id(_) | Ident::Name(_) => None,
     }
 }

@@ -1,26 +1,30 @@
 //! What a line asks, as far as the server serves it.
 ghost use Rattle.std.specs.Prelude.{◌≡◌, ◌⊎◌, Ok, Err, None, is_none, IfOk, IfErr};
-ghost use Rattle.ds_json.specs.Requests.{IsLawfulCall};
+ghost use Rattle.ds_rounds.specs.Lines.{IsWithinLimit, handed};
+ghost use Rattle.ds_request.specs.Lawful.{IsLawfulCall};
 ghost use Rattle.ds_model.specs.Answers.{asked, asked_of};
 ghost use Rattle.ds_model.specs.Built.{unbuilt_member, served, unless, is_empty, is_entities};
 
-use ds_json::{Body, Call, Field, MAX_LINE_BYTES, Request, RequestRefused, read_request};
-use ds_query::Select;
+use ds_query::{Field, Select};
+use ds_reply::Body;
+use ds_request::{Call, Request, RequestRefused, read_request};
+use ds_rounds::Line;
 use std::alloc::Global;
 
 /// The request of a line that is served, or what the reply says instead. Each is client 0's.
-pub(crate) fn ask(alloc: Global, line: &[u8]) -> Result<Call, Body>
-    ensures ok { IfOk result (λ c. asked line.now ≡ Ok (record { client = 0; call = c })) }
+pub(crate) fn ask(alloc: Global, line: Line<'_>) -> Result<Call, Body>
+    requires { IsWithinLimit line }
+    ensures ok { IfOk result (λ c. asked (handed line.entry) ≡ Ok (record { client = 0; call = c })) }
     ensures lawful { IfOk result IsLawfulCall }
     ensures built { IfOk result (λ c. unbuilt_member c ≡ None) }
-    ensures refused { IfErr result (λ b. (b ≡ Body.NoMemory) ⊎ (asked line.now ≡ Err (0, b))) }
+    ensures refused { IfErr result (λ b. (b ≡ Body.NoMemory) ⊎ (asked (handed line.entry) ≡ Err (0, b))) }
 {
-    if line.len() > MAX_LINE_BYTES {
-        return Err(Body::LineTooLong);
-    }
-    match read_request(alloc, line) {
-        Ok(request) => served(request),
-        Err(refused) => Err(refused_body(refused)),
+    match line {
+        Line::Kept(bytes) => match read_request(alloc, bytes) {
+            Ok(request) => served(request),
+            Err(refused) => Err(refused_body(refused)),
+        },
+        Line::TooLong => Err(Body::LineTooLong),
     }
 }
 
@@ -114,6 +118,14 @@ fn unbuilt_member(call: &Call) -> Option<Field>
                 ),
             )
         }
+        Call::Delete { .. }
+        | Call::Get { .. }
+        | Call::Gql { .. }
+        | Call::Begin { .. }
+        | Call::Commit
+        | Call::Rollback
+        | Call::AllocateIds { .. }
+        | Call::Apply { .. } => Some(Field::Op),
     }
 }
 

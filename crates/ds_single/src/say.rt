@@ -1,10 +1,10 @@
 //! Writing one reply into room that is taken before anything is changed.
 ghost use Rattle.std.specs.Prelude.{◌≡◌, ◌+◌, ◌-◌, ◌^◌, ◌≤◌, ◌++◌, min, length, IsTrue};
-ghost use Rattle.ds_json.specs.Replies.{reply_text};
-ghost use Rattle.ds_single.specs.Answered.{Says, no_memory_reply};
+ghost use Rattle.ds_reply.specs.Replies.{reply_text};
+ghost use Rattle.ds_single.specs.ReplySteps.{Says, no_memory_reply};
 
 use ds_base::Buffer;
-use ds_json::{Body, Reply, reply_room, write_reply_within};
+use ds_reply::{Body, Reply, reply_room, write_reply};
 
 /// How many bytes the reply takes that there was no memory, or 2^64 - 1 where they are more. It takes no memory.
 pub fn no_memory_room(number: u64) -> usize
@@ -46,7 +46,7 @@ pub(crate) fn say_no_memory(number: u64, keep: usize, out: &mut Buffer) -> Reply
         line: number,
         body: Body::NoMemory,
     };
-    write_reply_within(&reply, out);
+    write_within(&reply, out);
     reply
 }
 
@@ -65,6 +65,17 @@ pub(crate) fn say(number: u64, body: Body, keep: usize, out: &mut Buffer) -> Rep
     if !make_room(&reply, keep, out) {
         return say_no_memory(number, keep, out);
     }
-    write_reply_within(&reply, out);
+    write_within(&reply, out);
     reply
+}
+
+/// Writes a reply for which there is room.
+pub(crate) fn write_within(reply: &Reply, out: &mut Buffer)
+    requires { length (reply_text reply.now) ≤ out.old.spare }
+    ensures text { out.new.bytes ≡ out.old.bytes ++ reply_text reply.now }
+    ensures room { out.old.spare ≤ out.new.spare + length (reply_text reply.now) }
+{
+    if write_reply(reply, out).is_err() {
+        unreachable!();
+    }
 }

@@ -120,7 +120,7 @@ impl Single {
 ghost use Rattle.std.specs.Prelude.{map, List, ◌∷◌};
 ghost use Rattle.std.specs.BTreeMap.{insert_entry, IsOrdered, is_at};
 ghost use Rattle.std.specs.Map.{remove_entry};
-ghost use Rattle.ds_base.specs.Keys.{same_bytes};
+ghost use Rattle.std.specs.Prelude.{bytes_eq};
 ghost use Rattle.ds_base.specs.KeyOrder.{key_cmp};
 ghost use Rattle.ds_base.specs.Entities.{EntityParts};
 ghost use Rattle.ds_log.specs.After.{apply_write};
@@ -181,6 +181,7 @@ fn delete(entities: &mut BTreeMap<Key, Entity>, key: &Key)
     ensures removed { entities.new.entries ≡ remove_entry (is_at (key_cmp key.now)) entities.old.entries }
     ensures ordered { IsOrdered key_cmp entities.old }
 {
+    // For the proof alone: the call tells that the map is in order.
     let _ = entities.len();
     let _ = entities.remove(key);
 }
@@ -194,7 +195,7 @@ fn is_of_kind(entity: &Entity, kind: &TextString) -> bool
 }
 
 fn ends_in_kind(path: &[Elem], kind: &TextString) -> bool
-    ensures { result ≡ same_bytes (kind_of path.now) kind.now }
+    ensures { result ≡ bytes_eq (kind_of path.now) kind.now }
 {
     match path.last() {
         Some(elem) => elem.kind == *kind,

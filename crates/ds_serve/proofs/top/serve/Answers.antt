@@ -1,29 +1,24 @@
-use Rattle.std.proofs.Common.{◌∙◌, subst, refl, List, ℕ}
-use Rattle.ds_base.specs.Limits.{most_round_bytes}
-use Rattle.ds_model.specs.Lines.{filled, numbered, lines_of}
-use Rattle.ds_serve.specs.Rounds.{Ran, first_state}
+use Rattle.std.proofs.Common.{[], false, inr, refl, arith}
+use Rattle.ds_rounds.specs.Rounds.{rounds_in}
 use Rattle.ds_serve.specs.declared.outcome.Status.TheVariants as status
-use Rattle.ds_serve.specs.Runs.{status_of}
-use Rattle.ds_serve.proofs.RoundRuns.{legal_nothing, legal_sent, none_run, none_taken, some_taken}
+use Rattle.ds_serve.proofs.Ends.{complete, ends_at_once, limit_of}
 use Rattle.ds_serve.proofs.top.serve.Goals as goal
 
 pub returns-then-not-is_form-clause-legal : goal.returns-then-not-is_form-clause-legal
 returns-then-not-is_form-clause-legal g c =
-    legal_nothing status.Usage c.ended.result.status c.ended.result.journal (g.I.Source.left c.args.input.now) (g.I.Source.left c.args.input.now) _ c.ended.result.unsent c.ended.ensures.status (λ bytes taken. refl) c.ended.ensures.journal c.ended.ensures.unsent
-    (none_taken (g.I.Source.left c.args.input.now))
+    ends_at_once status.Usage c.end.result.status (g.I.Source.left c.args.input.now) (g.O.Sink.held c.args.output.now) c.end.result.journal c.end.result.unsent c.new.result.single (refl, refl) c.end.ensures.status c.end.ensures.journal c.new.ensures.single c.end.ensures.unsent
 
-pub returns-in-Ok-run_round-clause-legal : goal.returns-in-Ok-run_round-clause-legal
-returns-in-Ok-run_round-clause-legal g c =
-    legal_sent c.send.result.status c.send.result.journal (g.I.Source.left c.args.input.now) _ _ _ c.send.result.unsent c.in-Ok.bytes.bytes c.in-Ok-run_round.round.single c.in-Ok-run_round.round.text.bytes
-    c.send.ensures.status c.send.ensures.journal c.send.ensures.written c.in-Ok.ensures.whole c.in-Ok.ensures.taken
-    (subst (λ (bytes : List ℕ). Ran first_state c.in-Ok-run_round.round.single (filled (numbered 1 (lines_of bytes))) c.in-Ok-run_round.round.text.bytes) c.bytes-input_bytes.ensures c.in-Ok-run_round.ensures)
+pub returns-in-Err-clause-legal : goal.returns-in-Err-clause-legal
+returns-in-Err-clause-legal g c =
+    ends_at_once status.NoMemory c.end-in-Err.result.status (g.I.Source.left c.args.input.now) (g.O.Sink.held c.args.output.now) c.end-in-Err.result.journal c.end-in-Err.result.unsent c.new-in-Err.result.single (rounds_in false 1 [], refl, inr (refl, omega arith)) c.end-in-Err.ensures.status c.end-in-Err.ensures.journal c.new-in-Err.ensures.single c.end-in-Err.ensures.unsent
 
-pub returns-in-Ok-clause-legal : goal.returns-in-Ok-clause-legal
-returns-in-Ok-clause-legal g c =
-    legal_nothing status.NoMemory c.ended-in-Err-run_round.result.status c.ended-in-Err-run_round.result.journal (g.I.Source.left c.args.input.now) _ _ c.ended-in-Err-run_round.result.unsent c.ended-in-Err-run_round.ensures.status (λ bytes taken. refl) c.ended-in-Err-run_round.ensures.journal c.ended-in-Err-run_round.ensures.unsent
-    (_, c.in-Ok.ensures.taken)
+pub returns-in-Ok-clause-input_limit : goal.returns-in-Ok-clause-input_limit
+returns-in-Ok-clause-input_limit g c =
+    limit_of c.serve_rounds.result.status (g.I.Source.left c.args.input.now) (g.I.Source.left c.serve_rounds.new.input) (g.O.Sink.held c.args.output.now) (g.O.Sink.held c.serve_rounds.new.output) c.serve_rounds.result.journal c.serve_rounds.result.unsent
+    c.serve_rounds.ensures.journal c.serve_rounds.ensures.legal
 
-pub returns-clause-legal : goal.returns-clause-legal
-returns-clause-legal g c =
-    legal_nothing (status_of c.in-Err.refused) c.ended-in-Err.result.status c.ended-in-Err.result.journal (g.I.Source.left c.args.input.now) _ _ c.ended-in-Err.result.unsent (c.ended-in-Err.ensures.status ∙ c.refused_status.ensures) (none_run c.in-Err.refused) c.ended-in-Err.ensures.journal c.ended-in-Err.ensures.unsent
-    (some_taken _ most_round_bytes (g.I.Source.left c.args.input.now) _ c.in-Err.ensures.limit c.in-Err.ensures.below)
+pub returns-in-Ok-clause-complete : goal.returns-in-Ok-clause-complete
+returns-in-Ok-clause-complete g c = λ form.
+    complete c.serve_rounds.result.status (g.I.Source.left c.args.input.now) (g.I.Source.left c.serve_rounds.new.input) _ _ _ _ c.serve_rounds.ensures.began
+    (limit_of c.serve_rounds.result.status (g.I.Source.left c.args.input.now) (g.I.Source.left c.serve_rounds.new.input) (g.O.Sink.held c.args.output.now) (g.O.Sink.held c.serve_rounds.new.output) c.serve_rounds.result.journal c.serve_rounds.result.unsent c.serve_rounds.ensures.journal c.serve_rounds.ensures.legal)
+    c.serve_rounds.ensures.read_fault c.serve_rounds.ensures.write_fault

@@ -1,6 +1,4 @@
-use Rattle.ds_single.proofs.LineReplies.{answered_refused}
 use Rattle.ds_single.proofs.state.Single.answer.Goals as goal
 
-pub returns-in-Err-clause-answered : goal.returns-in-Err-clause-answered
-returns-in-Err-clause-answered c =
-    answered_refused c.args.self.now c.args.number c.args.line.now c.in-Err.body c.say.result c.say.ensures.said c.in-Err.ensures.refused
+pub returns-clause-answered : goal.returns-clause-answered
+returns-clause-answered c = record { reply = c.reply_to-reply.result; answered = c.reply_to-reply.ensures.answered; text = c.reply_to-reply.ensures.text }

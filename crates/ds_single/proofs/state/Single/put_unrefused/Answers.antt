@@ -1,7 +1,8 @@
 use Rattle.std.proofs.Common.{◌≡◌, ◌+◌, ◌∙◌, ap, subst, length, None, false}
 use Rattle.ds_base.specs.Entities.{EntityParts, entity_refusal}
-use Rattle.ds_json.specs.declared.call.Call.TheVariants as call
-use Rattle.ds_single.specs.State.{SingleParts, IsSingle, session_of}
+use Rattle.ds_request.specs.declared.call.Call.TheVariants as call
+use Rattle.ds_single.specs.State.{SingleParts, IsSingle}
+use Rattle.ds_single.specs.ReplySteps.{session_of}
 use Rattle.ds_single.proofs.CallReplies.{put_said, unsaid}
 use Rattle.ds_single.proofs.state.Single.put_unrefused.Goals as goal
 
