@@ -1,28 +1,7 @@
-//! From a line to a request, and from a reply to a line.
+//! From a line to a request, and from a reply to a line: what `ds_request` reads and `ds_reply` writes, under one name.
 //!
-//! A request is a function of the JSON value that `serde_json` reads from the line, and a reply's line is the compact text
-//! of a JSON value: both functions stand in `specs/`. `Values` (keys, values, entities), `Queries` (the members of a query)
-//! and `Requests` (the line) say what is read; `Replies` says what is written.
+//! The definitions stand there, and so does the code. The model and the engine stand on the two crates themselves.
 #![tactic(auto)]
 
-pub mod call;
-mod members;
-mod queries;
-mod query;
-mod read;
-pub mod refusal;
-pub mod reply;
-pub mod request;
-mod scalars;
-#[cfg(test)]
-mod tests;
-mod told;
-mod write;
-#[cfg(test)]
-mod write_tests;
-
-pub use call::{Call, Field, Request, RequestRefused};
-pub use refusal::Refusal;
-pub use reply::{Body, Reply, WriteAt};
-pub use request::{MAX_LINE_BYTES, read_request};
-pub use write::{reply_room, write_reply, write_reply_to, write_reply_within};
+pub use ds_reply::{Body, Reply, WriteAt, reply_room, write_reply};
+pub use ds_request::{Call, Request, RequestRefused, read_request};
