@@ -11,7 +11,7 @@ use Rattle.std.proofs.lemmas.List.{get_or-map as get_or-map-within, drop_all, ta
 use Rattle.std.proofs.lemmas.List.Edits.{get_or-insert_at, get_or-insert_below, get_or-insert_above, length-insert}
 use Rattle.std.proofs.lemmas.Map.Lookups.{exact_bytes}
 use Rattle.serde_json.specs.Data.{Data, null, Members, no_members, member, put}
-use Rattle.ds_reply.specs.Members.{Named, named, put_each, by_name}
+use Rattle.ds_reply.specs.Objects.{Named, named, put_each, by_name}
 use Rattle.ds_reply.specs.Orders.{members_at, name_at, IsBefore, OrdersByName}
 
 abbrev pub C : List ℕ → List ℕ → Ordering

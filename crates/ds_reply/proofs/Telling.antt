@@ -1,7 +1,7 @@
 -- What a reply tells, once it is known which one it is.
 use Rattle.std.proofs.Common.{◌≡◌, List, ◌∷◌, [], ◌++◌, sym, ap, ◌∙◌}
 use Rattle.ds_reply.specs.declared.reply.Body.{Body}
-use Rattle.ds_reply.specs.Members.{Named}
+use Rattle.ds_reply.specs.Objects.{Named}
 use Rattle.ds_reply.specs.Refusals.{refusal_members}
 use Rattle.ds_reply.specs.Replies.{body_members}
 

@@ -1,11 +1,12 @@
-pub mod MemberNames
-pub mod Members
-pub mod Names
-pub mod Orders
-pub mod OutputLaws
-pub mod Outputs
-pub mod Printing
-pub mod Projections
-pub mod Refusals
+-- in the order in which they are best read
 pub mod Replies
+pub mod Refusals
+pub mod Printing
+pub mod Objects
+pub mod Names
+pub mod MemberNames
 pub mod Shown
+pub mod Orders
+pub mod Projections
+pub mod Outputs
+pub mod OutputLaws

@@ -22,7 +22,7 @@ use Rattle.ds_query.specs.declared.query.Select.{Select}
 use Rattle.ds_query.specs.declared.query.Select.TheVariants as select
 use Rattle.ds_query.specs.declared.refusal.Constraint.{Constraint}
 use Rattle.ds_query.specs.declared.refusal.Constraint.TheVariants as constraint
-use Rattle.ds_reply.specs.Members.{Named, named, object_of}
+use Rattle.ds_reply.specs.Objects.{Named, named, object_of}
 
 abbrev pub natural : ℕ → Data
 natural n = number (unsigned n)

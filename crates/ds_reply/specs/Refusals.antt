@@ -1,17 +1,17 @@
 -- The one table of refusals: the number, the name, and what is told beside them.
-use Rattle.std.specs.Prelude.{ℕ, List, [], ◌∷◌, codes}
+use Rattle.std.specs.Prelude.{ℕ, List, [], ◌∷◌, ◌++◌, codes}
 use Rattle.serde_json.specs.Data.{string}
 use Rattle.ds_query.specs.declared.field.Field.{Field}
 use Rattle.ds_query.specs.Fields.{field_name}
 use Rattle.ds_reply.specs.declared.reply.Body.{Body}
 use Rattle.ds_reply.specs.declared.reply.Body.TheVariants as body
-use Rattle.ds_reply.specs.Members.{Named, named}
+use Rattle.ds_reply.specs.Objects.{Named, named}
 use Rattle.ds_reply.specs.Names.{reason_name}
 use Rattle.ds_reply.specs.Printing.{natural, key_data, optional_key_data, constraint_data, index_def_data}
 
--- a refusal tells its number, its name and more
+-- a refusal tells its number, more, and its name
 abbrev pub refused : ℕ → List ℕ → List Named → List Named
-refused number name more = named (codes "error") (natural number) ∷ named (codes "name") (string name) ∷ more
+refused number name more = named (codes "error") (natural number) ∷ (more ++ named (codes "name") (string name) ∷ [])
 
 -- a member that is a number
 abbrev pub counted : List ℕ → ℕ → Named

@@ -11,13 +11,13 @@ use Rattle.ds_reply.specs.declared.reply.WriteAt.TheVariants as at
 use Rattle.ds_reply.specs.declared.reply.Body.{Body}
 use Rattle.ds_reply.specs.declared.reply.Body.TheVariants as body
 use Rattle.ds_reply.specs.declared.reply.Reply.{Reply}
-use Rattle.ds_reply.specs.Members.{Named, named, object_of}
+use Rattle.ds_reply.specs.Objects.{Named, named, object_of}
 use Rattle.ds_reply.specs.Printing.{natural, key_data, optional_entity_data, result_items, count_items}
 use Rattle.ds_reply.specs.Refusals.{counted, refusal_members}
 
--- what went well tells the operation and more
+-- what went well tells more, and the operation
 abbrev pub done : List ℕ → List Named → List Named
-done op more = named (codes "ok") (string op) ∷ more
+done op more = more ++ named (codes "ok") (string op) ∷ []
 
 -- where a write stands: the number of its commit, or in a transaction the place at which the group was touched
 abbrev pub written_at : WriteAt → Named
@@ -40,20 +40,20 @@ next_page (Some text) = named (codes "cursor") (string text) ∷ []
 
 -- what a query found
 abbrev pub found : Select → List Item → Seen → Option (List ℕ) → List Named
-found s results sees cursor = named (codes "results") (array (result_items s results)) ∷ seen_at sees ∷ next_page cursor
+found s results sees cursor = seen_at sees ∷ named (codes "results") (array (result_items s results)) ∷ next_page cursor
 
 -- what is told beside the client and the line
 abbrev pub body_members : Body → List Named
-body_members (body.Put k at) = done (codes "put") (named (codes "key") (key_data k) ∷ written_at at ∷ [])
-body_members (body.Delete k at) = done (codes "delete") (named (codes "key") (key_data k) ∷ written_at at ∷ [])
+body_members (body.Put k at) = done (codes "put") (written_at at ∷ named (codes "key") (key_data k) ∷ [])
+body_members (body.Delete k at) = done (codes "delete") (written_at at ∷ named (codes "key") (key_data k) ∷ [])
 body_members (body.Get e place) = done (codes "get") (named (codes "entity") (optional_entity_data e) ∷ counted (codes "place") place ∷ [])
 body_members (body.Query s results sees cursor) = done (codes "query") (found s results sees cursor)
 body_members (body.Gql s results sees cursor) = done (codes "gql") (found s results sees cursor)
 body_members body.Begin = done (codes "begin") []
 body_members (body.Commit commit) = done (codes "commit") (counted (codes "commit") commit ∷ [])
 body_members body.Rollback = done (codes "rollback") []
-body_members (body.AllocateIds first count) = done (codes "allocate_ids") (counted (codes "first") first ∷ counted (codes "count") count ∷ [])
-body_members (body.Settle place applied) = done (codes "settle") (counted (codes "place") place ∷ applied_counts applied ∷ [])
+body_members (body.AllocateIds first count) = done (codes "allocate_ids") (counted (codes "count") count ∷ counted (codes "first") first ∷ [])
+body_members (body.Settle place applied) = done (codes "settle") (applied_counts applied ∷ counted (codes "place") place ∷ [])
 body_members (body.Apply applied count place shard) =
     done (codes "apply") (named (codes "applied") (boolean applied)
     ∷ counted (codes "count") count ∷ counted (codes "place") place ∷ counted (codes "shard") shard ∷ [])
@@ -61,7 +61,7 @@ body_members refusal = refusal_members refusal
 
 -- every reply tells the client and the line
 abbrev pub reply_members : Reply → List Named
-reply_members r = counted (codes "client") r.client ∷ counted (codes "line") r.line ∷ body_members r.body
+reply_members r = counted (codes "client") r.client ∷ (body_members r.body ++ counted (codes "line") r.line ∷ [])
 
 abbrev pub reply_data : Reply → Data
 reply_data r = object_of (reply_members r)

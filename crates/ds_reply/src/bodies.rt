@@ -21,27 +21,27 @@ pub(crate) fn members_of<'a>(reply: &'a Reply) -> Members<'a>
 {
     let mut members = ArrayVec::new();
     members.push(number(MemberName::Client, u64::from(reply.client)));
-    members.push(number(MemberName::Line, reply.line));
     add_body(&mut members, &reply.body);
+    members.push(number(MemberName::Line, reply.line));
     members
 }
 
 /// Puts the members of the body behind the others.
 fn add_body<'a>(members: &mut Members<'a>, body: &'a Body)
-    requires { array_vec_len members.old ≤ 2 }
+    requires { array_vec_len members.old ≤ 1 }
     ensures items { map member_named members.new.items ≡ map member_named members.old.items ++ body_members body.now }
-    ensures few { array_vec_len members.new ≤ 8 }
+    ensures few { array_vec_len members.new ≤ 7 }
 {
     match body {
         Body::Put { key: of, at } => add_done(
             members,
             b"put",
-            &[key(MemberName::Key, of), written(*at)],
+            &[written(*at), key(MemberName::Key, of)],
         ),
         Body::Delete { key: of, at } => add_done(
             members,
             b"delete",
-            &[key(MemberName::Key, of), written(*at)],
+            &[written(*at), key(MemberName::Key, of)],
         ),
         Body::Get { entity, place } => add_done(
             members,
@@ -74,16 +74,16 @@ fn add_body<'a>(members: &mut Members<'a>, body: &'a Body)
             members,
             b"allocate_ids",
             &[
-                number(MemberName::First, *first),
                 number(MemberName::Count, *count),
+                number(MemberName::First, *first),
             ],
         ),
         Body::Settle { place, applied } => add_done(
             members,
             b"settle",
             &[
-                number(MemberName::Place, *place),
                 counts(MemberName::Applied, applied),
+                number(MemberName::Place, *place),
             ],
         ),
         Body::Apply {
@@ -127,10 +127,10 @@ fn add_found<'a>(
     seen: &'a Seen,
     cursor: &'a Option<TextString>,
 )
-    requires { array_vec_len members.old ≤ 2 }
+    requires { array_vec_len members.old ≤ 1 }
     ensures items { map member_named members.new.items
         ≡ map member_named members.old.items ++ done op.now (found select.now items.now seen.now cursor.now) }
-    ensures few { array_vec_len members.new ≤ 8 }
+    ensures few { array_vec_len members.new ≤ 7 }
 {
     let found = results(MemberName::Results, select, items);
     match cursor {
@@ -138,12 +138,12 @@ fn add_found<'a>(
             members,
             op,
             &[
-                found,
                 seen_at(seen),
+                found,
                 text(MemberName::Cursor, cursor.bytes()),
             ],
         ),
-        None => add_done(members, op, &[found, seen_at(seen)]),
+        None => add_done(members, op, &[seen_at(seen), found]),
     }
 }
 
@@ -157,14 +157,14 @@ fn seen_at<'a>(seen: &'a Seen) -> Member<'a>
     }
 }
 
-/// Puts the members of what went well behind the others: the operation, and more.
+/// Puts the members of what went well behind the others: more, and the operation.
 fn add_done<'a>(members: &mut Members<'a>, op: &'static [u8], more: &[Member<'a>])
-    requires begun { array_vec_len members.old ≤ 2 }
+    requires begun { array_vec_len members.old ≤ 1 }
     requires few { length more.now ≤ 4 }
     ensures items { map member_named members.new.items
         ≡ map member_named members.old.items ++ done op.now (map member_named more.now) }
-    ensures few { array_vec_len members.new ≤ 8 }
+    ensures few { array_vec_len members.new ≤ 7 }
 {
-    members.push(text(MemberName::Ok, op));
     add_members(members, more);
+    members.push(text(MemberName::Ok, op));
 }

@@ -4,7 +4,7 @@ ghost use Rattle.serde_json.specs.Written.{compact_text, items_text};
 ghost use Rattle.ds_reply.specs.Printing.{ident_data, elem_data, elem_items, keyed_items, key_data};
 
 use crate::output::Output;
-use crate::text::{write_comma, write_natural, write_text};
+use crate::text::{write_comma, write_escaped, write_natural, write_text};
 use ds_base::{Elem, Ident, Key, TextString};
 
 /// Puts a key: its namespace, where that isn't the default, and its elements.
@@ -42,9 +42,9 @@ fn write_elems<O: Output>(elems: &[Elem], mut later: bool, out: &mut O)
 fn write_elem<O: Output>(elem: &Elem, out: &mut O)
     ensures { O.Writes (compact_text (elem_data elem.now)) out.old out.new }
 {
-    out.put(b"[");
-    write_text(&elem.kind, out);
-    out.put(b",");
+    out.put(b"[\"");
+    write_escaped(elem.kind.bytes(), out);
+    out.put(b"\",");
     write_ident(&elem.ident, out);
     out.put(b"]");
 }

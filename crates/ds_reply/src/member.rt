@@ -3,7 +3,7 @@ ghost use Rattle.std.specs.Prelude.{◌≡◌, ◌≤◌, ◌+◌, ◌++◌, map
 ghost use Rattle.serde_json.specs.Data.{string, array};
 ghost use Rattle.arrayvec.specs.ArrayVec.{array_vec_len};
 ghost use Rattle.ds_reply.specs.Printing.{natural, key_data, optional_key_data, optional_entity_data, result_items, count_items};
-ghost use Rattle.ds_reply.specs.Members.{named};
+ghost use Rattle.ds_reply.specs.Objects.{named};
 ghost use Rattle.ds_reply.specs.MemberNames.{name_text};
 ghost use Rattle.ds_reply.specs.Shown.{member_named};
 

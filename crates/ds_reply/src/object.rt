@@ -1,7 +1,7 @@
 //! Objects, their members by name.
 ghost use Rattle.std.specs.Prelude.{◌≤◌, ◌<◌, ℕ, map, length, false, slice_index, ◌++◌};
 ghost use Rattle.serde_json.specs.Written.{compact_text, comma_if, members_text};
-ghost use Rattle.ds_reply.specs.Members.{object_of};
+ghost use Rattle.ds_reply.specs.Objects.{object_of};
 ghost use Rattle.ds_reply.specs.Orders.{members_at, member_text};
 ghost use Rattle.ds_reply.specs.Shown.{shown_data, member_named};
 

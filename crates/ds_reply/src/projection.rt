@@ -1,7 +1,7 @@
 //! The values of a projection, by name.
 ghost use Rattle.std.specs.Prelude.{◌≡◌, ◌<◌, ◌≤◌, ◌⊎◌, ℕ, [], length, false, true, slice_index, slice_index_or};
 ghost use Rattle.serde_json.specs.Written.{members_text};
-ghost use Rattle.ds_reply.specs.Members.{named, by_name};
+ghost use Rattle.ds_reply.specs.Objects.{named, by_name};
 ghost use Rattle.ds_reply.specs.Printing.{projected, index_value_data};
 ghost use Rattle.ds_reply.specs.Orders.{IsOrder, NamesAscend, OrdersByName, member_text};
 ghost use Rattle.ds_reply.specs.Projections.{before, is_past, IsNextPlace};

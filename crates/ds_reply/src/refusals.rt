@@ -12,9 +12,9 @@ use ds_query::Field;
 
 /// Puts the members of the refusal behind the others; what went well is none.
 pub(crate) fn add_refusal<'a>(members: &mut Members<'a>, body: &'a Body)
-    requires { array_vec_len members.old ≤ 2 }
+    requires { array_vec_len members.old ≤ 1 }
     ensures items { map member_named members.new.items ≡ map member_named members.old.items ++ refusal_members body.now }
-    ensures few { array_vec_len members.new ≤ 8 }
+    ensures few { array_vec_len members.new ≤ 7 }
 {
     match body {
         Body::BadJson => add_refused(members, 1, b"BadJson", &[]),
@@ -135,17 +135,17 @@ pub(crate) fn add_refusal<'a>(members: &mut Members<'a>, body: &'a Body)
     }
 }
 
-/// Puts the members of a refusal behind the others: its number, its name, and more.
+/// Puts the members of a refusal behind the others: its number, more, and its name.
 fn add_refused<'a>(members: &mut Members<'a>, code: u64, name: &'static [u8], more: &[Member<'a>])
-    requires begun { array_vec_len members.old ≤ 2 }
-    requires few { length more.now ≤ 4 }
+    requires begun { array_vec_len members.old ≤ 1 }
+    requires few { length more.now ≤ 3 }
     ensures items { map member_named members.new.items
         ≡ map member_named members.old.items ++ refused code name.now (map member_named more.now) }
-    ensures few { array_vec_len members.new ≤ 8 }
+    ensures few { array_vec_len members.new ≤ 7 }
 {
     members.push(number(MemberName::Error, code));
-    members.push(text(MemberName::Name, name));
     add_members(members, more);
+    members.push(text(MemberName::Name, name));
 }
 
 /// The member of the request that is refused.

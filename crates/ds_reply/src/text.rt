@@ -99,7 +99,7 @@ fn write_piece<O: Output>(piece: &[u8], out: &mut O)
 }
 
 /// Puts a text with its escapes: each run of bytes that stand for themselves is put as one piece.
-fn write_escaped<O: Output>(text: &[u8], out: &mut O)
+pub(crate) fn write_escaped<O: Output>(text: &[u8], out: &mut O)
     ensures { O.Writes (escape text.now) out.old out.new }
 {
     let mut rest = text;

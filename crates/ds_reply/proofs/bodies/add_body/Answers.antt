@@ -7,4 +7,4 @@ pub returns-in-AllocateIds-clause-items : goal.returns-in-AllocateIds-clause-ite
 returns-in-AllocateIds-clause-items c = body_told _ _ _ _ _ c.in-AllocateIds.is c.add_done-in-AllocateIds.ensures.items (two (done (codes "allocate_ids")) _ _ _ _ c.number-in-AllocateIds.ensures c.number-in-AllocateIds-2.ensures)
 
 pub returns-in-Settle-clause-items : goal.returns-in-Settle-clause-items
-returns-in-Settle-clause-items c = body_told _ _ _ _ _ c.in-Settle.is c.add_done-in-Settle.ensures.items (two (done (codes "settle")) _ _ _ _ c.number-in-Settle.ensures c.counts.ensures)
+returns-in-Settle-clause-items c = body_told _ _ _ _ _ c.in-Settle.is c.add_done-in-Settle.ensures.items (two (done (codes "settle")) _ _ _ _ c.counts.ensures c.number-in-Settle.ensures)

@@ -1,7 +1,7 @@
 -- What is written from here on for the places that are left makes the whole text.
 use Rattle.std.proofs.Common.{drop, false}
 use Rattle.serde_json.specs.Written.{members_text}
-use Rattle.ds_reply.specs.Members.{by_name}
+use Rattle.ds_reply.specs.Objects.{by_name}
 use Rattle.ds_reply.specs.Printing.{projected}
 use Rattle.ds_reply.specs.Orders.{members_at}
 use Rattle.ds_reply.proofs.projection.write_at_places.Given as goal

@@ -1,7 +1,7 @@
 -- What is written from here on for the members that are left makes the whole text.
 use Rattle.std.proofs.Common.{drop, false}
 use Rattle.serde_json.specs.Written.{members_text}
-use Rattle.ds_reply.specs.Members.{by_name}
+use Rattle.ds_reply.specs.Objects.{by_name}
 use Rattle.ds_reply.specs.Printing.{projected}
 use Rattle.ds_reply.proofs.Projecting.{in_turn}
 use Rattle.ds_reply.proofs.projection.write_in_turn.Given as goal
