@@ -20,8 +20,8 @@ use Rattle.ds_log.specs.declared.Commit.{Commit}
 use Rattle.ds_single.specs.State.{SingleParts}
 use Rattle.ds_serve.specs.Runs.{AreFirst, HasNoFiles, HasTaken, IsBelow, IsLegalRun, IsSteady, WereRun, Wrote, read_faults, write_faults}
 use Rattle.ds_serve.specs.RunSteps.{HasBegun, HasRun, HasServed, Ran, first_state, status_of}
-use Rattle.ds_serve.specs.declared.outcome.Status.{Status}
-use Rattle.ds_serve.specs.declared.outcome.Status.TheVariants as status
+use Rattle.ds_words.specs.declared.status.Status.{Status}
+use Rattle.ds_words.specs.declared.status.Status.TheVariants as status
 use Rattle.ds_serve.proofs.SoFar.{counted_more, legal_run, run_more, run_nothing}
 use Rattle.ds_serve.proofs.Written.{wrote_part}
 

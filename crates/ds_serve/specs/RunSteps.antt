@@ -17,8 +17,8 @@ use Rattle.ds_model.specs.Sessions.{Session, first_id, first_sessions}
 use Rattle.ds_single.specs.State.{SingleParts}
 use Rattle.ds_single.specs.ReplySteps.{no_memory_reply, session_of, world}
 use Rattle.ds_serve.specs.Runs.{IsLegalRun}
-use Rattle.ds_serve.specs.declared.outcome.Status.{Status}
-use Rattle.ds_serve.specs.declared.outcome.Status.TheVariants as status
+use Rattle.ds_words.specs.declared.status.Status.{Status}
+use Rattle.ds_words.specs.declared.status.Status.TheVariants as status
 use Rattle.ds_serve.specs.declared.server.Step.{Step}
 use Rattle.ds_serve.specs.declared.server.Step.TheVariants as step
 

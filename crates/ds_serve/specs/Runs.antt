@@ -8,8 +8,8 @@ use Rattle.ds_reply.specs.declared.reply.Reply.{Reply}
 use Rattle.ds_reply.specs.Replies.{replies_text}
 use Rattle.ds_log.specs.declared.Commit.{Commit}
 use Rattle.ds_model.specs.Legal.{Legal}
-use Rattle.ds_serve.specs.declared.outcome.Status.{Status}
-use Rattle.ds_serve.specs.declared.outcome.Status.TheVariants as status
+use Rattle.ds_words.specs.declared.status.Status.{Status}
+use Rattle.ds_words.specs.declared.status.Status.TheVariants as status
 
 -- the words `--shards 1 --appliers 0`, until the command line is read in full
 abbrev pub is_form : List (List ℕ) → Bool

@@ -12,5 +12,6 @@ pub mod top;
 mod words;
 
 pub use ds_rounds::Unsent;
-pub use outcome::{Run, Status};
+pub use ds_words::Status;
+pub use outcome::Run;
 pub use top::serve;

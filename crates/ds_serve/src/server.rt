@@ -6,12 +6,13 @@ ghost use Rattle.ds_rounds.specs.Rounds.{lines_of_round};
 ghost use Rattle.ds_rounds.specs.Reading.{IsRound};
 ghost use Rattle.ds_serve.specs.RunSteps.{HasServed, Leaves, Ran, first_state, room_from, step_read_faults, step_write_faults};
 
-use crate::outcome::{Run, Status};
+use crate::outcome::Run;
 use crate::output::write_all;
 use ds_base::Buffer;
 use ds_io::{Gate, Sink, Source};
 use ds_rounds::{Line, Lines, Round, RoundRefused, Rounds, Unsent};
 use ds_single::{Single, no_memory_room};
+use ds_words::Status;
 use std::alloc::{AllocError, Global};
 
 /// The state between rounds: the engine, and the buffer that holds the replies of one round.

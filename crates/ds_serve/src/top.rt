@@ -8,11 +8,12 @@ ghost use Rattle.ds_rounds.specs.Reading.{first_reader};
 ghost use Rattle.ds_serve.specs.Runs.{is_form, HasNoFiles, HasTaken, IsBelow, IsLegalRun, IsSteady, IsUntouched, read_faults, write_faults};
 ghost use Rattle.ds_serve.specs.RunSteps.{HasBegun, status_of};
 
-use crate::outcome::{Run, Status};
+use crate::outcome::Run;
 use crate::server::{Server, Step, serve_round};
 use crate::words::is_form;
 use ds_io::{Files, Gate, Sink, Source};
 use ds_rounds::{RoundRefused, Rounds};
+use ds_words::Status;
 use std::alloc::Global;
 use std::sync::Wait;
 use std::thread::Threads;

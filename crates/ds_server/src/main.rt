@@ -57,19 +57,5 @@ fn end(rt: &HostRuntime, status: Status) -> ExitCode {
     };
     // Where standard error is closed, the number alone tells it.
     let _ = told;
-    ExitCode::from(exit_number(status))
-}
-
-/// The number that the program ends with.
-fn exit_number(status: Status) -> u8 {
-    match status {
-        Status::Done => 0,
-        Status::Usage => 1,
-        Status::IndexFile { .. } => 2,
-        Status::ReadFault => 3,
-        Status::WriteFault => 4,
-        Status::FileFault => 5,
-        Status::NoMemory => 6,
-        Status::InputLimit => 7,
-    }
+    ExitCode::from(status.exit_number())
 }

@@ -1,6 +1,6 @@
 use Rattle.std.proofs.Common.{[], false, inr, refl, arith}
 use Rattle.ds_rounds.specs.Rounds.{rounds_in}
-use Rattle.ds_serve.specs.declared.outcome.Status.TheVariants as status
+use Rattle.ds_words.specs.declared.status.Status.TheVariants as status
 use Rattle.ds_serve.proofs.Ends.{complete, ends_at_once, limit_of}
 use Rattle.ds_serve.proofs.top.serve.Goals as goal
 
