@@ -13,8 +13,6 @@ mod answer;
 mod ask;
 mod say;
 pub mod state;
-#[cfg(test)]
-mod tests;
 
 pub use say::no_memory_room;
 pub use state::Single;
