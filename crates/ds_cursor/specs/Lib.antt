@@ -1,0 +1,5 @@
+pub mod CursorLaws
+pub mod Cursors
+pub mod QueryBytes
+pub mod RowSteps
+pub mod RowsOfColumns
