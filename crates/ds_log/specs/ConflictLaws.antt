@@ -50,14 +50,14 @@ last_writer_from-rises n m g [] k low told = (let e : m ≡ k = cc in omega arit
 last_writer_from-rises n m g (b ∷ cs) k low told =
     by (writes_group g b.writes) refl (λ v bound here. last_writer_from-rises (n + 1) v g cs k bound here)
   where
-  by : (w : Bool) → writes_group g b.writes ≡ w → ((v : ℕ) → v ≤ n + 1 → last_writer_from (n + 1) (Some v) g cs ≡ Some k → v ≤ k) → m ≤ k
-  by true is later =
-      let here : last_writer_from (n + 1) (Some n) g cs ≡ Some k = sym (ap (λ v. last_writer_from (n + 1) (cond v (Some n) (Some m)) g cs) is) ∙ told in
-      let above : n ≤ k = later n (omega arith) here in
-      omega arith
-  by false is later =
-      let here : last_writer_from (n + 1) (Some m) g cs ≡ Some k = sym (ap (λ v. last_writer_from (n + 1) (cond v (Some n) (Some m)) g cs) is) ∙ told in
-      later m (omega arith) here
+    by : (w : Bool) → writes_group g b.writes ≡ w → ((v : ℕ) → v ≤ n + 1 → last_writer_from (n + 1) (Some v) g cs ≡ Some k → v ≤ k) → m ≤ k
+    by true is later =
+        let here : last_writer_from (n + 1) (Some n) g cs ≡ Some k = sym (ap (λ v. last_writer_from (n + 1) (cond v (Some n) (Some m)) g cs) is) ∙ told in
+        let above : n ≤ k = later n (omega arith) here in
+        omega arith
+    by false is later =
+        let here : last_writer_from (n + 1) (Some m) g cs ≡ Some k = sym (ap (λ v. last_writer_from (n + 1) (cond v (Some n) (Some m)) g cs) is) ∙ told in
+        later m (omega arith) here
 
 -- no commit after the one that is told wrote the group
 pub last_writer_from-Some : (n : ℕ) (earlier : Option ℕ) (g : KeyParts) (cs : List Commit) (k : ℕ) → last_writer_from n earlier g cs ≡ Some k
@@ -111,13 +111,38 @@ conflict_from-None last place i [] none k t at = absurd (nowhere k t at) where
 conflict_from-None last place i (u ∷ us) none k t at =
     by (after_place u.place (last u.group)) refl (λ none' k at. conflict_from-None last place (i + 1) us none' k t at) k at
   where
-  by : (a : Option ℕ) → after_place u.place (last u.group) ≡ a
-      → (conflict_from last place (i + 1) us ≡ None → (k : ℕ) → slice_get us k ≡ Some t → after_place t.place (last t.group) ≡ None)
-      → (k : ℕ) → slice_get (u ∷ us) k ≡ Some t → after_place t.place (last t.group) ≡ None
-  by (Some n) is rest k at = absurd (never (told i place n) (sym (ap (λ a. option_or (option_map (told i place) a) (conflict_from last place (i + 1) us)) is) ∙ none))
-  by None is rest zero at = let here : u ≡ t = cc in sym (ap (λ (v : Touch). after_place v.place (last v.group)) here) ∙ is
-  by None is rest (suc k) at = rest (sym (ap (λ a. option_or (option_map (told i place) a) (conflict_from last place (i + 1) us)) is) ∙ none) k at
+    by : (a : Option ℕ) → after_place u.place (last u.group) ≡ a
+        → (conflict_from last place (i + 1) us ≡ None → (k : ℕ) → slice_get us k ≡ Some t → after_place t.place (last t.group) ≡ None)
+        → (k : ℕ) → slice_get (u ∷ us) k ≡ Some t → after_place t.place (last t.group) ≡ None
+    by (Some n) is rest k at = absurd (never (told i place n) (sym (ap (λ a. option_or (option_map (told i place) a) (conflict_from last place (i + 1) us)) is) ∙ none))
+    by None is rest zero at = let here : u ≡ t = cc in sym (ap (λ (v : Touch). after_place v.place (last v.group)) here) ∙ is
+    by None is rest (suc k) at = rest (sym (ap (λ a. option_or (option_map (told i place) a) (conflict_from last place (i + 1) us)) is) ∙ none) k at
 
 pub conflict_of-None : (journal : List Commit) (touched : List Touch) → conflict_of journal touched ≡ None
     → (k : ℕ) (t : Touch) → slice_get touched k ≡ Some t → (n : ℕ) (c : Commit) → slice_get journal n ≡ Some c → t.place ≤ n → writes_group t.group c.writes ≡ false
 conflict_of-None journal touched none k t at = untouched_since journal t.group t.place (conflict_from-None (last_writer journal) (length journal) 0 touched none k t at)
+
+-- the conflict of touched groups is the first one's that has one
+pub conflict_from-Some : (last : KeyParts → Option ℕ) (place i : ℕ) (touched : List Touch) (x : Conflict) → conflict_from last place i touched ≡ Some x
+    → (k : ℕ) × (t : Touch) × (x.group ≡ i + k) × (slice_get touched k ≡ Some t) × (after_place t.place (last t.group) ≡ Some x.commit) × (x.place ≡ place)
+    × (conflict_from last place i (take k touched) ≡ None)
+conflict_from-Some last place i [] x found = absurd (never x (sym found))
+conflict_from-Some last place i (u ∷ us) x found =
+    by (after_place u.place (last u.group)) refl (λ found'. conflict_from-Some last place (i + 1) us x found')
+  where
+    by : (a : Option ℕ) → after_place u.place (last u.group) ≡ a
+        → (conflict_from last place (i + 1) us ≡ Some x → (k : ℕ) × (t : Touch) × (x.group ≡ i + 1 + k) × (slice_get us k ≡ Some t) × (after_place t.place (last t.group) ≡ Some x.commit) × (x.place ≡ place)
+        × (conflict_from last place (i + 1) (take k us) ≡ None))
+        → (k : ℕ) × (t : Touch) × (x.group ≡ i + k) × (slice_get (u ∷ us) k ≡ Some t) × (after_place t.place (last t.group) ≡ Some x.commit) × (x.place ≡ place)
+        × (conflict_from last place i (take k (u ∷ us)) ≡ None)
+    by (Some n) is rest =
+        let here : Some (told i place n) ≡ Some x = sym (ap (λ a. option_or (option_map (told i place) a) (conflict_from last place (i + 1) us)) is) ∙ found in
+        let same : told i place n ≡ x = cc in
+        (zero, u, (let e : i ≡ i + 0 = omega arith in sym (ap (λ (y : Conflict). y.group) same) ∙ e), refl, is ∙ ap (λ (y : Conflict). Some y.commit) same, sym (ap (λ (y : Conflict). y.place) same), refl)
+    by None is rest = with_rest (rest (sym (ap (λ a. option_or (option_map (told i place) a) (conflict_from last place (i + 1) us)) is) ∙ found)) where
+      with_rest : (k : ℕ) × (t : Touch) × (x.group ≡ i + 1 + k) × (slice_get us k ≡ Some t) × (after_place t.place (last t.group) ≡ Some x.commit) × (x.place ≡ place)
+          × (conflict_from last place (i + 1) (take k us) ≡ None)
+          → (k : ℕ) × (t : Touch) × (x.group ≡ i + k) × (slice_get (u ∷ us) k ≡ Some t) × (after_place t.place (last t.group) ≡ Some x.commit) × (x.place ≡ place)
+          × (conflict_from last place i (take k (u ∷ us)) ≡ None)
+      with_rest (k, t, e, at, after, p, none) =
+          (suc k, t, (let f : i + 1 + k ≡ i + suc k = omega arith in e ∙ f), at, after, p, ap (λ a. option_or (option_map (told i place) a) (conflict_from last place (i + 1) (take k us))) is ∙ none)

@@ -3,6 +3,7 @@ ghost use Rattle.std.specs.Prelude.{◌≡◌, ◌+◌, ◌<◌, ◌≤◌, [], 
 ghost use Rattle.ds_base.specs.Keys.{KeyParts};
 ghost use Rattle.ds_base.specs.KeyOrder.{same_key};
 ghost use Rattle.ds_base.specs.Limits.{most_commits};
+ghost use Rattle.ds_log.specs.Conflicts.{after_place};
 ghost use Rattle.ds_log.specs.Heads.{last_noted};
 
 use ds_base::{Key, NoMemory};
@@ -48,6 +49,17 @@ impl Heads {
         ensures { result ≡ last_noted self.now group.now }
     {
         self.lasts.get(group).copied()
+    }
+
+    /// The last commit that was noted for the group, where it comes after the place: `None` exactly where none after it
+    /// was. It takes no memory.
+    pub fn last_after(&self, group: &Key, place: u64) -> Option<u64>
+        ensures { result ≡ after_place place (last_noted self.now group.now) }
+    {
+        match self.last(group) {
+            Some(commit) if place < commit => Some(commit),
+            _ => None,
+        }
     }
 
     /// How many commits were ended: the journal's length, at most 2^48. It takes no memory.
