@@ -1,5 +1,6 @@
 pub mod After
 pub mod ConflictLaws
+pub mod ConflictSteps
 pub mod Conflicts
 pub mod GroupLaws
 pub mod Heads
