@@ -1,6 +1,6 @@
 -- What a transaction is before its commit, and what it refuses (the Datastore's documentation on transactions: one entity
 -- group, or up to 25 where several were asked for; at most 500 writes).
-use Rattle.std.specs.Prelude.{◌≡◌, ◌⊎◌, ℕ, List, [], ◌∷◌, Bool, true, false, cond, nat_lt, length, map, Option, Some, None}
+use Rattle.std.specs.Prelude.{◌≡◌, ◌⊎◌, ℕ, List, [], ◌∷◌, Bool, true, false, cond, nat_le, length, map, Option, Some, None}
 use Rattle.ds_base.specs.Keys.{KeyParts}
 use Rattle.ds_base.specs.Limits.{most_groups, most_writes}
 use Rattle.ds_log.specs.declared.Touch.{Touch}
@@ -29,18 +29,22 @@ touch_of e = record { group = e.0; place = e.1 }
 abbrev pub touches_of : List (KeyParts × ℕ) → List Touch
 touches_of = map touch_of
 
--- the most groups of a transaction, and what it answers to one more
+-- the most groups of a transaction
 abbrev pub most_touched : Bool → ℕ
 most_touched true = most_groups
 most_touched false = 1
 
-abbrev pub too_many : Bool → TxnRefused
-too_many true = TooManyGroups
-too_many false = SecondGroup
+abbrev pub has_none : List Touch → Bool
+has_none [] = true
+has_none (t ∷ ts) = false
 
--- why a group that isn't touched yet may not be touched
+-- why a group that isn't touched yet may not be touched: a transaction of several groups has room for it below 25, another one
+-- while it has none
 abbrev pub new_group_refusal : TxnParts → Option TxnRefused
-new_group_refusal t = cond (nat_lt (length t.touched) (most_touched t.several_groups)) None (Some (too_many t.several_groups))
+new_group_refusal t =
+    cond t.several_groups
+    (cond (nat_le most_groups (length t.touched)) (Some TooManyGroups) None)
+    (cond (has_none t.touched) None (Some SecondGroup))
 
 -- why a group may not be touched; none stands for a new group
 abbrev pub touch_refusal : TxnParts → Option KeyParts → Option TxnRefused
@@ -49,7 +53,7 @@ touch_refusal t (Some g) = cond (is_touched g t.touched) None (new_group_refusal
 
 -- why a write is not taken
 abbrev pub write_refusal : TxnParts → Option WriteCause
-write_refusal t = cond (nat_lt (length t.writes) most_writes) None (Some TooManyWrites)
+write_refusal t = cond (nat_le most_writes (length t.writes)) (Some TooManyWrites) None
 
 -- the answer to a write: that refusal, or where there is none want of memory
 abbrev pub IsWriteAnswer : Option WriteCause → Option WriteCause → Type 0
