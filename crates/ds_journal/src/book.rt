@@ -36,7 +36,12 @@ impl Model for Book {
 
     ghost Value = { BookParts };
 
-    ghost view = { λ b. record { journal = b.journal.items; next = b.next; spare = room_for_commit (vec_len b.journal) (vec_capacity b.journal) b.heads.spare } };
+    ghost view = { λ b. record {
+      journal = b.journal.items;
+      next = b.next;
+      spare =
+          room_for_commit (vec_len b.journal) (vec_capacity b.journal) b.heads.spare;
+    } };
 
     ghost invariant = { λ b. IsBook b.journal.items b.next × AreHeadsOf b.journal.items b.heads };
 }
@@ -114,9 +119,11 @@ impl Book {
         requires issued { AreIssued self.old.next draft.writes }
         ensures number { IfOk result (λ n. n ≡ length self.old.journal + 1) }
         ensures appended { OnOk result (self.new.journal ≡ self.old.journal ++ draft ∷ []) }
-        ensures answer { IsCommitAnswer (conflict_of self.old.journal draft.touched) (option_map (λ refused. refused.cause) (result_err result)) }
+        ensures answer { IsCommitAnswer (conflict_of self.old.journal draft.touched)
+            (option_map (λ refused. refused.cause) (result_err result)) }
         ensures room { length draft.writes < self.old.spare
-            → option_map (λ refused. refused.cause) (result_err result) ≡ option_map CommitCause.Conflict (conflict_of self.old.journal draft.touched) }
+            → option_map (λ refused. refused.cause) (result_err result) ≡ option_map CommitCause.Conflict
+            (conflict_of self.old.journal draft.touched) }
         ensures back { IfErr result (λ refused. refused.draft ≡ draft) }
         ensures err { OnErr result (self.new.journal ≡ self.old.journal) }
         ensures next { self.new.next ≡ self.old.next }
@@ -217,7 +224,8 @@ fn check_touches(heads: &Heads, touched: &[Touch]) -> Result<(), Conflict>
 /// Makes a commit the last one of each of these groups, for which there is room.
 fn note_all(heads: &mut Heads, groups: Vec<Key>, commit: u64)
     requires { length groups.items ≤ heads.old.spare }
-    ensures lasts { (g : KeyParts) → last_noted heads.new g ≡ cond (list_any (λ k. same_key k g) groups.items) (Some commit) (last_noted heads.old g) }
+    ensures lasts { (g : KeyParts)
+        → last_noted heads.new g ≡ cond (list_any (λ k. same_key k g) groups.items) (Some commit) (last_noted heads.old g) }
     ensures commits { heads.new.commits ≡ heads.old.commits }
 {
     for group in groups {

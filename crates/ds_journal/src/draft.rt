@@ -29,7 +29,8 @@ impl Model for Draft {
 
     ghost view = { λ d. d.commit };
 
-    ghost invariant = { λ d. (d.groups.items ≡ groups_of d.commit.writes) × (length d.commit.writes ≤ most_writes) × (length d.commit.touched < 2 ^ 32) };
+    ghost invariant = { λ d. (d.groups.items ≡ groups_of d.commit.writes) × (length d.commit.writes ≤ most_writes)
+        × (length d.commit.touched < 2 ^ 32) };
 }
 
 impl Draft {

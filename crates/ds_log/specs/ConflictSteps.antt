@@ -21,7 +21,8 @@ module _ (last : KeyParts → Option ℕ) (place : ℕ) where
   next : (i : ℕ) (ts : List Touch) (t : Touch) (a : Option ℕ) → slice_get ts i ≡ Some t → after_place t.place (last t.group) ≡ a
       → conflict_from last place i (drop i ts) ≡ option_or (option_map (told i) a) (conflict_from last place (i + 1) (drop (suc i) ts))
   next i ts t a at after =
-      ap (conflict_from last place i) (drop_at ts i t at) ∙ ap (λ b. option_or (option_map (told i) b) (conflict_from last place (i + 1) (drop (suc i) ts))) after
+      ap (conflict_from last place i) (drop_at ts i t at)
+      ∙ ap (λ b. option_or (option_map (told i) b) (conflict_from last place (i + 1) (drop (suc i) ts))) after
 
   -- the group at this place conflicts
   pub conflict_here : (i : ℕ) (ts : List Touch) (t : Touch) (n : ℕ) → slice_get ts i ≡ Some t → after_place t.place (last t.group) ≡ Some n
@@ -31,7 +32,8 @@ module _ (last : KeyParts → Option ℕ) (place : ℕ) where
   -- it doesn't, so the others decide
   pub conflict_later : (i : ℕ) (ts : List Touch) (t : Touch) → slice_get ts i ≡ Some t → after_place t.place (last t.group) ≡ None
       → conflict_from last place i (drop i ts) ≡ conflict_from last place (i + 1) (drop (i + 1) ts)
-  conflict_later i ts t at after = next i ts t None at after ∙ ap (λ m. conflict_from last place (i + 1) (drop m ts)) (let e : suc i ≡ i + 1 = omega arith in e)
+  conflict_later i ts t at after = next i ts t None at after
+      ∙ ap (λ m. conflict_from last place (i + 1) (drop m ts)) (let e : suc i ≡ i + 1 = omega arith in e)
 
   -- there is none left
   pub conflict_past : (i : ℕ) (ts : List Touch) → slice_get ts i ≡ None → conflict_from last place i (drop i ts) ≡ None

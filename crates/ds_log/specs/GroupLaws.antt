@@ -29,17 +29,23 @@ inner true b c = refl
 inner false b c = refl
 
 module _ (g : KeyParts) where
-  any_inserted : (ks : List KeyParts) (k : KeyParts) → list_any (λ x. same_key x g) (insert_key key_cmp ks k) ≡ (list_any (λ x. same_key x g) ks || same_key k g)
+  any_inserted : (ks : List KeyParts) (k : KeyParts)
+      → list_any (λ x. same_key x g) (insert_key key_cmp ks k) ≡ (list_any (λ x. same_key x g) ks || same_key k g)
   any_inserted [] k = last_first (same_key k g) false
   any_inserted (x ∷ xs) k = by (key_cmp k x) refl (any_inserted xs k) where
-    by : (r : Ordering) → key_cmp k x ≡ r → list_any (λ y. same_key y g) (insert_key key_cmp xs k) ≡ (list_any (λ y. same_key y g) xs || same_key k g)
-        → list_any (λ y. same_key y g) (match_ordering r (k ∷ x ∷ xs) (x ∷ xs) (x ∷ insert_key key_cmp xs k)) ≡ (list_any (λ y. same_key y g) (x ∷ xs) || same_key k g)
+    by : (r : Ordering) → key_cmp k x ≡ r
+        → list_any (λ y. same_key y g) (insert_key key_cmp xs k) ≡ (list_any (λ y. same_key y g) xs || same_key k g)
+        → list_any (λ y. same_key y g)
+        (match_ordering r (k ∷ x ∷ xs) (x ∷ xs) (x ∷ insert_key key_cmp xs k)) ≡ (list_any (λ y. same_key y g) (x ∷ xs) || same_key k g)
     by Less e rest = last_first (same_key k g) (list_any (λ y. same_key y g) (x ∷ xs))
     by Equal e rest =
-        absorbed (same_key x g) (list_any (λ y. same_key y g) xs) ∙ ap (λ y. list_any (λ y. same_key y g) (x ∷ xs) || same_key y g) (sym (key_cmp-same k x e))
+        absorbed (same_key x g) (list_any (λ y. same_key y g) xs)
+        ∙ ap (λ y. list_any (λ y. same_key y g) (x ∷ xs) || same_key y g) (sym (key_cmp-same k x e))
     by Greater e rest = ap (λ b. same_key x g || b) rest ∙ inner (same_key x g) (list_any (λ y. same_key y g) xs) (same_key k g)
 
-  any_of_all : (ks : List KeyParts) (ws : List Write) → list_any (λ x. same_key x g) (fold (insert_key key_cmp) ks (map group_of ws)) ≡ (list_any (λ x. same_key x g) ks || writes_group g ws)
+  any_of_all : (ks : List KeyParts) (ws : List Write)
+      → list_any (λ x. same_key x g)
+      (fold (insert_key key_cmp) ks (map group_of ws)) ≡ (list_any (λ x. same_key x g) ks || writes_group g ws)
   any_of_all ks [] = last_first false (list_any (λ x. same_key x g) ks)
   any_of_all ks (w ∷ ws) =
       any_of_all (insert_key key_cmp ks (group_of w)) ws
@@ -53,7 +59,8 @@ module _ (g : KeyParts) where
 length-inserted : (ks : List KeyParts) (k : KeyParts) → length (insert_key key_cmp ks k) ≤ suc (length ks)
 length-inserted [] k = omega arith
 length-inserted (x ∷ xs) k = by (key_cmp k x) (length-inserted xs k) where
-  by : (r : Ordering) → length (insert_key key_cmp xs k) ≤ suc (length xs) → length (match_ordering r (k ∷ x ∷ xs) (x ∷ xs) (x ∷ insert_key key_cmp xs k)) ≤ suc (length (x ∷ xs))
+  by : (r : Ordering) → length (insert_key key_cmp xs k) ≤ suc (length xs)
+      → length (match_ordering r (k ∷ x ∷ xs) (x ∷ xs) (x ∷ insert_key key_cmp xs k)) ≤ suc (length (x ∷ xs))
   by Less rest = omega arith
   by Equal rest = omega arith
   by Greater rest = omega arith

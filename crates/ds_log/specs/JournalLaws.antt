@@ -1,5 +1,6 @@
 -- What a journal keeps when a commit is appended, and written ids when the counter rises.
-use Rattle.std.specs.Prelude.{◌≡◌, ℕ, ◌+◌, ◌<◌, ◌≤◌, List, [], ◌∷◌, ◌++◌, Bool, true, false, ◌&&◌, cond, nat_le, nat_lt, length, take, slice_get, Option, Some, None, refl}
+use Rattle.std.specs.Prelude.{◌≡◌, ℕ, ◌+◌, ◌<◌, ◌≤◌, List, [], ◌∷◌, ◌++◌, Bool, true, false, ◌&&◌, cond, nat_le, nat_lt, length, take}
+use Rattle.std.specs.Prelude.{slice_get, Option, Some, None, refl}
 use Rattle.std.proofs.Common.{zero, suc, sym, ap, ◌∙◌, subst, get_or, length-append, arith}
 use Rattle.std.proofs.Math.Seq.{take-append_seam}
 use Rattle.std.proofs.lemmas.Bool.{leb-true, leb-false, ltb-true, ltb-false}
@@ -33,14 +34,16 @@ IsSerial-push journal c serial committed n d at = by (nat_lt n (length journal))
   by : (b : Bool) → nat_lt n (length journal) ≡ b → IsCommitted (take n (journal ++ c ∷ [])) d
   by true is =
       let below : n < length journal = ltb-true n (length journal) is in
-      subst (λ before. IsCommitted before d) (sym (take-append-le n journal (c ∷ []) (omega arith))) (serial n d (sym (slice_get_front journal (c ∷ []) n below) ∙ at))
+      subst (λ before. IsCommitted before d) (sym (take-append-le n journal (c ∷ []) (omega arith)))
+      (serial n d (sym (slice_get_front journal (c ∷ []) n below) ∙ at))
   by false is =
       let past : length journal ≤ n = ltb-false n (length journal) is in
       let within : n < length (journal ++ c ∷ []) = slice_get_within (journal ++ c ∷ []) n d at in
       let here : n ≡ length journal = omega (arith, length-append journal (c ∷ [])) in
       let found : Some c ≡ Some d = sym (slice_get_last journal c) ∙ ap (slice_get (journal ++ c ∷ [])) (sym here) ∙ at in
       let same : c ≡ d = cc in
-      let before : journal ≡ take n (journal ++ c ∷ []) = sym (take-append_seam journal (c ∷ [])) ∙ ap (λ m. take m (journal ++ c ∷ [])) (sym here) in
+      let before : journal ≡ take n (journal ++ c ∷ []) = sym (take-append_seam journal (c ∷ []))
+      ∙ ap (λ m. take m (journal ++ c ∷ [])) (sym here) in
       subst (λ js. IsCommitted js d) before (subst (IsCommitted journal) same committed)
 
 -- what was issued stays issued while the counter rises
@@ -67,7 +70,8 @@ pub first_unissued-rises : (next later : ℕ) (es : List Elem) → next ≤ late
 first_unissued-rises next later [] rise none = refl
 first_unissued-rises next later (e ∷ es) rise none =
     let both = both_none (unissued next e.ident) (first_unissued next es) none in
-    ap (λ a. option_or a (first_unissued later es)) (unissued-rises next later e.ident rise both.0) ∙ first_unissued-rises next later es rise both.1
+    ap (λ a. option_or a (first_unissued later es)) (unissued-rises next later e.ident rise both.0)
+    ∙ first_unissued-rises next later es rise both.1
 
 pub AreIssued-rises : (next later : ℕ) (ws : List Write) → next ≤ later → AreIssued next ws → AreIssued later ws
 AreIssued-rises next later ws rise issued k d below = first_unissued-rises next later (key_of (get_or ws k d)).elems rise (issued k d below)
@@ -75,5 +79,6 @@ AreIssued-rises next later ws rise issued k d below = first_unissued-rises next 
 pub AllIssued-rises : (next later : ℕ) (journal : List Commit) → next ≤ later → AllIssued next journal → AllIssued later journal
 AllIssued-rises next later journal rise issued k d below = AreIssued-rises next later (get_or journal k d).writes rise (issued k d below)
 
-pub AllIssued-push : (next : ℕ) (journal : List Commit) (c : Commit) → AllIssued next journal → AreIssued next c.writes → AllIssued next (journal ++ c ∷ [])
+pub AllIssued-push : (next : ℕ) (journal : List Commit) (c : Commit) → AllIssued next journal → AreIssued next c.writes
+    → AllIssued next (journal ++ c ∷ [])
 AllIssued-push next journal c all last = All-push (λ (b : Commit). AreIssued next b.writes) journal c all last

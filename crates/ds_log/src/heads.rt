@@ -73,7 +73,8 @@ impl Heads {
     /// Makes `commit` the group's last one; the other groups keep theirs. It is refused for want of memory alone, which
     /// changes nothing and hands the group back, and never where there is room.
     pub fn note(&mut self, group: Key, commit: u64) -> Result<(), Key>
-        ensures noted { OnOk result ((g : KeyParts) → last_noted self.new g ≡ cond (same_key group g) (Some commit) (last_noted self.old g)) }
+        ensures noted { OnOk result
+            ((g : KeyParts) → last_noted self.new g ≡ cond (same_key group g) (Some commit) (last_noted self.old g)) }
         ensures commits { self.new.commits ≡ self.old.commits }
         ensures err { IfErr result (λ back. (back ≡ group) × (self.new.lasts ≡ self.old.lasts)) }
         ensures room { self.old.spare ≤ self.new.spare + 1 }

@@ -1,5 +1,6 @@
 //! A transaction before its commit.
-ghost use Rattle.std.specs.Prelude.{◌≡◌, ◌+◌, ◌<◌, ◌≤◌, ◌⊎◌, ◌++◌, ◌∷◌, [], Bool, Some, None, length, unwrap_or, IsOk, IfOk, IfErr, OnOk, OnErr};
+ghost use Rattle.std.specs.Prelude.{◌≡◌, ◌+◌, ◌<◌, ◌≤◌, ◌⊎◌, ◌++◌, ◌∷◌, [], Some, None, length, unwrap_or};
+ghost use Rattle.std.specs.Prelude.{IsOk, IfOk, IfErr, OnOk, OnErr};
 ghost use Rattle.std.specs.Option.{option_copied, option_map};
 ghost use Rattle.std.specs.Result.{result_err};
 ghost use Rattle.ds_base.specs.Limits.{most_groups, most_writes};
@@ -7,7 +8,8 @@ ghost use Rattle.ds_log.specs.declared.Write.TheVariants.{Put, Delete};
 ghost use Rattle.ds_log.specs.Touches.{touch_place, with_touch};
 ghost use Rattle.ds_log.specs.Conflicts.{conflict_from};
 ghost use Rattle.ds_log.specs.Heads.{last_noted};
-ghost use Rattle.ds_txn.specs.Transactions.{TxnParts, touch_refusal, touches_of, touch_refusal, new_group_refusal, write_refusal, IsWriteAnswer};
+ghost use Rattle.ds_txn.specs.Transactions.{TxnParts, touches_of, touch_refusal, new_group_refusal, write_refusal};
+ghost use Rattle.ds_txn.specs.Transactions.{IsWriteAnswer};
 
 use crate::refusals::{TxnRefused, WriteCause, WriteRefused};
 use ds_base::limits::{MAX_GROUPS, MAX_WRITES};
