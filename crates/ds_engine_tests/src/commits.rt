@@ -1,5 +1,6 @@
 //! Commits of a book: which conflict, and what is recorded.
-ghost use Rattle.std.specs.Prelude.{◌≤◌, length, IfOk};
+ghost use Rattle.std.specs.Prelude.{◌≤◌, length, IsTrue, IfOk};
+ghost use Rattle.std.specs.List.{All};
 ghost use Rattle.ds_base.specs.Limits.{most_writes};
 ghost use Rattle.ds_log.specs.Ids.{AreIssued};
 
@@ -19,16 +20,18 @@ fn draft(alloc: Global, touched: &[(&str, u64)], names: &[&str]) -> Result<Draft
     Ok(Draft::make(alloc, 1, touched, writes)?)
 }
 
-fn are_places(touched: &[Touch], length: u64) -> bool {
-    touched.iter().all(|touch| touch.place <= length)
+fn are_places(touched: &[Touch], most: u64) -> bool
+    ensures { IsTrue result → All (λ t. t.place ≤ most) touched.now }
+{
+    touched.iter().all(|touch| touch.place <= most)
 }
 
 /// The answer to a commit. `None` stands for a draft that isn't one of this book.
 fn commit(book: &mut Book, draft: Draft) -> Option<Result<u64, CommitRefused>>
     requires { AreIssued 0 draft.writes }
 {
-    let length = book.journal().len() as u64;
-    if !are_places(draft.commit().touched.as_slice(), length) {
+    let most = book.journal().len() as u64;
+    if !are_places(draft.commit().touched.as_slice(), most) {
         return None;
     }
     Some(book.commit(draft))
