@@ -120,3 +120,20 @@ fn commits_conflict(rt: HostRuntime) -> Result<(), Fail> {
     assert!(rt; last_writer_is_told(alloc)?);
     Ok(())
 }
+
+/// With room made a draft without conflict is appended, and the journal that is left has it.
+fn room_is_made(alloc: Global) -> Result<bool, Fail> {
+    let mut book = Book::make(alloc);
+    let draft = draft(alloc, &[("a", 0)], &["a", "b"])?;
+    book.make_room(&draft)?;
+    let free = book.check(&draft).is_ok();
+    let first = is_commit(commit(&mut book, draft), 1);
+    let journal = book.end();
+    Ok(free && first && journal.len() == 1)
+}
+
+#[test]
+fn books_make_room(rt: HostRuntime) -> Result<(), Fail> {
+    assert!(rt; room_is_made(rt.alloc())?);
+    Ok(())
+}

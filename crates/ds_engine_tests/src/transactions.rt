@@ -1,6 +1,7 @@
 //! Transactions before their commit: how many groups and writes they take.
 use crate::made::key;
-use ds_txn::{Txn, TxnRefused, WriteCause, WriteRefused};
+use ds_log::Heads;
+use ds_txn::{Conflict, Txn, TxnRefused, WriteCause, WriteRefused};
 use std::alloc::Global;
 use std::test::Fail;
 
@@ -111,5 +112,51 @@ fn takes_500_writes(alloc: Global) -> Result<bool, Fail> {
 #[test]
 fn transactions_take_500_writes(rt: HostRuntime) -> Result<(), Fail> {
     assert!(rt; takes_500_writes(rt.alloc())?);
+    Ok(())
+}
+
+fn is_first_conflict(answer: Result<(), Conflict>, commit: u64, place: u64) -> bool {
+    match answer {
+        Err(conflict) => {
+            conflict.group == 0 && conflict.commit == commit && conflict.place == place
+        }
+        Ok(()) => false,
+    }
+}
+
+/// Commit 1 wrote [T,a]: a transaction that touched it before conflicts by the heads, one that touched it since doesn't.
+fn heads_tell_conflicts(alloc: Global) -> Result<bool, Fail> {
+    let mut heads = Heads::make(alloc);
+    heads.make_room(1)?;
+    if heads.note(key(alloc, "a")?, 1).is_err() {
+        return Ok(false);
+    }
+    heads.end_commit();
+    let last = heads.last(&key(alloc, "a")?);
+    let other = heads.last(&key(alloc, "b")?);
+    let mut before = Txn::begin(alloc, false);
+    let touched = before.touch(key(alloc, "a")?, 0).is_ok();
+    let mut since = Txn::begin(alloc, false);
+    let touched_since = since.touch(key(alloc, "a")?, 1).is_ok();
+    let told = is_first_conflict(before.check(&heads), 1, 1) && since.check(&heads).is_ok();
+    let noted = last == Some(1) && other.is_none() && heads.length() == 1;
+    Ok(touched && touched_since && told && noted)
+}
+
+/// With room made the next touch and the next write are taken, and the parts are what was given.
+fn takes_with_room(alloc: Global) -> Result<bool, Fail> {
+    let mut txn = Txn::begin(alloc, false);
+    txn.make_room()?;
+    let touched = txn.touch(key(alloc, "a")?, 0).is_ok();
+    let taken = txn.delete(key(alloc, "a")?).is_ok();
+    let parts = txn.parts(alloc)?;
+    Ok(touched && taken && parts.touched.len() == 1 && parts.writes.len() == 1)
+}
+
+#[test]
+fn transactions_are_checked(rt: HostRuntime) -> Result<(), Fail> {
+    let alloc = rt.alloc();
+    assert!(rt; heads_tell_conflicts(alloc)?);
+    assert!(rt; takes_with_room(alloc)?);
     Ok(())
 }
