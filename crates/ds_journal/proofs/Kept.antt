@@ -1,5 +1,5 @@
 -- What a book keeps when the counter rises and when a commit is appended.
-use Rattle.std.proofs.Common.{◌≡◌, ℕ, ◌+◌, ◌<◌, ◌≤◌, List, [], ◌∷◌, ◌++◌, length, cond, Option, Some, None, sym, ap, subst, ◌∙◌}
+use Rattle.std.proofs.Common.{◌≡◌, ℕ, ◌+◌, ◌<◌, ◌≤◌, List, [], ◌∷◌, ◌++◌, length, cond, Some, None, sym, ap, subst, ◌∙◌}
 use Rattle.std.proofs.Common.{length-append, arith}
 use Rattle.std.specs.List.{All, list_any}
 use Rattle.ds_base.specs.Keys.{KeyParts}
@@ -8,7 +8,7 @@ use Rattle.ds_base.specs.Limits.{greatest_id, most_writes, most_commits}
 use Rattle.ds_log.specs.declared.Commit.{Commit}
 use Rattle.ds_log.specs.declared.Touch.{Touch}
 use Rattle.ds_log.specs.Logs.{groups_of}
-use Rattle.ds_log.specs.Conflicts.{conflict_from, conflict_of, last_writer}
+use Rattle.ds_log.specs.Conflicts.{conflict_from, conflict_of}
 use Rattle.ds_log.specs.ConflictLaws.{last_writer-push}
 use Rattle.ds_log.specs.GroupLaws.{any-groups_of}
 use Rattle.ds_log.specs.JournalLaws.{IsSerial-push, AllIssued-push, AllIssued-rises}

@@ -1,5 +1,5 @@
 -- Groups that are noted one after another: what is left to note, and what the heads say then.
-use Rattle.std.proofs.Common.{◌≡◌, ℕ, ◌+◌, ◌≤◌, Bool, true, false, ◌||◌, cond, List, [], ◌∷◌, length, Option, Some, refl, ap, sym, ◌∙◌}
+use Rattle.std.proofs.Common.{◌≡◌, ℕ, ◌+◌, ◌≤◌, Bool, true, false, ◌||◌, cond, List, ◌∷◌, length, Option, Some, refl, ap, sym, ◌∙◌}
 use Rattle.std.proofs.Common.{arith}
 use Rattle.std.specs.List.{list_any}
 use Rattle.ds_base.specs.Keys.{KeyParts}

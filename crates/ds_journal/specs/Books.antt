@@ -1,5 +1,5 @@
 -- What a book of commits is, and what it keeps.
-use Rattle.std.specs.Prelude.{◌≡◌, ◌⊎◌, ℕ, ◌+◌, ◌≤◌, List, Bool, ◌&&◌, cond, nat_lt, length, Option, Some, None}
+use Rattle.std.specs.Prelude.{◌≡◌, ◌⊎◌, ℕ, ◌+◌, ◌≤◌, List, ◌&&◌, cond, nat_lt, length, Option, Some, None}
 use Rattle.std.specs.Option.{option_map}
 use Rattle.ds_base.specs.Limits.{first_drawn_id, greatest_id, most_commits}
 use Rattle.ds_log.specs.declared.Commit.{Commit}

@@ -1,5 +1,5 @@
 -- A prepared commit whose entity gets its id at the last moment.
-use Rattle.std.specs.Prelude.{ℕ, List, [], ◌∷◌, Bool, true, false, map}
+use Rattle.std.specs.Prelude.{ℕ, List, [], ◌∷◌, Bool, false, map}
 use Rattle.ds_base.specs.Keys.{renumbered, ends_in_id}
 use Rattle.ds_log.specs.declared.Write.{Write}
 use Rattle.ds_log.specs.declared.Write.TheVariants.{Put, Delete}

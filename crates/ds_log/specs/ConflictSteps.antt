@@ -1,6 +1,6 @@
 -- What a walk over touched groups knows: the conflict of those from a place on.
-use Rattle.std.specs.Prelude.{◌≡◌, ℕ, ◌+◌, ◌≤◌, List, [], ◌∷◌, drop, length, slice_get, Option, Some, None, refl}
-use Rattle.std.proofs.Common.{zero, suc, sym, ap, ◌∙◌, arith}
+use Rattle.std.specs.Prelude.{◌≡◌, ℕ, ◌+◌, List, [], ◌∷◌, drop, slice_get, Option, Some, None, refl}
+use Rattle.std.proofs.Common.{zero, suc, ap, ◌∙◌, arith}
 use Rattle.std.specs.Option.{option_or, option_map}
 use Rattle.ds_base.specs.Keys.{KeyParts}
 use Rattle.ds_log.specs.declared.Touch.{Touch}

@@ -1,4 +1,4 @@
-use Rattle.std.proofs.Common.{◌≡◌, ◌∙◌, ◌+◌, ap, sym, ◌++◌, filter, ◌==◌, ◌<◌, length, get_or, arith}
+use Rattle.std.proofs.Common.{◌∙◌, ◌+◌, ap, sym, ◌++◌, filter, ◌==◌, ◌<◌, length, get_or, arith}
 use Rattle.ds_log.specs.Shards.{shard_of}
 use Rattle.ds_log.specs.Logs.{commit_entries}
 use Rattle.ds_log.proofs.Listed.{shard_list-more}

@@ -1,7 +1,6 @@
 use Rattle.std.proofs.Common.{◌∙◌, ap}
 use Rattle.ds_log.specs.declared.Commit.{Commit}
-use Rattle.ds_log.specs.Conflicts.{conflict_from, conflict_of}
-use Rattle.ds_log.specs.Heads.{last_noted}
+use Rattle.ds_log.specs.Conflicts.{conflict_of}
 use Rattle.ds_journal.specs.Books.{BookParts}
 use Rattle.ds_journal.proofs.Kept.{same_conflict}
 use Rattle.ds_journal.proofs.book.Book.check.Goals as goal

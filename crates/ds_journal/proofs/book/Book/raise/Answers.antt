@@ -1,4 +1,4 @@
-use Rattle.std.proofs.Common.{◌≡◌, ◌≤◌, ap, subst, sym}
+use Rattle.std.proofs.Common.{◌≤◌, ap, subst, sym}
 use Rattle.ds_journal.specs.Books.{BookParts}
 use Rattle.ds_journal.proofs.Kept.{raised}
 use Rattle.ds_journal.proofs.book.Book.raise.Goals as goal

@@ -1,4 +1,4 @@
-use Rattle.std.proofs.Common.{◌≡◌, ◌∙◌, ap, sym, Some, None, rules}
+use Rattle.std.proofs.Common.{◌≡◌, ◌∙◌, ap, sym, Some, None}
 use Rattle.std.specs.Prelude.{slice_get}
 use Rattle.ds_log.specs.Conflicts.{conflict_from}
 use Rattle.ds_log.specs.ConflictSteps.{conflict_here, conflict_later}
