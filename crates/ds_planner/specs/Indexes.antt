@@ -88,6 +88,13 @@ is_by_key [] = false
 is_by_key (c ∷ []) = is_ascending_key c
 is_by_key (c ∷ d ∷ cs) = false
 
+-- one column, and then `__key__` ascending
+abbrev pub is_by_property : Column → List Column → Bool
+is_by_property p [] = false
+is_by_property p (x ∷ []) = false
+is_by_property p (x ∷ y ∷ []) = same_column p x && is_ascending_key y
+is_by_property p (x ∷ y ∷ z ∷ columns) = false
+
 -- is a scan of the index bound to the branch's ancestor? Where the columns are `__key__` ascending alone, what lies under the
 -- ancestor is a range of keys.
 abbrev pub binds_ancestor : Branch → List IndexDef → Index → Bool

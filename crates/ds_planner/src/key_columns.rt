@@ -61,7 +61,13 @@ pub(crate) fn in_front_of<'a>(last: &[Column], columns: &'a [Column]) -> Option<
         return columns.strip_suffix(last);
     }
     match last {
-        [rest @ .., key] if is_ascending_key(key) => columns.strip_suffix(rest),
-        _ => None,
+        [rest @ .., key] => {
+            if is_ascending_key(key) {
+                columns.strip_suffix(rest)
+            } else {
+                None
+            }
+        }
+        [] => None,
     }
 }

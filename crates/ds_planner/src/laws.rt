@@ -15,15 +15,11 @@ pub fn suggestion_serves(branch: &Branch, defs: &Defs)
     requires kind { IsSome branch.now.kind }
     ensures added { missing_of branch.now (defs.now ++ suggestion_of branch.now ∷ []) ≡ None }
     ensures among { Contains defs.now (suggestion_of branch.now) → missing_of branch.now defs.now ≡ None }
-{
-    let _law = (branch, defs);
-}
+{}
 
 /// Nothing is missing exactly where some set of scans suits.
 pub fn served_where_suited(branch: &Branch, defs: &Defs)
     requires lawful { IsLawfulBranch branch.now }
     ensures { (missing_of branch.now defs.now ≡ None)
         ↔ ((scans : List PlannedScan) × IsTrue (suits branch.now defs.now scans)) }
-{
-    let _law = (branch, defs);
-}
+{}
