@@ -1,7 +1,7 @@
 -- Members of a list, and tests of all or some of them.
-use Rattle.std.proofs.Common.{◌≡◌, ◌⊎◌, inl, inr, ℕ, List, [], ◌∷◌, ◌++◌, map, Bool, true, false, ◌&&◌, ◌||◌, not, cond, refl, sym, ap, ◌∙◌, subst, Option, Some, None}
+use Rattle.std.proofs.Common.{◌≡◌, ◌⊎◌, inl, inr, ℕ, zero, suc, ◌<◌, length, get_or, arith, List, [], ◌∷◌, ◌++◌, map, Bool, true, false, ◌&&◌, ◌||◌, not, cond, refl, sym, ap, ◌∙◌, subst, Some, None}
 use Rattle.std.specs.Prelude.{filter, flat_map}
-use Rattle.std.specs.List.{list_any, list_all, find}
+use Rattle.std.specs.List.{list_any, list_all, find, Contains}
 
 abbrev pub Member : {A : Type 0} → A → List A → Type 0
 Member {A = A} x [] = ⊥
@@ -131,3 +131,18 @@ module _ {A B : Type 0} where
   member_flat_map f [] x y m k = absurd m
   member_flat_map f (z ∷ xs) x y (inl e) k = member_left (f z) (flat_map f xs) y (subst (λ w. Member y (f w)) e k)
   member_flat_map f (z ∷ xs) x y (inr m) k = member_right (f z) (flat_map f xs) y (member_flat_map f xs x y m k)
+
+-- ---- members by their places
+
+pub member_at : {A : Type 0} (xs : List A) (k : ℕ) (d : A) → k < length xs → Member (get_or xs k d) xs
+member_at [] k d h = absurd (omega arith)
+member_at (x ∷ xs) zero d h = inl refl
+member_at (x ∷ xs) (suc k) d h = inr (member_at xs k d (omega arith))
+
+pub contained : {A : Type 0} (xs : List A) (x : A) → Member x xs → Contains xs x
+contained [] x m = absurd m
+contained (y ∷ xs) x (inl e) = (0, omega arith, sym e)
+contained (y ∷ xs) x (inr m) = let c = contained xs x m in (suc c.0, omega (arith, c.1), c.2)
+
+pub member_contained : {A : Type 0} (xs : List A) (x : A) → Contains xs x → Member x xs
+member_contained xs x c = subst (λ y. Member y xs) c.2 (member_at xs c.0 x c.1)

@@ -1,5 +1,5 @@
 -- The laws of the scans that are planned, as the contract of planning states them.
-use Rattle.std.proofs.Common.{◌≡◌, ◌⊎◌, ◌↔◌, ◌≤◌, ◌<◌, ◌+◌, inl, inr, ℕ, zero, suc, List, [], ◌∷◌, ◌++◌, map, length, fold, Bool, true, false, ◌&&◌, ◌||◌, not, cond, refl, sym, ap, ◌∙◌, subst, Option, Some, None, is_some, is_none, get_or, arith, length-append}
+use Rattle.std.proofs.Common.{◌≡◌, ◌≤◌, inl, inr, List, [], ◌∷◌, ◌++◌, map, length, fold, Bool, true, false, ◌&&◌, ◌||◌, not, cond, refl, sym, ap, ◌∙◌, subst, Option, Some, None, is_some, is_none, get_or, arith, length-append}
 use Rattle.std.specs.Option.{option_to_list}
 use Rattle.std.specs.List.{list_any, list_all, find, All}
 use Rattle.std.specs.List.Sorted.{IsPermutation, IsStrictlySortedBy}
@@ -8,19 +8,19 @@ use Rattle.ds_indexdef.specs.declared.IndexDef.{IndexDef}
 use Rattle.ds_query.specs.declared.branch.Pair.{Pair}
 use Rattle.ds_query.specs.declared.branch.Branch.{Branch}
 use Rattle.ds_query.specs.Branching.{pair_cmp}
-use Rattle.ds_query.specs.Lawful.{ends_in_key, has_pair, IsLawfulBranch}
+use Rattle.ds_query.specs.Lawful.{ends_in_key, IsLawfulBranch}
 use Rattle.ds_planner.specs.declared.planned.Index.{Index}
 use Rattle.ds_planner.specs.declared.planned.PlannedScan.{PlannedScan}
 use Rattle.ds_planner.specs.Indexes.{is_candidate, is_paired, leads, binds_ancestor}
 use Rattle.ds_planner.specs.Parts.{Part, pair_part, ancestor_part, empty_part, asked, conditions, or_empty_part, parts}
 use Rattle.ds_planner.specs.Suits.{chooses, properties_differ, is_choice, is_scan, are_some, suits, same_ancestor, bound_ancestor}
-use Rattle.ds_planner.specs.Lean.{binds, BindEach, IsLean}
-use Rattle.ds_planner.specs.Missing.{candidates, indexes, constraint_of}
+use Rattle.ds_planner.specs.Lean.{binds, IsLean}
+use Rattle.ds_planner.specs.Missing.{candidates, indexes}
 use Rattle.ds_planner.specs.Choices.{can_bind, agrees, scan_for, sole_index, with_part, scans_by, scans_of}
-use Rattle.ds_planner.proofs.Members.{Member, both, join, or_cases, or_true, true_false, some_member, any_member, each_member, all_members, member_left, member_right, member_append, find_member, find_some, filter_member, member_map, map_member}
+use Rattle.ds_planner.proofs.Members.{Member, both, some_member, any_member, each_member, all_members, member_left, member_right, member_append, find_member, find_some, filter_member, member_map, map_member, member_at}
 use Rattle.ds_planner.proofs.PairLists.{chooses-member, differ_among, chosen_ascend}
 use Rattle.ds_planner.proofs.ScanLaws.{IsPart, made_scan, made_binds}
-use Rattle.ds_planner.proofs.Served.{AreServed, are_some-member, member-are_some, candidate_listed, candidate_passes, nothing_missing, served}
+use Rattle.ds_planner.proofs.Served.{AreServed, are_some-member, member-are_some, candidate_listed, candidate_passes, served}
 use Rattle.ds_planner.proofs.Plans.{Builds, CanBind, begun, all_parts, bind_length}
 
 -- ---- the parts of a branch
@@ -272,11 +272,6 @@ one_scan b defs s lawful h =
     ap (λ o. length (scans_by b defs o)) r.1
 
 -- ---- the pairs of each scan ascend
-
-member_at : {A : Type 0} (xs : List A) (k : ℕ) (d : A) → k < length xs → Member (get_or xs k d) xs
-member_at [] k d h = absurd (omega arith)
-member_at (x ∷ xs) zero d h = inl refl
-member_at (x ∷ xs) (suc k) d h = inr (member_at xs k d (omega arith))
 
 module _ (b : Branch) (defs : List IndexDef) (sorted : IsStrictlySortedBy pair_cmp b.equal) where
   made_ascends : (part : Part) (i : Index) → IsStrictlySortedBy pair_cmp (scan_for b defs part i).equal

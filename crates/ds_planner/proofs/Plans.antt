@@ -1,26 +1,23 @@
 -- The scans that are planned suit the branch and are lean, where nothing is missing.
-use Rattle.std.proofs.Common.{◌≡◌, ◌⊎◌, ◌≤◌, ◌+◌, inl, inr, ℕ, List, [], ◌∷◌, ◌++◌, map, length, fold, Bool, true, false, ◌&&◌, ◌||◌, not, cond, refl, sym, ap, ◌∙◌, subst, Option, Some, None, is_some, is_none, IsTrue, arith, append_assoc, length-append}
+use Rattle.std.proofs.Common.{◌≡◌, inl, inr, List, [], ◌∷◌, ◌++◌, map, length, fold, Bool, true, false, ◌&&◌, ◌||◌, cond, refl, sym, ap, ◌∙◌, subst, arith, append_assoc}
 use Rattle.std.specs.Option.{option_to_list}
 use Rattle.std.specs.List.{list_any, list_all, find}
-use Rattle.std.specs.List.Sorted.{IsPermutation, IsStrictlySortedBy}
+use Rattle.std.specs.List.Sorted.{IsPermutation}
 use Rattle.std.proofs.lemmas.List.{append-nil}
 use Rattle.std.proofs.lemmas.List.Folds.{list_any-append, list_all-append}
-use Rattle.std.proofs.lemmas.List.Sorted.{IsPermutation-refl, IsPermutation-sym, IsPermutation-trans, IsPermutation-append_left, IsPermutation-middle, IsPermutation-to_front, length_permutation}
+use Rattle.std.proofs.lemmas.List.Sorted.{IsPermutation-refl, IsPermutation-sym, IsPermutation-trans, IsPermutation-append_left, IsPermutation-middle, IsPermutation-to_front}
 use Rattle.ds_indexdef.specs.declared.IndexDef.{IndexDef}
-use Rattle.ds_query.specs.declared.branch.Pair.{Pair}
 use Rattle.ds_query.specs.declared.branch.Branch.{Branch}
-use Rattle.ds_query.specs.Lawful.{has_pair}
 use Rattle.ds_planner.specs.declared.planned.Index.{Index}
 use Rattle.ds_planner.specs.declared.planned.PlannedScan.{PlannedScan}
-use Rattle.ds_planner.specs.Indexes.{is_candidate, leads, binds_ancestor}
-use Rattle.ds_planner.specs.Parts.{Part, pair_part, ancestor_part, empty_part, asked, conditions, or_empty_part, parts}
-use Rattle.ds_planner.specs.Suits.{chooses, properties_differ, is_scan, are_some, suits}
-use Rattle.ds_planner.specs.Lean.{binds, BindEach, IsLean}
-use Rattle.ds_planner.specs.Missing.{candidates, indexes, constraint_of}
-use Rattle.ds_planner.specs.Choices.{can_bind, scan_for, sole_index, with_part, scans_by, scans_of}
-use Rattle.ds_planner.proofs.Members.{Member, both, join, or_cases, or_true, not_true, true_false, some_member, any_member, each_member, all_members, member_left, member_right, member_append, find_member, find_some, filter_member, member_map, map_member}
+use Rattle.ds_planner.specs.Indexes.{is_candidate}
+use Rattle.ds_planner.specs.Parts.{Part}
+use Rattle.ds_planner.specs.Suits.{is_scan}
+use Rattle.ds_planner.specs.Lean.{binds, BindEach}
+use Rattle.ds_planner.specs.Missing.{candidates, indexes}
+use Rattle.ds_planner.specs.Choices.{can_bind, scan_for, with_part}
+use Rattle.ds_planner.proofs.Members.{Member, or_true, member_append, find_member, find_some, filter_member}
 use Rattle.ds_planner.proofs.ScanLaws.{IsPart, made_scan, made_binds}
-use Rattle.ds_planner.proofs.Served.{AreServed, are_some-member, member-are_some}
 
 module _ (b : Branch) (defs : List IndexDef) where
   -- ---- scans part by part

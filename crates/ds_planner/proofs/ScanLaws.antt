@@ -1,7 +1,7 @@
 -- A scan that is made for a part is a scan of the branch, and binds the part.
-use Rattle.std.proofs.Common.{◌≡◌, ◌⊎◌, inl, inr, ℕ, List, [], ◌∷◌, ◌++◌, Bool, true, false, ◌&&◌, ◌||◌, not, cond, fold, refl, sym, ap, ◌∙◌, subst, Option, Some, None, IsTrue}
+use Rattle.std.proofs.Common.{◌≡◌, ℕ, List, [], Bool, true, false, ◌&&◌, ◌||◌, not, refl, sym, ap, ◌∙◌, subst, Option, Some, None}
 use Rattle.std.specs.Prelude.{bytes_eq}
-use Rattle.std.specs.List.{list_any, list_all}
+use Rattle.std.specs.List.{list_all}
 use Rattle.std.specs.Cmp.{eq_by_cmp_equiv}
 use Rattle.ds_base.specs.Keys.{KeyParts}
 use Rattle.ds_base.specs.KeyOrderLaws.{key_cmp-total}
@@ -12,13 +12,12 @@ use Rattle.ds_query.specs.declared.branch.Branch.{Branch}
 use Rattle.ds_query.specs.ColumnLists.{has_column}
 use Rattle.ds_query.specs.Lawful.{has_pair}
 use Rattle.ds_planner.specs.declared.planned.Index.{Index}
-use Rattle.ds_planner.specs.declared.planned.PlannedScan.{PlannedScan}
-use Rattle.ds_planner.specs.Indexes.{leading, are_paired, is_paired, is_candidate, names_column, leads, binds_ancestor}
+use Rattle.ds_planner.specs.Indexes.{leading, are_paired, is_candidate, names_column, leads, binds_ancestor}
 use Rattle.ds_planner.specs.Parts.{Part}
 use Rattle.ds_planner.specs.Suits.{chooses, properties_differ, same_ancestor, bound_ancestor, is_choice, is_scan}
 use Rattle.ds_planner.specs.Lean.{binds}
 use Rattle.ds_planner.specs.Choices.{can_bind, agrees, scan_for}
-use Rattle.ds_planner.proofs.Members.{Member, both, join, or_cases, or_true, not_true, refuted, true_false, each_member, any_member, all_members}
+use Rattle.ds_planner.proofs.Members.{Member, both, or_true, each_member, any_member, all_members}
 use Rattle.ds_planner.proofs.PairLists.{chooses-member, member-chooses, has_pair-member, member-has_pair, name_itself, one_each, all_chosen, IsChosen, chosen_from, chosen_differ, chosen_reach}
 
 -- a part of what the branch asks for, with at most one pair on each property

@@ -1,7 +1,7 @@
 -- Where nothing is missing, and that no candidate is left out.
-use Rattle.std.proofs.Common.{◌≡◌, ◌⊎◌, ◌<◌, inl, inr, ℕ, zero, suc, ◌+◌, List, [], ◌∷◌, ◌++◌, map, length, Bool, true, false, ◌&&◌, ◌||◌, not, cond, refl, sym, ap, ◌∙◌, subst, Option, Some, None, option_map, option_and_then, is_some, is_none, arith}
-use Rattle.std.specs.Prelude.{bytes_eq, filter, flat_map}
-use Rattle.std.specs.List.{list_any, list_all, find, range_with_len, slice_get}
+use Rattle.std.proofs.Common.{◌≡◌, ◌<◌, inl, inr, ℕ, zero, suc, ◌+◌, List, [], ◌∷◌, ◌++◌, map, length, Bool, true, false, ◌&&◌, not, cond, refl, sym, ap, ◌∙◌, subst, Option, Some, None, option_map, option_and_then, is_some, arith}
+use Rattle.std.specs.Prelude.{bytes_eq, flat_map}
+use Rattle.std.specs.List.{list_any, range_with_len, slice_get}
 use Rattle.std.proofs.lemmas.Option.{slice_get_within}
 use Rattle.ds_base.specs.declared.column.Column.{Column}
 use Rattle.ds_base.specs.Columns.{same_column}
@@ -13,10 +13,10 @@ use Rattle.ds_query.specs.declared.refusal.Constraint.TheVariants as constraint
 use Rattle.ds_query.specs.Lawful.{ends_in_key, has_pair}
 use Rattle.ds_planner.specs.declared.planned.Index.{Index}
 use Rattle.ds_planner.specs.declared.planned.Index.TheVariants as index
-use Rattle.ds_planner.specs.Indexes.{by_key, index_columns, defined_columns, in_front_of, is_by_key, is_by_property, is_ascending_key, leading, are_paired, is_candidate, leads, binds_ancestor}
+use Rattle.ds_planner.specs.Indexes.{by_key, defined_columns, in_front_of, is_by_key, is_by_property, is_ascending_key, are_paired, is_candidate, leads, binds_ancestor}
 use Rattle.ds_planner.specs.Suits.{are_some}
 use Rattle.ds_planner.specs.Missing.{two_ways, indexes, candidates, first_unled, constraint_of, Missing, missing_of, suggestion_of}
-use Rattle.ds_planner.proofs.Members.{Member, both, join, or_cases, or_true, true_false, some_member, any_member, member_left, member_right, find_none, none_found, filter_member, member_filter, member_map, member_flat_map}
+use Rattle.ds_planner.proofs.Members.{Member, both, or_cases, any_member, member_left, member_right, find_none, none_found, member_filter, member_map, member_flat_map}
 use Rattle.ds_planner.proofs.PairLists.{has_pair-member, same_name}
 use Rattle.ds_planner.proofs.ColumnEnds.{pairs_by_property}
 

@@ -1,8 +1,8 @@
 -- The suggested definition serves its branch.
-use Rattle.std.proofs.Common.{◌≡◌, ◌⊎◌, ◌≤◌, ◌<◌, ◌+◌, ◌-◌, inl, inr, ℕ, zero, suc, List, [], ◌∷◌, ◌++◌, length, take, drop, get_or, Bool, true, false, ◌&&◌, ◌||◌, not, cond, refl, sym, ap, ◌∙◌, subst, Option, Some, None, is_some, unwrap_or, option_map, option_and_then, arith, length-append, append_assoc}
+use Rattle.std.proofs.Common.{◌≡◌, ◌≤◌, ◌<◌, ◌-◌, inl, inr, ℕ, zero, suc, List, [], ◌∷◌, ◌++◌, length, take, drop, get_or, Bool, true, false, ◌||◌, not, cond, refl, sym, ap, ◌∙◌, Option, Some, None, is_some, unwrap_or, option_map, option_and_then, arith, length-append, append_assoc}
 use Rattle.std.specs.Prelude.{bytes_eq}
-use Rattle.std.specs.List.{list_any, list_all, slice_get}
-use Rattle.std.specs.Cmp.Lexicographic.{pointwise, nat_list_eq_equiv}
+use Rattle.std.specs.List.{slice_get}
+use Rattle.std.specs.Cmp.Lexicographic.{pointwise}
 use Rattle.std.proofs.lemmas.Cmp.{lists_equiv}
 use Rattle.std.proofs.Math.Seq.{drop-append_seam, take-append_seam}
 use Rattle.ds_base.specs.declared.column.Column.{Column}
@@ -15,12 +15,12 @@ use Rattle.ds_query.specs.Filters.{key_name, is_key_name}
 use Rattle.ds_query.specs.ColumnLists.{has_column, ascending}
 use Rattle.ds_query.specs.Lawful.{ends_in_key, names_differ, has_pair, IsLawfulBranch}
 use Rattle.ds_planner.specs.declared.planned.Index.TheVariants as index
-use Rattle.ds_planner.specs.Indexes.{by_key, with_key, is_of_kind, is_usable, defined_columns, in_front_of, leading, are_paired, names_column, leads, is_candidate, has_flag, is_ascending_key, is_by_key, binds_ancestor}
+use Rattle.ds_planner.specs.Indexes.{by_key, with_key, is_of_kind, defined_columns, in_front_of, leading, are_paired, names_column, leads, is_candidate, is_ascending_key, is_by_key, binds_ancestor}
 use Rattle.ds_planner.specs.Missing.{goes_on, equal_columns, without_key, suggestion_of, candidates, constraint_of}
-use Rattle.ds_planner.proofs.Members.{Member, both, join, or_cases, or_true, not_true, refuted, true_false, some_member, any_member, each_member, all_members, member_append}
-use Rattle.ds_planner.proofs.PairLists.{has_pair-member, member-has_pair, same_name, name_itself}
+use Rattle.ds_planner.proofs.Members.{Member, both, join, or_true, not_true, refuted, true_false, any_member, each_member, all_members, member_append}
+use Rattle.ds_planner.proofs.PairLists.{member-has_pair, same_name, name_itself}
 use Rattle.ds_planner.proofs.ColumnEnds.{last_split, ends_in_key-last, without_key-last, in_front_of-last, ascending_key}
-use Rattle.ds_planner.proofs.Served.{AreServed, are_some-member, candidate_listed, candidate_passes, nothing_missing}
+use Rattle.ds_planner.proofs.Served.{are_some-member, candidate_listed, candidate_passes, nothing_missing}
 
 -- ---- the equality properties as columns
 

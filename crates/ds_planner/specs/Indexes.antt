@@ -1,7 +1,7 @@
 -- What an index is to a branch: its columns, and the equality properties in front of the branch's.
-use Rattle.std.specs.Prelude.{ℕ, Bool, true, false, ◌&&◌, ◌||◌, not, ◌-◌, bytes_eq, cond}
+use Rattle.std.specs.Prelude.{ℕ, Bool, false, ◌&&◌, ◌||◌, not, ◌-◌, bytes_eq, cond}
 use Rattle.std.specs.Prelude.{List, [], ◌∷◌, ◌++◌, length, take, drop, Option, Some, None, is_some, is_none, option_map, option_and_then, unwrap_or}
-use Rattle.std.specs.List.{list_any, list_all, slice_get}
+use Rattle.std.specs.List.{list_all, slice_get}
 use Rattle.std.specs.Cmp.Lexicographic.{pointwise}
 use Rattle.ds_base.specs.declared.column.Column.{Column}
 use Rattle.ds_base.specs.Columns.{same_column}

@@ -1,5 +1,4 @@
-use Rattle.std.proofs.Common.{List, sym, ap, ◌∙◌, ◌-◌, ◌∷◌, ◌++◌, [], ◌≡◌, true, false, cond, take, length, Option, None}
-use Rattle.std.specs.Option.{option_copied}
+use Rattle.std.proofs.Common.{List, sym, ap, ◌∙◌, ◌-◌, ◌∷◌, ◌++◌, [], ◌≡◌, false, cond, take, length, None}
 use Rattle.ds_base.specs.declared.column.Column.{Column}
 use Rattle.ds_query.specs.Filters.{key_name}
 use Rattle.ds_query.specs.ColumnLists.{ascending}

@@ -1,5 +1,4 @@
-use Rattle.std.proofs.Common.{List, sym, ap, ◌∙◌, ◌-◌, ◌∷◌, ◌++◌, [], ◌≡◌, cond, take, length}
-use Rattle.ds_base.specs.declared.column.Column.{Column}
+use Rattle.std.proofs.Common.{sym, ap, ◌∙◌, ◌-◌, ◌∷◌, ◌++◌, [], ◌≡◌, cond, take, length}
 use Rattle.ds_planner.specs.Missing.{without_key}
 use Rattle.ds_planner.specs.Indexes.{is_ascending_key}
 use Rattle.ds_planner.proofs.ColumnEnds.{last_split, without_key-last}

@@ -1,4 +1,4 @@
-use Rattle.std.proofs.Common.{◌≡◌, ℕ, ◌∷◌, ◌+◌, drop, not, Bool, true, false, cond, sym, ap, ◌∙◌, subst, ◌<◌, length, List, Option, Some, None, get_or}
+use Rattle.std.proofs.Common.{◌≡◌, ℕ, ◌∷◌, ◌+◌, drop, not, Bool, true, false, cond, sym, ap, ◌∙◌, subst, ◌<◌, length, List, Some, get_or}
 use Rattle.std.specs.List.{list_any, find}
 use Rattle.std.proofs.lemmas.List.{at_drop_more}
 use Rattle.ds_query.specs.declared.branch.Pair.{Pair}
