@@ -4,7 +4,8 @@ ghost use Rattle.std.specs.Option.{option_copied};
 ghost use Rattle.std.specs.List.{list_all, slice_get};
 ghost use Rattle.ds_query.specs.ColumnLists.{has_column};
 ghost use Rattle.ds_query.specs.Lawful.{ends_in_key, has_pair};
-ghost use Rattle.ds_planner.specs.Indexes.{defined_columns, is_of_kind, is_usable, is_paired, are_paired, names_column, by_key, in_front_of, leading, leads, is_candidate, has_flag, is_by_key, is_by_property, binds_ancestor};
+ghost use Rattle.ds_planner.specs.Indexes.{by_key, defined_columns, in_front_of, is_by_key, is_by_property, is_of_kind, is_usable};
+ghost use Rattle.ds_planner.specs.Indexes.{are_paired, binds_ancestor, has_flag, is_candidate, is_paired, leading, leads};
 
 use crate::key_columns::{in_front_of, is_ascending_key, is_by_key};
 use crate::pairs::has_pair;
