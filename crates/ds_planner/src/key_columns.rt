@@ -46,8 +46,14 @@ pub(crate) fn without_key(columns: &[Column]) -> &[Column]
     ensures { result.now ≡ without_key columns.now }
 {
     match columns {
-        [rest @ .., last] if is_ascending_key(last) => rest,
-        _ => columns,
+        [rest @ .., last] => {
+            if is_ascending_key(last) {
+                rest
+            } else {
+                columns
+            }
+        }
+        [] => columns,
     }
 }
 
