@@ -1,5 +1,5 @@
 -- Values and keys as bytes that compare as the values and the keys do.
-use Rattle.std.specs.Prelude.{ℕ, zero, suc, ◌+◌, ◌-◌, ◌/◌, ◌%◌, ◌^◌, ℤ, pos, negsuc, Bool, true, false, List, [], ◌∷◌, ◌++◌, flat_map}
+use Rattle.std.specs.Prelude.{ℕ, zero, suc, ◌+◌, ◌-◌, ◌/◌, ◌%◌, ◌^◌, ℤ, pos, negsuc, Bool, true, false, List, [], ◌∷◌, ◌++◌, take, flat_map}
 use Rattle.ds_base.specs.declared.key.Ident.{Ident}
 use Rattle.ds_base.specs.declared.key.Ident.TheVariants.{Id, Name}
 use Rattle.ds_base.specs.declared.key.Elem.{Elem}
@@ -60,6 +60,10 @@ key_bytes k = namespace_bytes k.namespace ++ path_bytes k.elems
 -- the same without its last byte: the keys under an ancestor are those whose encoding begins so
 abbrev pub key_front : KeyParts → List ℕ
 key_front k = namespace_bytes k.namespace ++ flat_map elem_bytes k.elems
+
+-- the key of the first elements of a path: an ancestor, or the key itself where it has no more
+abbrev pub ancestor_of : KeyParts → ℕ → KeyParts
+ancestor_of k elements = record { namespace = k.namespace; elems = take elements k.elems }
 
 -- ---- values
 

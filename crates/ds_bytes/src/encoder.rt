@@ -1,12 +1,12 @@
 //! Keys and values as bytes.
 ghost use Rattle.std.specs.Prelude.{◌≡◌, ◌+◌, ◌≤◌, ◌++◌, ◌∷◌, length, All, OnOk, OnErr, IsOk};
-ghost use Rattle.ds_bytes.specs.Encoding.{encoding, key_encoding, eight_bytes, raised, ident_bytes, elem_bytes, key_bytes, namespace_bytes, path_bytes, value_bytes};
+ghost use Rattle.ds_bytes.specs.Encoding.{encoding, key_encoding, escaped, ancestor_of, eight_bytes, raised, ident_bytes, elem_bytes, key_bytes, namespace_bytes, path_bytes, value_bytes};
 ghost use Rattle.ds_bytes.specs.Lawful.{IsText, IsLawfulValue, IsLawfulKey, IsLawfulElem, IsLawfulIdent};
 ghost use Rattle.ds_bytes.specs.Writing.{Puts};
 ghost use Rattle.ds_bytes.specs.Appending.{Appends};
 
 use crate::marks::{ELEMENT, ID, KEY, NAME, NAMESPACE, NULL, NUMBER, PATH_END, SEQUENCE, TRUTH};
-use crate::output::{Output, begin, end, put, put_tagged};
+use crate::output::{Output, begin, end, put, put_tagged, put_text};
 use core::mem::replace_with;
 use ds_base::{Buffer, Elem, Ident, IndexValue, Key, NoMemory, TextString};
 
@@ -39,6 +39,39 @@ pub fn encode_key(key: &Key, descending: bool, onto: &mut Buffer) -> Result<(), 
     })
 }
 
+/// Puts the ascending encoding of a key's first `elements` elements, which make a key of the same namespace, at the end of
+/// `onto`: that of an ancestor, or of the key itself. As `encode_key` does.
+pub fn encode_ancestor(key: &Key, elements: usize, onto: &mut Buffer) -> Result<(), NoMemory>
+    requires { elements ≤ length key.now.elems }
+    ensures ok { OnOk result (onto.new.bytes ≡ onto.old.bytes ++ key_bytes (ancestor_of key.now elements)) }
+    ensures room { OnOk result (onto.old.spare ≤ onto.new.spare + length (key_bytes (ancestor_of key.now elements))) }
+    ensures err { OnErr result (onto.new.bytes ≡ onto.old.bytes) }
+    ensures succeeds { length (key_bytes (ancestor_of key.now elements)) ≤ onto.old.spare → IsOk result }
+{
+    replace_with(
+        onto,
+        key,
+        |buffer: Buffer, key: &Key| -> (Buffer, Result<(), NoMemory>)
+            requires { elements ≤ length key.now.elems }
+            ensures { Appends (key_bytes (ancestor_of key.now elements)) (Unit {0}) buffer result.0 result.1 }
+        { append_ancestor(buffer, key, elements) },
+    )
+}
+
+/// Puts a text escaped at the end of `onto`, as a namespace, a kind or a name stands in front of rows: each zero byte as two
+/// bytes, and then an end that stands nowhere else, so that the order of the bytes is that of the texts. A refusal is want of
+/// memory; it leaves the bytes of `onto` as they were, and never comes where the room suffices.
+pub fn encode_text(text: &[u8], onto: &mut Buffer) -> Result<(), NoMemory>
+    ensures ok { OnOk result (onto.new.bytes ≡ onto.old.bytes ++ escaped text.now) }
+    ensures room { OnOk result (onto.old.spare ≤ onto.new.spare + length (escaped text.now)) }
+    ensures err { OnErr result (onto.new.bytes ≡ onto.old.bytes) }
+    ensures succeeds { length (escaped text.now) ≤ onto.old.spare → IsOk result }
+{
+    replace_with(onto, text, |buffer: Buffer, text: &[u8]| {
+        append_text(buffer, text)
+    })
+}
+
 /// The buffer with the encoding of the value at its end, where it wasn't refused.
 fn append_value(
     buffer: Buffer,
@@ -58,6 +91,26 @@ fn append_key(buffer: Buffer, key: &Key, descending: bool) -> (Buffer, Result<()
 {
     let mut output = begin(buffer, descending);
     put_key(key, &mut output);
+    end(output)
+}
+
+/// The buffer with the encoding of the first elements of the key at its end, where it wasn't refused.
+fn append_ancestor(buffer: Buffer, key: &Key, elements: usize) -> (Buffer, Result<(), NoMemory>)
+    requires { elements ≤ length key.now.elems }
+    ensures { Appends (key_bytes (ancestor_of key.now elements)) (Unit {0}) buffer result.0 result.1 }
+{
+    let mut output = begin(buffer, false);
+    put_namespace(key.namespace(), &mut output);
+    put_path(&key.elems().as_slice()[..elements], &mut output);
+    end(output)
+}
+
+/// The buffer with the escaped text at its end, where it wasn't refused.
+fn append_text(buffer: Buffer, text: &[u8]) -> (Buffer, Result<(), NoMemory>)
+    ensures { Appends (escaped text.now) (Unit {0}) buffer result.0 result.1 }
+{
+    let mut output = begin(buffer, false);
+    put_text(text, &mut output);
     end(output)
 }
 

@@ -15,4 +15,4 @@ mod marks;
 mod output;
 
 pub use decoder::{Decoded, DecodedKey, decode, decode_key};
-pub use encoder::{encode, encode_key};
+pub use encoder::{encode, encode_ancestor, encode_key, encode_text};

@@ -122,7 +122,7 @@ fn put_short(tag: u8, text: &[u8], output: &mut Output)
 }
 
 /// Puts a text escaped: the runs between its zero bytes as they are.
-fn put_text(text: &[u8], output: &mut Output)
+pub(crate) fn put_text(text: &[u8], output: &mut Output)
     ensures { Puts (escaped text.now) output.old output.new }
 {
     let mut rest = text;
