@@ -1,0 +1,4 @@
+pub mod Counts
+pub mod IndexedValues
+pub mod Indexes
+pub mod Rows

@@ -1,0 +1,15 @@
+//! The index rows of an entity: how many there are, and what they are as bytes.
+//!
+//! Every write turns into rows of the tables, and a query reads nothing else. It stands on `ds_base` for entities and on
+//! `ds_indexdef` for definitions of composite indexes; the bytes of values and keys are those of `ds_bytes`, and `ds_io`
+//! counts the steps of those who seek in tables. Begin with `specs/`: `IndexedValues` says what the indexes hold of an
+//! entity, `Counts` how many rows it has, `Indexes` which indexes there are, and `Rows` what the rows are. `count` counts
+//! them and `rows` writes them.
+#![tactic(auto)]
+
+pub mod count;
+mod indexed;
+pub mod refused;
+
+pub use count::count_rows;
+pub use refused::RowsRefused;
