@@ -7,9 +7,20 @@
 //! them and `rows` writes them.
 #![tactic(auto)]
 
+mod composite;
 pub mod count;
+mod fronts;
 mod indexed;
+pub mod laws;
 pub mod refused;
+mod row_set;
+pub mod rows;
+pub mod tables;
+mod ways;
 
 pub use count::count_rows;
+pub use laws::{rows_are_apart, rows_are_its_own, rows_are_ordered, rows_stand_together};
 pub use refused::RowsRefused;
+pub use row_set::RowSet;
+pub use rows::rows_of;
+pub use tables::Tables;
