@@ -1,3 +1,4 @@
+pub mod CountLaws
 pub mod Gathering
 pub mod IndexedRows
 pub mod LastKinds

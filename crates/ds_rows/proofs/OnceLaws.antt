@@ -64,10 +64,11 @@ once_flat : {A B : Type 0} (P : A → Type 0) (R : A → B → Type 0) (f : A �
 once_flat P R f tells related each [] all p = tt
 once_flat {A = A} {B = B} P R f tells related each (x ∷ xs) all p =
     let here : P x = All-head P x xs all in
-    let later = All-tail P x xs all in
+    let later : All P xs = All-tail P x xs all in
     let apart : All (λ z. All (λ w. z ≢ w) (flat_map f xs)) (f x) =
-    λ k d below. each_flat (λ (w : B). _ ≢ w) f xs
-    (λ n y inside m w within same. p.0 n y inside (tells x _ _ here (later n y inside) (related x here k d below) (subst (R _) (sym same) (related _ (later n y inside) m w within)))) in
+    λ k d below. each_flat (λ (w : B). get_or (f x) k d ≢ w) f xs (λ n y inside m w within same.
+    p.0 n y inside (tells x (get_or xs n y) (get_or (f (get_or xs n y)) m w) here (later n y inside)
+    (subst (R x) same (related x here k d below)) (related (get_or xs n y) (later n y inside) m w within))) in
     once_append (f x) (flat_map f xs) (each x here) (once_flat P R f tells related each xs later p.1) apart
 
 -- ---- values
@@ -128,7 +129,7 @@ lists_once e KindByKey = All-nil IsOnce
 lists_once e (ByProperty name descending) =
     All-cons IsOnce (indexed_values e name) [] (named_once (find (λ p. bytes_eq p.name name) e.properties)) (All-nil IsOnce)
 lists_once e (Composite n d) =
-    each_map IsOnce (λ (c : Column). column_values e c.name) (value_columns d.columns) (λ k c below. column_once e _)
+    each_map IsOnce (λ (c : Column). column_values e c.name) (value_columns d.columns) (λ k c below. column_once e (get_or (value_columns d.columns) k c).name)
 
 -- ---- ways
 
@@ -233,8 +234,7 @@ properties_once [] t = tt
 properties_once (p ∷ ps) t = (
   All-cons (λ (i : Index). ByProperty p.name false ≢ i) (ByProperty p.name true) (flat_map property_indexes ps) (two_directions p.name)
       (other_names p false ps t),
-  other_names p true ps t,
-  properties_once ps (tail_ascends p ps t),
+  (other_names p true ps t, properties_once ps (tail_ascends p ps t)),
 )
 
 later_places : (n : ℕ) (defs : List IndexDef) → All (λ (placed : ℕ × IndexDef). n ≤ placed.0) (enumerate_from n defs)
@@ -282,9 +282,11 @@ indexes_once defs e t =
     (λ k d below. apart_kinds i _ (above i _ 2 low (property k d below) (omega arith)))
     (λ k d below. apart_kinds i _ (above i _ 3 low (composite k d below) (omega arith))) in (
       All-cons (λ j. AllByKey ≢ j) KindByKey rest (apart_kinds AllByKey KindByKey (omega arith)) (higher AllByKey (omega arith)),
-      higher KindByKey (omega arith),
-      once_append (flat_map property_indexes e.properties) (composite_indexes defs e) (properties_once e.properties t) (composites_once defs e)
-          (λ k d below n j inside. apart_kinds _ _ (between_kinds _ _ (property k d below) (composite n j inside))),
+      (
+        higher KindByKey (omega arith),
+        once_append (flat_map property_indexes e.properties) (composite_indexes defs e) (properties_once e.properties t) (composites_once defs e)
+            (λ k d below n j inside. apart_kinds _ _ (between_kinds _ _ (property k d below) (composite n j inside))),
+      ),
     ) where
       above : (i j : Index) (n : ℕ) → kind_number i < 2 → kind_number j ≡ n → 2 ≤ n → kind_number i < kind_number j
       above i j n low is high = subst (λ m. kind_number i < m) (sym is) (omega arith)

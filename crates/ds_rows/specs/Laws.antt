@@ -1,19 +1,20 @@
 -- What is claimed of the bytes of rows.
-use Rattle.std.specs.Prelude.{◌≡◌, ◌≢◌, ℕ, ◌<◌, Bool, true, false, List, [], ◌∷◌, ◌++◌, All, Contains, Option, Some, None, get_or, length}
+use Rattle.std.specs.Prelude.{◌≡◌, ◌≢◌, ℕ, ◌+◌, ◌<◌, Bool, true, false, List, [], ◌∷◌, ◌++◌, All, Contains, Option, Some, None, get_or, length, IsTrue}
 use Rattle.std.specs.declared.cmp.Ordering.{Ordering}
 use Rattle.std.specs.declared.cmp.Ordering.TheVariants.{Less, Equal, Greater}
 use Rattle.std.specs.Ordering.{ordering_then}
 use Rattle.ds_base.specs.Keys.{KeyParts}
 use Rattle.ds_base.specs.KeyOrder.{bytes_cmp, key_cmp}
-use Rattle.ds_base.specs.Entities.{EntityParts}
+use Rattle.ds_base.specs.Entities.{EntityParts, names_ascend}
 use Rattle.ds_indexdef.specs.declared.IndexDef.{IndexDef}
 use Rattle.ds_indexdef.specs.Definitions.{AreDefs}
 use Rattle.ds_bytes.specs.Lawful.{IsKeyOfBytes}
 use Rattle.ds_bytes.specs.Rows.{row_cmp, IsRow}
 use Rattle.ds_rows.specs.IndexedValues.{kind_of}
 use Rattle.ds_rows.specs.Indexes.{Index, KindByKey, ByProperty, Composite, directions, key_descends, has_ancestor, indexes_of}
+use Rattle.ds_rows.specs.Counts.{row_count}
 use Rattle.ds_rows.specs.Indexable.{IsIndexable}
-use Rattle.ds_rows.specs.Rows.{IndexRow, index_front, index_rows, index_row_bytes}
+use Rattle.ds_rows.specs.Rows.{IndexRow, index_front, index_rows, index_row_bytes, rows_of}
 
 -- ---- rows
 
@@ -99,3 +100,8 @@ pub record RowsStandTogether : Type 0 where
       → (j ≡ i) × (r.parts.key.namespace ≡ namespace) × HoldsKind j (kind_of r.parts.key) kind
   pub between : (front a b x : List ℕ) → (bytes_cmp (front ++ a) x ≡ Greater → ⊥) → (bytes_cmp x (front ++ b) ≡ Greater → ⊥)
       → (more : List ℕ) × (x ≡ front ++ more)
+
+-- An entity, whose properties are in the order of their names, has one row more than are counted.
+abbrev pub RowsAreCounted : Type 0
+RowsAreCounted =
+    (defs : List IndexDef) (e : EntityParts) → IsTrue (names_ascend e.properties) → length (rows_of defs e) ≡ row_count defs e + 1

@@ -1,5 +1,5 @@
 //! What is claimed of the bytes of rows: laws of the definitions, for the crates above to cite. The functions do nothing.
-ghost use Rattle.ds_rows.specs.Laws.{RowsAreItsOwn, RowsAreApart, RowsAreOrdered, RowsStandTogether};
+ghost use Rattle.ds_rows.specs.Laws.{RowsAreItsOwn, RowsAreApart, RowsAreOrdered, RowsStandTogether, RowsAreCounted};
 
 /// The rows of an entity are rows of its indexes, and each ends in its key.
 pub fn rows_are_its_own()
@@ -22,4 +22,9 @@ pub fn rows_are_ordered()
 /// between two strings that begin so begins so too.
 pub fn rows_stand_together()
     ensures { RowsStandTogether }
+{}
+
+/// An entity has one row more than are counted: that in the index of all entities.
+pub fn rows_are_counted()
+    ensures { RowsAreCounted }
 {}

@@ -19,7 +19,9 @@ pub mod tables;
 mod ways;
 
 pub use count::count_rows;
-pub use laws::{rows_are_apart, rows_are_its_own, rows_are_ordered, rows_stand_together};
+pub use laws::{
+    rows_are_apart, rows_are_counted, rows_are_its_own, rows_are_ordered, rows_stand_together,
+};
 pub use refused::RowsRefused;
 pub use row_set::RowSet;
 pub use rows::rows_of;
