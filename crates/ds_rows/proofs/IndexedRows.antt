@@ -217,3 +217,15 @@ all_indexes defs e =
     let c : List (List ℕ) = flat_map (rows_in e) (composite_indexes defs e) in
     append_assoc (a ++ k) p c ∙ append_assoc a k (p ++ c)
     ∙ ap (λ (rs : List (List ℕ)). a ++ (k ++ rs)) (sym (flat_map-append (rows_in e) (flat_map property_indexes e.properties) (composite_indexes defs e)))
+
+-- the rows that were put, index after index
+pub all_put : (defs : List IndexDef) (e : EntityParts) (w0 w1 w2 w3 : Written) (result : List (List ℕ)) → w0 ≡ record { rows = []; begun = [] }
+    → w1 ≡ record { rows = w0.rows ++ (rows_in e AllByKey ++ rows_in e KindByKey); begun = [] }
+    → w2 ≡ record { rows = w1.rows ++ flat_map (rows_in e) (flat_map property_indexes e.properties); begun = [] }
+    → w3 ≡ record { rows = w2.rows ++ flat_map (rows_in e) (composite_indexes defs e); begun = [] } → result ≡ w3.rows → result ≡ rows_of defs e
+all_put defs e w0 w1 w2 w3 result none keys properties composites is =
+    let a : List (List ℕ) = rows_in e AllByKey ++ rows_in e KindByKey in
+    let p : List (List ℕ) = flat_map (rows_in e) (flat_map property_indexes e.properties) in
+    let c : List (List ℕ) = flat_map (rows_in e) (composite_indexes defs e) in
+    is ∙ ap (λ (w : Written). w.rows) composites ∙ ap (λ (w : Written). w.rows ++ c) properties ∙ ap (λ (w : Written). (w.rows ++ p) ++ c) keys
+    ∙ ap (λ (w : Written). ((w.rows ++ a) ++ p) ++ c) none ∙ all_indexes defs e

@@ -61,10 +61,12 @@ fn counts_up_to_the_limit(alloc: Global) -> Result<bool, Fail> {
     let many = two_of(alloc, 100, 200)?;
     let most = two_of(alloc, 81, 239)?;
     let over = two_of(alloc, 10, 1_665)?;
-    Ok(has_rows(alloc, &defs, &many, 20_601)
-        && has_rows(alloc, &none, &many, 601)
-        && has_rows(alloc, &defs, &most, 20_000)
-        && has_rows(alloc, &defs, &over, 20_001))
+    Ok(
+        has_rows(alloc, &defs, &many, 20_601)
+            && has_rows(alloc, &none, &many, 601)
+            && has_rows(alloc, &defs, &most, 20_000)
+            && has_rows(alloc, &defs, &over, 20_001),
+    )
 }
 
 /// Five columns of three numbers have 243 combinations; of 10,000 numbers there are more than 64 bits tell.
@@ -74,9 +76,11 @@ fn counts_far_beyond(alloc: Global) -> Result<bool, Fail> {
     let few = five_of(alloc, 3)?;
     let hundred = five_of(alloc, 100)?;
     let many = five_of(alloc, 10_000)?;
-    Ok(has_rows(alloc, &defs, &few, 1 + 30 + 243)
-        && has_rows(alloc, &three, &hundred, 1 + 1_000 + 1_000_000)
-        && has_rows(alloc, &defs, &many, 9_223_372_036_854_775_807))
+    Ok(
+        has_rows(alloc, &defs, &few, 1 + 30 + 243)
+            && has_rows(alloc, &three, &hundred, 1 + 1_000 + 1_000_000)
+            && has_rows(alloc, &defs, &many, 9_223_372_036_854_775_807),
+    )
 }
 
 /// A definition with a property that the entity hasn't gives no row.

@@ -1,9 +1,7 @@
 //! Keys, properties and definitions for the tests.
 ghost use Rattle.std.specs.Prelude.{◌≡◌, IfOk};
 
-use ds_base::{
-    Column, Columns, Elem, Elems, Ident, Key, Property, TextString, Value, Values,
-};
+use ds_base::{Column, Columns, Elem, Elems, Ident, Key, Property, TextString, Value, Values};
 use ds_indexdef::IndexDef;
 use std::alloc::{AllocError, Global};
 use std::test::Fail;
@@ -43,7 +41,11 @@ pub(crate) fn column(alloc: Global, name: &str, descending: bool) -> Result<Colu
 }
 
 /// A definition of the kind T.
-pub(crate) fn definition(alloc: Global, ancestor: bool, columns: Vec<Column>) -> Result<IndexDef, AllocError> {
+pub(crate) fn definition(
+    alloc: Global,
+    ancestor: bool,
+    columns: Vec<Column>,
+) -> Result<IndexDef, AllocError> {
     Ok(IndexDef {
         kind: TextString::of(alloc, "T")?,
         ancestor,

@@ -1,11 +1,10 @@
 //! The rows of small entities, byte for byte.
 use crate::make::{column, definition, key, named};
-use ds_base::{
-    Elem, Elems, Entity, Ident, Key, Properties, Property, TextString, Value, Values,
-};
+use ds_base::{Elem, Elems, Entity, Ident, Key, Properties, Property, TextString, Value, Values};
 use ds_indexdef::Defs;
 use ds_rows::{
-    RowSet, rows_are_apart, rows_are_its_own, rows_are_ordered, rows_of, rows_stand_together,
+    RowSet, rows_are_apart, rows_are_counted, rows_are_its_own, rows_are_ordered, rows_of,
+    rows_stand_together,
 };
 use std::alloc::Global;
 use std::test::Fail;
@@ -118,6 +117,7 @@ fn writes_rows(rt: HostRuntime) -> Result<(), Fail> {
     rows_are_its_own();
     rows_are_apart();
     rows_are_ordered();
+    rows_are_counted();
     rows_stand_together();
     assert!(rt; writes_each_row_once(rt.alloc())?);
     assert!(rt; writes_rows_of_ancestors(rt.alloc())?);
