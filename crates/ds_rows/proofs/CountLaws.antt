@@ -1,5 +1,6 @@
 -- The count of index rows is the number of rows without the one in the index of all entities.
-use Rattle.std.specs.Prelude.{◌≡◌, ℕ, ◌+◌, ◌*◌, ◌<◌, Bool, true, false, List, [], ◌∷◌, ◌++◌, cond, filter, find, flat_map, length, map, get_or, sum_by, Option, Some, None, IsTrue, bytes_eq, refl}
+use Rattle.std.specs.Prelude.{◌≡◌, ℕ, ◌+◌, ◌*◌, ◌<◌, Bool, true, false, List, [], ◌∷◌, ◌++◌, cond, filter, find, flat_map, length, map}
+use Rattle.std.specs.Prelude.{get_or, sum_by, Option, Some, None, IsTrue, bytes_eq, refl}
 use Rattle.std.specs.List.{enumerate_from}
 use Rattle.std.specs.Option.{option_map_or}
 use Rattle.std.proofs.Common.{suc, zero, ap, sym, ◌∙◌, arith, length-append}
@@ -16,7 +17,8 @@ use Rattle.ds_base.specs.Entities.{EntityParts, names_ascend}
 use Rattle.ds_indexdef.specs.declared.IndexDef.{IndexDef}
 use Rattle.ds_rows.specs.IndexedValues.{kind_in, is_key_name, property_values, indexed_values, column_values, each_way}
 use Rattle.ds_rows.specs.Counts.{product, column_count, composite_count, row_count}
-use Rattle.ds_rows.specs.Indexes.{Index, AllByKey, KindByKey, ByProperty, Composite, has_ancestor, value_columns, property_indexes, composite_indexes, indexes_of}
+use Rattle.ds_rows.specs.Indexes.{Index, AllByKey, KindByKey, ByProperty, Composite, has_ancestor, value_columns, property_indexes}
+use Rattle.ds_rows.specs.Indexes.{composite_indexes, indexes_of}
 use Rattle.ds_rows.specs.Rows.{IndexRow, ancestors, row_ancestors, index_lists, row_with, index_rows, index_row_bytes, rows_in, rows_of}
 use Rattle.ds_rows.specs.Ways.{ways_count}
 use Rattle.ds_rows.proofs.Lookups.{found_at}
@@ -44,12 +46,14 @@ rows_in_index e i =
 
 -- ---- properties
 
-in_property : (e : EntityParts) (name : List ℕ) (descending : Bool) → length (rows_in e (ByProperty name descending)) ≡ length (indexed_values e name)
+in_property : (e : EntityParts) (name : List ℕ) (descending : Bool) → length (rows_in e (ByProperty name descending))
+    ≡ length (indexed_values e name)
 in_property e name descending =
     let one : 1 * (length (indexed_values e name) * 1) ≡ length (indexed_values e name) = omega arith in
     rows_in_index e (ByProperty name descending) ∙ one
 
-in_properties : (e : EntityParts) (ps : List Property) → ((k : ℕ) (d : Property) → k < length ps → indexed_values e (get_or ps k d).name ≡ property_values (get_or ps k d))
+in_properties : (e : EntityParts) (ps : List Property) → ((k : ℕ) (d : Property) → k < length ps → indexed_values e (get_or ps k d).name
+    ≡ property_values (get_or ps k d))
     → sum_by (λ i. length (rows_in e i)) (flat_map property_indexes ps) ≡ sum_by (λ p. 2 * length (property_values p)) ps
 in_properties e [] own = refl
 in_properties e (p ∷ ps) own =
@@ -101,7 +105,8 @@ in_composites : (e : EntityParts) (n : ℕ) (defs : List IndexDef)
     ≡ sum_by (λ d. cond (kind_in d.kind e.key) (composite_count e d) 0) defs
 in_composites e n [] = refl
 in_composites e n (d ∷ defs) =
-    by (kind_in d.kind e.key) (in_composites e (n + 1) defs) ∙ sym (sum_by-cons (λ (d : IndexDef). cond (kind_in d.kind e.key) (composite_count e d) 0) d defs) where
+    by (kind_in d.kind e.key) (in_composites e (n + 1) defs)
+    ∙ sym (sum_by-cons (λ (d : IndexDef). cond (kind_in d.kind e.key) (composite_count e d) 0) d defs) where
       by : (b : Bool)
           → sum_by (λ i. length (rows_in e i)) (map (λ (placed : ℕ × IndexDef). Composite placed.0 placed.1)
           (filter (λ (placed : ℕ × IndexDef). kind_in placed.1.kind e.key) (enumerate_from (n + 1) defs)))
@@ -121,18 +126,23 @@ in_composites e n (d ∷ defs) =
 -- ---- all
 
 -- One row more than are counted.
-pub all_counted : (defs : List IndexDef) (e : EntityParts) → IsTrue (names_ascend e.properties) → length (rows_of defs e) ≡ row_count defs e + 1
+pub all_counted : (defs : List IndexDef) (e : EntityParts) → IsTrue (names_ascend e.properties) → length (rows_of defs e)
+    ≡ row_count defs e + 1
 all_counted defs e t =
     let size : Index → ℕ = λ i. length (rows_in e i) in
     let rest : List Index = flat_map property_indexes e.properties ++ composite_indexes defs e in
     let properties = in_properties e e.properties
-    (λ k d below. ap (λ (o : Option Property). option_map_or property_values o []) (found_at e.properties t k d (get_or e.properties k d).name below refl)) in
+    (λ k d below. ap (λ (o : Option Property). option_map_or property_values o []) (found_at e.properties t k d
+    (get_or e.properties k d).name below refl)) in
     let composites = in_composites e 0 defs in
-    let sum : sum_by size rest ≡ sum_by (λ p. 2 * length (property_values p)) e.properties + sum_by (λ d. cond (kind_in d.kind e.key) (composite_count e d) 0) defs =
+    let sum : sum_by size rest
+    ≡ sum_by (λ p. 2 * length (property_values p)) e.properties + sum_by (λ d. cond (kind_in d.kind e.key)
+    (composite_count e d) 0) defs =
     sum_by-append size (flat_map property_indexes e.properties) (composite_indexes defs e) ∙ (λ t. properties t + composites t) in
     length-flat_map (rows_in e) (indexes_of defs e)
     ∙ sum_by-cons size AllByKey (KindByKey ∷ rest)
     ∙ ap (λ n. 1 + n) (sum_by-cons size KindByKey rest ∙ ap (λ n. 1 + n) sum)
-    ∙ both (sum_by (λ p. 2 * length (property_values p)) e.properties) (sum_by (λ d. cond (kind_in d.kind e.key) (composite_count e d) 0) defs) where
+    ∙ both (sum_by (λ p. 2 * length (property_values p)) e.properties) (sum_by (λ d. cond (kind_in d.kind e.key)
+    (composite_count e d) 0) defs) where
       both : (a b : ℕ) → 1 + (1 + (a + b)) ≡ 1 + a + b + 1
       both a b = omega arith

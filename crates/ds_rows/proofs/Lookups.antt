@@ -1,5 +1,6 @@
 -- A property found by its name, among names that strictly ascend.
-use Rattle.std.proofs.Common.{◌≡◌, ◌≢◌, ℕ, zero, suc, ◌+◌, ◌<◌, ◌≤◌, Bool, true, false, cond, List, [], ◌∷◌, length, get_or, refl, ap, sym, subst, ◌∙◌, arith, Option, Some, None, IsTrue, bytes_eq, map, ◌⊎◌, inl, inr}
+use Rattle.std.proofs.Common.{◌≡◌, ◌≢◌, ℕ, zero, suc, ◌+◌, ◌<◌, ◌≤◌, Bool, true, false, cond, List, [], ◌∷◌, length, get_or, refl, ap}
+use Rattle.std.proofs.Common.{sym, subst, ◌∙◌, arith, Option, Some, None, IsTrue, bytes_eq, map, ◌⊎◌, inl, inr}
 use Rattle.std.specs.Prelude.{find}
 use Rattle.std.specs.Ordering.{is_lt, ordering_reverse}
 use Rattle.std.specs.declared.cmp.Ordering.{Ordering}
@@ -35,7 +36,8 @@ tail_ascends p (q ∷ qs) t = (and_parts (is_lt (bytes_cmp p.name q.name)) (name
 pub first_is_below : (p : Property) (ps : List Property) → IsTrue (names_ascend (p ∷ ps)) → (k : ℕ) (d : Property) → k < length ps
     → bytes_cmp p.name (get_or ps k d).name ≡ Less
 first_is_below p [] t k d within = absurd (omega arith)
-first_is_below p (q ∷ qs) t zero d within = less_from (bytes_cmp p.name q.name) (and_parts (is_lt (bytes_cmp p.name q.name)) (names_ascend (q ∷ qs)) t).0
+first_is_below p (q ∷ qs) t zero d within = less_from (bytes_cmp p.name q.name) (and_parts (is_lt (bytes_cmp p.name q.name)) (names_ascend
+    (q ∷ qs)) t).0
 first_is_below p (q ∷ qs) t (suc k) d within =
     let both = and_parts (is_lt (bytes_cmp p.name q.name)) (names_ascend (q ∷ qs)) t in
     nat_list_cmp_total.trans p.name q.name (get_or qs k d).name (less_from (bytes_cmp p.name q.name) both.0)
@@ -64,11 +66,14 @@ not_named s t differ = false_from_ne_true (bytes_eq s t) (λ same. differ ((byte
 pub found_at : (ps : List Property) → IsTrue (names_ascend ps) → (k : ℕ) (d : Property) (name : List ℕ) → k < length ps
     → (get_or ps k d).name ≡ name → find (λ p. bytes_eq p.name name) ps ≡ Some (get_or ps k d)
 found_at [] t k d name within is = absurd (omega arith)
-found_at (p ∷ ps) t zero d name within is = ap (λ (b : Bool). cond b (Some p) (find (λ p. bytes_eq p.name name) ps)) ((bytes_eq-Decides p.name name).1 is)
+found_at (p ∷ ps) t zero d name within is = ap (λ (b : Bool). cond b (Some p) (find (λ p. bytes_eq p.name name) ps))
+    ((bytes_eq-Decides p.name name).1 is)
 found_at (p ∷ ps) t (suc k) d name within is =
     let below = first_is_below p ps t k d (omega arith) in
-    let other : bytes_eq p.name name ≡ false = not_named p.name name (λ same. differ p.name (get_or ps k d).name Less below less_apart (same ∙ sym is)) in
-    ap (λ (b : Bool). cond b (Some p) (find (λ p. bytes_eq p.name name) ps)) other ∙ found_at ps (tail_ascends p ps t) k d name (omega arith) is
+    let other : bytes_eq p.name name
+    ≡ false = not_named p.name name (λ same. differ p.name (get_or ps k d).name Less below less_apart (same ∙ sym is)) in
+    ap (λ (b : Bool). cond b (Some p) (find (λ p. bytes_eq p.name name) ps)) other
+    ∙ found_at ps (tail_ascends p ps t) k d name (omega arith) is
 
 -- none is found where none has the name
 pub found_nowhere : (ps : List Property) (name : List ℕ) → ((k : ℕ) (d : Property) → k < length ps → (get_or ps k d).name ≡ name → ⊥)
@@ -90,8 +95,10 @@ names_sorted (p ∷ q ∷ qs) t (suc k) d low within =
     ∙ names_sorted (q ∷ qs) (tail_ascends p (q ∷ qs) t) k d (omega arith) (omega arith)
 
 -- the values of the property at a place are those that are found by its name
-pub named_at : (ps : List Property) (lists : List (List IndexValue)) (k : ℕ) (name : List ℕ) (values : List IndexValue) → IsTrue (names_ascend ps)
-    → lists ≡ map property_values ps → k < length ps → ((d : Property) → bytes_cmp (get_or ps k d).name name ≡ Equal) → values ≡ get_or lists k values
+pub named_at : (ps : List Property) (lists : List (List IndexValue)) (k : ℕ) (name : List ℕ) (values : List IndexValue)
+    → IsTrue (names_ascend ps)
+    → lists ≡ map property_values ps → k < length ps → ((d : Property) → bytes_cmp (get_or ps k d).name name ≡ Equal) → values
+    ≡ get_or lists k values
     → (e : EntityParts) → e.properties ≡ ps → values ≡ indexed_values e name
 named_at [] lists k name values t of_each within named is e same = absurd (omega arith)
 named_at (p ∷ ps) lists k name values t of_each within named is e same =

@@ -1,5 +1,6 @@
 -- An entity has each of its rows once.
-use Rattle.std.specs.Prelude.{◌≡◌, ◌≢◌, ℕ, zero, suc, ◌+◌, ◌<◌, ◌≤◌, Bool, true, false, List, [], ◌∷◌, ◌++◌, cond, filter, filter_map, find, flat_map, fold, length, map, get_or, All, Option, Some, None, IsTrue, bytes_eq, refl}
+use Rattle.std.specs.Prelude.{◌≡◌, ◌≢◌, ℕ, zero, suc, ◌+◌, ◌<◌, ◌≤◌, Bool, true, false, List, [], ◌∷◌, ◌++◌, cond, filter, filter_map}
+use Rattle.std.specs.Prelude.{find, flat_map, fold, length, map, get_or, All, Option, Some, None, IsTrue, bytes_eq, refl}
 use Rattle.std.specs.List.{enumerate_from}
 use Rattle.std.specs.Option.{option_map_or}
 use Rattle.std.specs.BTreeSet.{insert_key}
@@ -26,9 +27,11 @@ use Rattle.ds_base.specs.Entities.{EntityParts, names_ascend}
 use Rattle.ds_indexdef.specs.declared.IndexDef.{IndexDef}
 use Rattle.ds_indexdef.specs.Definitions.{AreDefs}
 use Rattle.ds_rows.specs.IndexedValues.{kind_in, is_key_name, property_values, indexed_values, column_values, each_way}
-use Rattle.ds_rows.specs.Indexes.{Index, AllByKey, KindByKey, ByProperty, Composite, has_ancestor, value_columns, property_indexes, composite_indexes, indexes_of}
+use Rattle.ds_rows.specs.Indexes.{Index, AllByKey, KindByKey, ByProperty, Composite, has_ancestor, value_columns, property_indexes}
+use Rattle.ds_rows.specs.Indexes.{composite_indexes, indexes_of}
 use Rattle.ds_rows.specs.Indexable.{IsIndexable}
-use Rattle.ds_rows.specs.Rows.{IndexRow, paths_to, ancestors, row_ancestors, index_lists, row_with, index_rows, index_row_bytes, rows_in, rows_of}
+use Rattle.ds_rows.specs.Rows.{IndexRow, paths_to, ancestors, row_ancestors, index_lists, row_with, index_rows, index_row_bytes, rows_in}
+use Rattle.ds_rows.specs.Rows.{rows_of}
 use Rattle.ds_rows.specs.Laws.{IsIndexOf, IsRowOf, IsOnce}
 use Rattle.ds_rows.specs.OwnRowLaws.{each_map, each_flat, each_kept, own_rows, own_indexes}
 use Rattle.ds_rows.specs.RowLaws.{rows_apart}
@@ -110,7 +113,8 @@ once_in_order (v ∷ vs) p = (λ k d below. less_differs v _ (p.0 k d below), on
 property_once : (p : Property) → IsOnce (property_values p)
 property_once p = by p.indexed where
   by : (b : Bool) → IsOnce (cond b (fold (insert_key index_value_cmp) [] (filter_map index_of p.values)) [])
-  by true = once_in_order (fold (insert_key index_value_cmp) [] (filter_map index_of p.values)) (all_in_order [] (filter_map index_of p.values) tt)
+  by true = once_in_order (fold (insert_key index_value_cmp) [] (filter_map index_of p.values)) (all_in_order []
+      (filter_map index_of p.values) tt)
   by false = tt
 
 named_once : (o : Option Property) → IsOnce (option_map_or property_values o [])
@@ -129,7 +133,8 @@ lists_once e KindByKey = All-nil IsOnce
 lists_once e (ByProperty name descending) =
     All-cons IsOnce (indexed_values e name) [] (named_once (find (λ p. bytes_eq p.name name) e.properties)) (All-nil IsOnce)
 lists_once e (Composite n d) =
-    each_map IsOnce (λ (c : Column). column_values e c.name) (value_columns d.columns) (λ k c below. column_once e (get_or (value_columns d.columns) k c).name)
+    each_map IsOnce (λ (c : Column). column_values e c.name) (value_columns d.columns) (λ k c below. column_once e (get_or
+    (value_columns d.columns) k c).name)
 
 -- ---- ways
 
@@ -149,7 +154,8 @@ ways_once (values ∷ more) all =
     let W : List (List IndexValue) = each_way more in
     once_flat (λ v. Unit {0}) BeginsWith (λ v. map (λ vs. v ∷ vs) W) (λ v w way p q r s. first_value v w r.0 s.0 (sym r.1 ∙ s.1))
     (λ v p. each_map (BeginsWith v) (λ (vs : List IndexValue). v ∷ vs) W (λ k d below. (_, refl)))
-    (λ v p. once_map (λ vs. Unit {0}) (λ (vs : List IndexValue). v ∷ vs) (λ vs ws a b e. other_values v v vs ws e) W (λ k d below. tt) others)
+    (λ v p. once_map (λ vs. Unit {0}) (λ (vs : List IndexValue). v ∷ vs) (λ vs ws a b e. other_values v v vs ws e) W
+    (λ k d below. tt) others)
     values (λ k d below. tt) (All-head IsOnce values more all)
 
 -- ---- ancestors
@@ -170,7 +176,8 @@ paths_once [] = tt
 paths_once (e ∷ es) = (
   each_map (λ (p : List Elem). (e ∷ []) ≢ p) (λ (path : List Elem). e ∷ path) (paths_to es)
       (λ k d below same. paths_some es k d below (tail_of e [] _ same)),
-  once_map (λ p. Unit {0}) (λ (path : List Elem). e ∷ path) (λ p q a b same. tail_of e p q same) (paths_to es) (λ k d below. tt) (paths_once es),
+  once_map (λ p. Unit {0}) (λ (path : List Elem). e ∷ path) (λ p q a b same. tail_of e p q same) (paths_to es) (λ k d below. tt)
+      (paths_once es),
 )
 
 ancestors_once : (k : KeyParts) → IsOnce (ancestors k)
@@ -184,7 +191,8 @@ some_of a b same = cc
 row_ancestors_once : (i : Index) (k : KeyParts) → IsOnce (row_ancestors i k)
 row_ancestors_once i k = by (has_ancestor i) where
   by : (b : Bool) → IsOnce (cond b (map (λ a. Some a) (ancestors k)) (None ∷ []))
-  by true = once_map (λ a. Unit {0}) (λ (a : KeyParts). Some a) (λ a b p q same. some_of a b same) (ancestors k) (λ n d below. tt) (ancestors_once k)
+  by true = once_map (λ a. Unit {0}) (λ (a : KeyParts). Some a) (λ a b p q same. some_of a b same) (ancestors k) (λ n d below. tt)
+      (ancestors_once k)
   by false = (All-nil (λ y. None ≢ y), tt)
 
 index_rows_once : (e : EntityParts) (i : Index) → IsOnce (index_rows e i)
@@ -226,7 +234,8 @@ other_names p c ps t =
     each_flat (λ (i : Index). ByProperty p.name c ≢ i) property_indexes ps
     (λ k d below. All-cons (λ (i : Index). ByProperty p.name c ≢ i) (ByProperty _ false) (ByProperty _ true ∷ [])
     (λ same. names_differ p ps t k d below (same_name p.name _ c false same))
-    (All-cons (λ (i : Index). ByProperty p.name c ≢ i) (ByProperty _ true) [] (λ same. names_differ p ps t k d below (same_name p.name _ c true same))
+    (All-cons (λ (i : Index). ByProperty p.name c ≢ i) (ByProperty _ true) [] (λ same. names_differ p ps t k d below
+    (same_name p.name _ c true same))
     (All-nil (λ (i : Index). ByProperty p.name c ≢ i))))
 
 properties_once : (ps : List Property) → IsTrue (names_ascend ps) → IsOnce (flat_map property_indexes ps)
@@ -284,7 +293,8 @@ indexes_once defs e t =
       All-cons (λ j. AllByKey ≢ j) KindByKey rest (apart_kinds AllByKey KindByKey (omega arith)) (higher AllByKey (omega arith)),
       (
         higher KindByKey (omega arith),
-        once_append (flat_map property_indexes e.properties) (composite_indexes defs e) (properties_once e.properties t) (composites_once defs e)
+        once_append (flat_map property_indexes e.properties) (composite_indexes defs e) (properties_once e.properties t)
+            (composites_once defs e)
             (λ k d below n j inside. apart_kinds _ _ (between_kinds _ _ (property k d below) (composite n j inside))),
       ),
     ) where
@@ -300,11 +310,15 @@ abbrev IsRowIn : List IndexDef → Index → List ℕ → Type 0
 IsRowIn defs i row = (r : IndexRow) × (IsRowOf defs i r × (row ≡ index_row_bytes i r))
 
 -- No row of an entity stands twice.
-pub rows_once : (defs : List IndexDef) (e : EntityParts) → AreDefs defs → IsIndexable e → IsTrue (names_ascend e.properties) → IsOnce (rows_of defs e)
+pub rows_once : (defs : List IndexDef) (e : EntityParts) → AreDefs defs → IsIndexable e → IsTrue (names_ascend e.properties)
+    → IsOnce (rows_of defs e)
 rows_once defs e kept p t =
     once_flat (IsIndexOf defs) (IsRowIn defs) (rows_in e)
     (λ i j row at_i at_j r s. (rows_apart defs kept i j r.0 s.0 r.1.0 s.1.0 (sym r.1.1 ∙ s.1.1)).0)
-    (λ i index. each_map (IsRowIn defs i) (index_row_bytes i) (index_rows e i) (λ k d below. (_, ((own_rows defs e i p index k d below).0, refl))))
+    (λ i index. each_map (IsRowIn defs i) (index_row_bytes i) (index_rows e i) (λ k d below. (
+      _,
+      ((own_rows defs e i p index k d below).0, refl),
+    )))
     (λ i index. once_map (IsRowOf defs i) (index_row_bytes i) (λ r s a b same. (rows_apart defs kept i i r s a b same).1) (index_rows e i)
     (λ k d below. (own_rows defs e i p index k d below).0) (index_rows_once e i))
     (indexes_of defs e) (own_indexes defs e) (indexes_once defs e t)

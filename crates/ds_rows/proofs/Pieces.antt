@@ -1,5 +1,6 @@
 -- Rows stay where they stand when bytes are put behind them.
-use Rattle.std.proofs.Common.{◌≡◌, ℕ, ◌-◌, ◌<◌, ◌≤◌, ◌++◌, ◌∷◌, [], List, length, take, drop, refl, ap, sym, ◌∙◌, arith, length-append, length-drop}
+use Rattle.std.proofs.Common.{◌≡◌, ℕ, ◌-◌, ◌<◌, ◌≤◌, ◌++◌, ◌∷◌, [], List, length, take, drop, refl, ap, sym, ◌∙◌, arith, length-append}
+use Rattle.std.proofs.Common.{length-drop}
 use Rattle.std.specs.Prelude.{All, Result, Ok, Err, OnOk}
 use Rattle.std.proofs.lemmas.List.{drop-append-le, take-append-le, take_rest, map_push}
 use Rattle.std.proofs.lemmas.List.Elements.{All-head, All-tail}
@@ -45,7 +46,8 @@ on_ok (Ok x) follows a = follows a
 on_ok (Err e) follows a = tt
 
 -- bytes put at the end go to the row that is begun
-pub put_behind : (bytes more new : List ℕ) (spans : List Span) (begun : ℕ) (old : Written) → All (IsWithin bytes) spans → begun ≤ length bytes
+pub put_behind : (bytes more new : List ℕ) (spans : List Span) (begun : ℕ) (old : Written) → All (IsWithin bytes) spans
+    → begun ≤ length bytes
     → written_as bytes spans begun ≡ old → new ≡ bytes ++ more
     → written_as new spans begun ≡ record { rows = old.rows; begun = old.begun ++ more }
 put_behind bytes more new spans begun old all inside seen is =

@@ -1,5 +1,6 @@
 -- Products that stop at a greatest number.
-use Rattle.std.proofs.Common.{◌≡◌, ℕ, zero, suc, ◌+◌, ◌*◌, ◌<◌, ◌≤◌, ◌⊎◌, inl, inr, List, [], ◌∷◌, length, get_or, take, drop, map, min, ap, sym, ◌∙◌, arith, refl}
+use Rattle.std.proofs.Common.{◌≡◌, ℕ, zero, suc, ◌+◌, ◌*◌, ◌<◌, ◌≤◌, ◌⊎◌, inl, inr, List, [], ◌∷◌, length, get_or, take, drop, map, min}
+use Rattle.std.proofs.Common.{ap, sym, ◌∙◌, arith, refl}
 use Rattle.std.specs.Prelude.{sum_by}
 use Rattle.std.proofs.lemmas.List.{drop_more, drop_all}
 use Rattle.std.proofs.lemmas.List.Sums.{sum_by-cons}
@@ -43,7 +44,8 @@ product_done f xs i count most whole all told so_far =
     one ∙ ap (λ n. min (count * n) most) (sym left) ∙ so_far
 
 -- two rows for each of the values, list by list and property by property
-pub two_each : (ps : List Property) → sum_by (λ values. 2 * length values) (map property_values ps) ≡ sum_by (λ p. 2 * length (property_values p)) ps
+pub two_each : (ps : List Property) → sum_by (λ values. 2 * length values) (map property_values ps)
+    ≡ sum_by (λ p. 2 * length (property_values p)) ps
 two_each [] = refl
 two_each (p ∷ ps) =
     sum_by-cons (λ (values : List IndexValue). 2 * length values) (property_values p) (map property_values ps)

@@ -1,10 +1,13 @@
 -- The ways to take one value of each list are numbered as `way_at` says.
-use Rattle.std.proofs.Common.{◌≡◌, ℕ, zero, suc, ◌+◌, ◌-◌, ◌*◌, ◌/◌, ◌%◌, ◌<◌, ◌≤◌, ◌++◌, ◌∷◌, [], List, length, map, get_or, take, drop, refl, ap, sym, subst, ◌∙◌, arith, length-append, ◌⊎◌, inl, inr}
+use Rattle.std.proofs.Common.{◌≡◌, ℕ, zero, suc, ◌+◌, ◌-◌, ◌*◌, ◌/◌, ◌%◌, ◌<◌, ◌≤◌, ◌++◌, ◌∷◌, [], List, length, map, get_or, take, drop}
+use Rattle.std.proofs.Common.{refl, ap, sym, subst, ◌∙◌, arith, length-append, ◌⊎◌, inl, inr}
 use Rattle.std.specs.Prelude.{flat_map, All}
 use Rattle.std.proofs.Common.{append_assoc}
-use Rattle.std.proofs.Math.Nat.{div-eq_of_lt, mod-eq_of_lt, mod-lt, add-mod_left, mul-add-div, mul-div_cancel_left, div-lt_iff_lt-mul, mul_assoc}
+use Rattle.std.proofs.Math.Nat.{div-eq_of_lt, mod-eq_of_lt, mod-lt, add-mod_left, mul-add-div, mul-div_cancel_left, div-lt_iff_lt-mul}
+use Rattle.std.proofs.Math.Nat.{mul_assoc}
 use Rattle.std.proofs.lemmas.Bool.{cases_lt}
-use Rattle.std.proofs.lemmas.List.{length-map, get_or_append_left, get_or-append_right, get_or-map, drop_more, get_or_read, map_more, take_all}
+use Rattle.std.proofs.lemmas.List.{length-map, get_or_append_left, get_or-append_right, get_or-map, drop_more, get_or_read, map_more}
+use Rattle.std.proofs.lemmas.List.{take_all}
 use Rattle.std.proofs.lemmas.List.Elements.{All-nil, All-cons, All-head, All-tail, All-more}
 use Rattle.ds_base.specs.declared.index_value.IndexValue.{IndexValue}
 use Rattle.ds_base.specs.declared.index_value.IndexValue.TheVariants.{Null}
@@ -66,7 +69,8 @@ in_blocks ways (v ∷ values) n d e below = elim (cases_lt n (length ways)) [
 ]
 
 -- the way of a number
-pub way_of_number : (lists : List (List IndexValue)) (n : ℕ) (d : List IndexValue) → n < ways_count lists → get_or (each_way lists) n d ≡ way_at lists n
+pub way_of_number : (lists : List (List IndexValue)) (n : ℕ) (d : List IndexValue) → n < ways_count lists → get_or (each_way lists) n d
+    ≡ way_at lists n
 way_of_number [] zero d below = refl
 way_of_number [] (suc n) d below = absurd (omega arith)
 way_of_number (values ∷ more) n d below =
@@ -86,7 +90,8 @@ pub record IsStep (values : List IndexValue) (more : List (List IndexValue)) (st
   pub within : left / ways_count more < length values
   pub below : left % ways_count more < ways_count more
 
-pub step : (values : List IndexValue) (more : List (List IndexValue)) (stride left : ℕ) → stride ≡ ways_count (values ∷ more) → left < stride
+pub step : (values : List IndexValue) (more : List (List IndexValue)) (stride left : ℕ) → stride ≡ ways_count (values ∷ more)
+    → left < stride
     → IsStep values more stride left
 step values more stride left is below =
     let inside : left < length values * ways_count more = subst (λ n. left < n) is below in
@@ -104,19 +109,23 @@ pub left_step : (columns : List ColumnValues) (i stride left : ℕ) (c : ColumnV
     → stride ≡ ways_count (lists_of (drop i columns)) → left < stride
     → IsStep c.values.now (lists_of (drop (i + 1) columns)) stride left
 left_step columns i stride left c within is count below =
-    let rest : drop i columns ≡ c ∷ drop (i + 1) columns = drop_more columns i c within ∙ ap (λ (x : ColumnValues). x ∷ drop (i + 1) columns) (sym is) in
-    step c.values.now (lists_of (drop (i + 1) columns)) stride left (count ∙ ap (λ (cs : List ColumnValues). ways_count (lists_of cs)) rest) below
+    let rest : drop i columns ≡ c ∷ drop (i + 1) columns = drop_more columns i c within
+    ∙ ap (λ (x : ColumnValues). x ∷ drop (i + 1) columns) (sym is) in
+    step c.values.now (lists_of (drop (i + 1) columns)) stride left (count
+    ∙ ap (λ (cs : List ColumnValues). ways_count (lists_of cs)) rest) below
 
 -- the values of the columns that are left, behind what was put
 abbrev pub behind : List ℕ → List ColumnValues → ℕ → List ℕ
 behind begun columns n = begun ++ columns_bytes (directions_of columns) (way_at (lists_of columns) n)
 
-pub value_put : (columns : List ColumnValues) (i left next place : ℕ) (c : ColumnValues) (v : IndexValue) (begun : List ℕ) → i < length columns
+pub value_put : (columns : List ColumnValues) (i left next place : ℕ) (c : ColumnValues) (v : IndexValue) (begun : List ℕ)
+    → i < length columns
     → c ≡ get_or columns i c → next ≡ ways_count (lists_of (drop (i + 1) columns)) → place ≡ left / next → place < length c.values.now
     → v ≡ get_or c.values.now place v
     → behind (begun ++ encoding c.descending v) (drop (i + 1) columns) (left % next) ≡ behind begun (drop i columns) left
 value_put columns i left next place c v begun within is count at inside read =
-    let rest : drop i columns ≡ c ∷ drop (i + 1) columns = drop_more columns i c within ∙ ap (λ (x : ColumnValues). x ∷ drop (i + 1) columns) (sym is) in
+    let rest : drop i columns ≡ c ∷ drop (i + 1) columns = drop_more columns i c within
+    ∙ ap (λ (x : ColumnValues). x ∷ drop (i + 1) columns) (sym is) in
     let more : List ColumnValues = drop (i + 1) columns in
     let value : v ≡ get_or c.values.now (left / ways_count (lists_of more)) Null =
     get_or_read c.values.now place v inside read Null ∙ ap (λ n. get_or c.values.now n Null) (at ∙ ap (λ n. left / n) count) in
@@ -129,18 +138,21 @@ pub lawful_more : (columns : List ColumnValues) (i left next place : ℕ) (c : C
     → v ≡ get_or c.values.now place v → IsLawfulValue v → All IsLawfulValue (way_at (lists_of (drop (i + 1) columns)) (left % next))
     → All IsLawfulValue (way_at (lists_of (drop i columns)) left)
 lawful_more columns i left next place c v within is count at inside read lawful others =
-    let rest : drop i columns ≡ c ∷ drop (i + 1) columns = drop_more columns i c within ∙ ap (λ (x : ColumnValues). x ∷ drop (i + 1) columns) (sym is) in
+    let rest : drop i columns ≡ c ∷ drop (i + 1) columns = drop_more columns i c within
+    ∙ ap (λ (x : ColumnValues). x ∷ drop (i + 1) columns) (sym is) in
     let more : List ColumnValues = drop (i + 1) columns in
     let value : v ≡ get_or c.values.now (left / ways_count (lists_of more)) Null =
     get_or_read c.values.now place v inside read Null ∙ ap (λ n. get_or c.values.now n Null) (at ∙ ap (λ n. left / n) count) in
     subst (λ (cs : List ColumnValues). All IsLawfulValue (way_at (lists_of cs) left)) (sym rest)
-    (All-cons IsLawfulValue (get_or c.values.now (left / ways_count (lists_of more)) Null) (way_at (lists_of more) (left % ways_count (lists_of more)))
+    (All-cons IsLawfulValue (get_or c.values.now (left / ways_count (lists_of more)) Null) (way_at (lists_of more) (left % ways_count
+    (lists_of more)))
     (subst IsLawfulValue value lawful) (subst (λ n. All IsLawfulValue (way_at (lists_of more) (left % n))) count others))
 
 -- ---- how many ways there are
 
 -- where a column has no value there is no way
-pub no_way : (columns : List ColumnValues) (i : ℕ) (c : ColumnValues) → i < length columns → c ≡ get_or columns i c → length c.values.now ≡ 0
+pub no_way : (columns : List ColumnValues) (i : ℕ) (c : ColumnValues) → i < length columns → c ≡ get_or columns i c → length c.values.now
+    ≡ 0
     → 0 ≡ ways_count (lists_of columns)
 no_way [] i c within is none = absurd (omega arith)
 no_way (x ∷ columns) zero c within is none =
@@ -156,7 +168,8 @@ pub counted_step : (columns : List ColumnValues) (i count next whole : ℕ) (c :
     → count * ways_count (lists_of (drop i columns)) ≡ whole → next ≡ count * length c.values.now
     → next * ways_count (lists_of (drop (i + 1) columns)) ≡ whole
 counted_step columns i count next whole c within is so_far more =
-    let rest : drop i columns ≡ c ∷ drop (i + 1) columns = drop_more columns i c within ∙ ap (λ (x : ColumnValues). x ∷ drop (i + 1) columns) (sym is) in
+    let rest : drop i columns ≡ c ∷ drop (i + 1) columns = drop_more columns i c within
+    ∙ ap (λ (x : ColumnValues). x ∷ drop (i + 1) columns) (sym is) in
     ap (λ n. n * ways_count (lists_of (drop (i + 1) columns))) more
     ∙ mul_assoc count (length c.values.now) (ways_count (lists_of (drop (i + 1) columns)))
     ∙ ap (λ (cs : List ColumnValues). count * ways_count (lists_of cs)) (sym rest) ∙ so_far
@@ -170,7 +183,8 @@ first_rows start front columns key n = record {
   begun = [];
 }
 
-pub one_more_row : (start : List (List ℕ)) (front : List ℕ) (columns : List ColumnValues) (key : List ℕ) (n ways : ℕ) (before after : Written)
+pub one_more_row : (start : List (List ℕ)) (front : List ℕ) (columns : List ColumnValues) (key : List ℕ) (n ways : ℕ)
+    (before after : Written)
     → n < ways → ways ≡ ways_count (lists_of columns) → before ≡ first_rows start front columns key n
     → after ≡ record {
       rows = before.rows ++ (((before.begun ++ front) ++ columns_bytes (directions_of columns) (way_at (lists_of columns) n)) ++ key) ∷ [];
@@ -186,8 +200,10 @@ one_more_row start front columns key n ways before after below all so_far more =
     let rows : (start ++ map (row_of_way front columns key) (take n (each_way lists))) ++ ((([] ++ front) ++ cols) ++ key) ∷ []
     ≡ start ++ map (row_of_way front columns key) (take (n + 1) (each_way lists)) =
     ap (λ (r : List ℕ). (start ++ map (row_of_way front columns key) (take n (each_way lists))) ++ r ∷ []) row
-    ∙ append_assoc start (map (row_of_way front columns key) (take n (each_way lists))) (row_of_way front columns key (get_or (each_way lists) n []) ∷ [])
-    ∙ ap (λ (rs : List (List ℕ)). start ++ rs) (sym (map_more (row_of_way front columns key) (each_way lists) n [] (subst (λ m. n < m) (sym (count_is lists)) inside))) in
+    ∙ append_assoc start (map (row_of_way front columns key) (take n (each_way lists))) (row_of_way front columns key (get_or
+    (each_way lists) n []) ∷ [])
+    ∙ ap (λ (rs : List (List ℕ)). start ++ rs) (sym (map_more (row_of_way front columns key) (each_way lists) n [] (subst (λ m. n < m)
+    (sym (count_is lists)) inside))) in
     more
     ∙ ap (λ (w : Written). record {
       rows = w.rows ++ (((w.begun ++ front) ++ cols) ++ key) ∷ [];
@@ -227,7 +243,8 @@ row_put w0 w1 w2 w3 w4 front values key first second third fourth =
 pub all_lawful : (columns : List ColumnValues) (n : ℕ) → ways_count (lists_of columns) ≤ n
     → All (All IsLawfulValue) (take n (each_way (lists_of columns))) → All (All IsLawfulValue) (each_way (lists_of columns))
 all_lawful columns n all so_far =
-    subst (All (All IsLawfulValue)) (take_all n (each_way (lists_of columns)) (subst (λ m. m ≤ n) (sym (count_is (lists_of columns))) all)) so_far
+    subst (All (All IsLawfulValue)) (take_all n (each_way (lists_of columns)) (subst (λ m. m ≤ n) (sym (count_is
+    (lists_of columns))) all)) so_far
 
 -- where the ways to take one of some values are lawful, the values are
 pub one_list_lawful : (values : List IndexValue) → All (All IsLawfulValue) (each_way (values ∷ [])) → All IsLawfulValue values

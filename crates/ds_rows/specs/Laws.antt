@@ -1,5 +1,6 @@
 -- What is claimed of the bytes of rows.
-use Rattle.std.specs.Prelude.{◌≡◌, ◌≢◌, ℕ, ◌+◌, ◌<◌, Bool, true, false, List, [], ◌∷◌, ◌++◌, All, Contains, Option, Some, None, get_or, length, IsTrue}
+use Rattle.std.specs.Prelude.{◌≡◌, ◌≢◌, ℕ, ◌+◌, ◌<◌, Bool, true, false, List, [], ◌∷◌, ◌++◌, All, Contains, Option, Some, None, get_or}
+use Rattle.std.specs.Prelude.{length, IsTrue}
 use Rattle.std.specs.declared.cmp.Ordering.{Ordering}
 use Rattle.std.specs.declared.cmp.Ordering.TheVariants.{Less, Equal, Greater}
 use Rattle.std.specs.Ordering.{ordering_then}
@@ -82,8 +83,8 @@ RowsAreItsOwn =
 -- different keys share no row.
 abbrev pub RowsAreApart : Type 0
 RowsAreApart =
-    (defs : List IndexDef) → AreDefs defs → (i j : Index) (r s : IndexRow) → IsRowOf defs i r → IsRowOf defs j s → index_row_bytes i r ≡ index_row_bytes j s
-    → (i ≡ j) × (r ≡ s)
+    (defs : List IndexDef) → AreDefs defs → (i j : Index) (r s : IndexRow) → IsRowOf defs i r → IsRowOf defs j s
+    → index_row_bytes i r ≡ index_row_bytes j s → (i ≡ j) × (r ≡ s)
 
 -- Within one index, namespace and kind the order of bytes is that of the ancestor, the columns and the key.
 abbrev pub RowsAreOrdered : Type 0
@@ -95,8 +96,8 @@ RowsAreOrdered =
 -- A row that begins as those of an index in a namespace and a kind do is one of them; and what stands between two that
 -- begin so begins so too.
 pub record RowsStandTogether : Type 0 where
-  pub only : (defs : List IndexDef) → AreDefs defs → (i j : Index) (namespace kind more : List ℕ) (r : IndexRow) → IsIndexOf defs i → IsRowOf defs j r
-      → index_row_bytes j r ≡ index_front i namespace kind ++ more
+  pub only : (defs : List IndexDef) → AreDefs defs → (i j : Index) (namespace kind more : List ℕ) (r : IndexRow)
+      → IsIndexOf defs i → IsRowOf defs j r → index_row_bytes j r ≡ index_front i namespace kind ++ more
       → (j ≡ i) × (r.parts.key.namespace ≡ namespace) × HoldsKind j (kind_of r.parts.key) kind
   pub between : (front a b x : List ℕ) → (bytes_cmp (front ++ a) x ≡ Greater → ⊥) → (bytes_cmp x (front ++ b) ≡ Greater → ⊥)
       → (more : List ℕ) × (x ≡ front ++ more)

@@ -1,5 +1,6 @@
 -- The rows of an entity are rows of its indexes, and end in its key.
-use Rattle.std.specs.Prelude.{◌≡◌, ℕ, ◌+◌, ◌<◌, Bool, true, false, List, [], ◌∷◌, ◌++◌, cond, filter, find, flat_map, length, map, get_or, All, Option, Some, None, bytes_eq, refl}
+use Rattle.std.specs.Prelude.{◌≡◌, ℕ, ◌+◌, ◌<◌, Bool, true, false, List, [], ◌∷◌, ◌++◌, cond, filter, find, flat_map, length, map, get_or}
+use Rattle.std.specs.Prelude.{All, Option, Some, None, bytes_eq, refl}
 use Rattle.std.specs.List.{enumerate_from}
 use Rattle.std.specs.Option.{option_map_or}
 use Rattle.std.proofs.Common.{suc, ap, sym, subst, ◌∙◌, append_assoc, arith, length-append}
@@ -17,7 +18,8 @@ use Rattle.ds_bytes.specs.Lawful.{IsElemOfBytes, IsKeyOfBytes, IsValueOfBytes, I
 use Rattle.ds_bytes.specs.LawfulLaws.{key_of_bytes, value_of_bytes}
 use Rattle.ds_bytes.specs.Rows.{IsRow}
 use Rattle.ds_rows.specs.IndexedValues.{kind_in, is_key_name, property_values, indexed_values, column_values, each_way}
-use Rattle.ds_rows.specs.Indexes.{Index, AllByKey, KindByKey, ByProperty, Composite, directions, has_ancestor, value_columns, property_indexes, composite_indexes, indexes_of}
+use Rattle.ds_rows.specs.Indexes.{Index, AllByKey, KindByKey, ByProperty, Composite, directions, has_ancestor, value_columns}
+use Rattle.ds_rows.specs.Indexes.{property_indexes, composite_indexes, indexes_of}
 use Rattle.ds_rows.specs.Indexable.{IsIndexable}
 use Rattle.ds_rows.specs.Rows.{IndexRow, paths_to, ancestors, row_ancestors, index_lists, row_with, index_rows}
 use Rattle.ds_rows.specs.Laws.{IsIndexOf, SuitsAncestor, IsRowOf}
@@ -26,7 +28,8 @@ use Rattle.ds_rows.specs.Laws.{IsIndexOf, SuitsAncestor, IsRowOf}
 
 pub each_map : {X Y : Type 0} (P : Y → Type 0) (f : X → Y) (xs : List X) → All (λ x. P (f x)) xs → All P (map f xs)
 each_map P f [] all = All-nil P
-each_map P f (x ∷ xs) all = All-cons P (f x) (map f xs) (All-head (λ x. P (f x)) x xs all) (each_map P f xs (All-tail (λ x. P (f x)) x xs all))
+each_map P f (x ∷ xs) all = All-cons P (f x) (map f xs) (All-head (λ x. P (f x)) x xs all) (each_map P f xs (All-tail (λ x. P
+    (f x)) x xs all))
 
 pub each_flat : {X Y : Type 0} (P : Y → Type 0) (f : X → List Y) (xs : List X) → All (λ x. All P (f x)) xs → All P (flat_map f xs)
 each_flat P f [] all = All-nil P
@@ -51,11 +54,12 @@ values_lawful values all = λ k d below. value_of_bytes _ (all k d below)
 named_lawful : (ps : List Property) (name : List ℕ) → All (λ p. All IsLawfulValue (property_values p)) ps
     → All IsValueOfBytes (option_map_or property_values (find (λ p. bytes_eq p.name name) ps) [])
 named_lawful [] name all = All-nil IsValueOfBytes
-named_lawful (p ∷ ps) name all = by (bytes_eq p.name name) (named_lawful ps name (All-tail (λ p. All IsLawfulValue (property_values p)) p ps all)) where
-  by : (b : Bool) → All IsValueOfBytes (option_map_or property_values (find (λ p. bytes_eq p.name name) ps) [])
-      → All IsValueOfBytes (option_map_or property_values (cond b (Some p) (find (λ p. bytes_eq p.name name) ps)) [])
-  by true others = values_lawful (property_values p) (All-head (λ p. All IsLawfulValue (property_values p)) p ps all)
-  by false others = others
+named_lawful (p ∷ ps) name all = by (bytes_eq p.name name) (named_lawful ps name (All-tail (λ p. All IsLawfulValue
+    (property_values p)) p ps all)) where
+      by : (b : Bool) → All IsValueOfBytes (option_map_or property_values (find (λ p. bytes_eq p.name name) ps) [])
+          → All IsValueOfBytes (option_map_or property_values (cond b (Some p) (find (λ p. bytes_eq p.name name) ps)) [])
+      by true others = values_lawful (property_values p) (All-head (λ p. All IsLawfulValue (property_values p)) p ps all)
+      by false others = others
 
 column_lawful : (e : EntityParts) (name : List ℕ) → IsIndexable e → All IsValueOfBytes (column_values e name)
 column_lawful e name p = by (is_key_name name) where
@@ -85,7 +89,8 @@ pub record IsWayOf (lists : List (List IndexValue)) (way : List IndexValue) : Ty
   pub long : length way ≡ length lists
   pub values : All IsValueOfBytes way
 
-one_longer : (values : List IndexValue) (more : List (List IndexValue)) (v : IndexValue) → IsValueOfBytes v → (ways : List (List IndexValue))
+one_longer : (values : List IndexValue) (more : List (List IndexValue)) (v : IndexValue) → IsValueOfBytes v
+    → (ways : List (List IndexValue))
     → All (IsWayOf more) ways → All (IsWayOf (values ∷ more)) (map (λ vs. v ∷ vs) ways)
 one_longer values more v p ways all =
     each_map (IsWayOf (values ∷ more)) (λ (vs : List IndexValue). v ∷ vs) ways (λ k d below. record {
@@ -109,7 +114,8 @@ paths_lawful (e ∷ es) all =
     let here = All-head IsElemOfBytes e es all in
     let others = paths_lawful es (All-tail IsElemOfBytes e es all) in
     All-cons (All IsElemOfBytes) (e ∷ []) (map (λ path. e ∷ path) (paths_to es)) (All-cons IsElemOfBytes e [] here (All-nil IsElemOfBytes))
-    (each_map (All IsElemOfBytes) (λ (path : List Elem). e ∷ path) (paths_to es) (λ k d below. All-cons IsElemOfBytes e _ here (others k d below)))
+    (each_map (All IsElemOfBytes) (λ (path : List Elem). e ∷ path) (paths_to es) (λ k d below. All-cons IsElemOfBytes e _ here
+    (others k d below)))
 
 ancestors_lawful : (k : KeyParts) → IsKeyOfBytes k → All IsKeyOfBytes (ancestors k)
 ancestors_lawful k p =
@@ -128,7 +134,8 @@ ancestors_suit i k p = by (has_ancestor i) where
 abbrev pub IsOwn : List IndexDef → EntityParts → Index → IndexRow → Type 0
 IsOwn defs e i r = IsRowOf defs i r × (r.parts.key ≡ e.key)
 
-pub own_rows : (defs : List IndexDef) (e : EntityParts) (i : Index) → IsIndexable e → IsIndexOf defs i → All (IsOwn defs e i) (index_rows e i)
+pub own_rows : (defs : List IndexDef) (e : EntityParts) (i : Index) → IsIndexable e → IsIndexOf defs i
+    → All (IsOwn defs e i) (index_rows e i)
 own_rows defs e i p index =
     let key : IsKeyOfBytes e.key = key_of_bytes e.key p.key in
     let suit = ancestors_suit i e.key key in
@@ -156,7 +163,8 @@ placed_from front (d ∷ defs) n long =
     let longer : length (front ++ d ∷ []) ≡ n + 1 = omega (arith, length-append front (d ∷ [])) in
     let below : n < length (front ++ d ∷ defs) = omega (arith, length-append front (d ∷ defs)) in
     All-cons (StandsIn (front ++ d ∷ defs)) (n, d) (enumerate_from (n + 1) defs) (below, get_or_at front d defs d n long)
-    (subst (λ (ds : List IndexDef). All (StandsIn ds) (enumerate_from (n + 1) defs)) whole (placed_from (front ++ d ∷ []) defs (n + 1) longer))
+    (subst (λ (ds : List IndexDef). All (StandsIn ds) (enumerate_from (n + 1) defs)) whole (placed_from (front ++ d ∷ []) defs
+    (n + 1) longer))
 
 pub own_indexes : (defs : List IndexDef) (e : EntityParts) → All (IsIndexOf defs) (indexes_of defs e)
 own_indexes defs e =
@@ -167,7 +175,8 @@ own_indexes defs e =
     let composites : All (IsIndexOf defs) (composite_indexes defs e) =
     each_map (IsIndexOf defs) (λ (placed : ℕ × IndexDef). Composite placed.0 placed.1)
     (filter (λ (placed : ℕ × IndexDef). kind_in placed.1.kind e.key) (enumerate_from 0 defs))
-    (each_kept (StandsIn defs) (λ (placed : ℕ × IndexDef). kind_in placed.1.kind e.key) (enumerate_from 0 defs) (placed_from [] defs 0 refl)) in
+    (each_kept (StandsIn defs) (λ (placed : ℕ × IndexDef). kind_in placed.1.kind e.key) (enumerate_from 0 defs)
+    (placed_from [] defs 0 refl)) in
     All-cons (IsIndexOf defs) AllByKey (KindByKey ∷ (flat_map property_indexes e.properties ++ composite_indexes defs e)) tt
     (All-cons (IsIndexOf defs) KindByKey (flat_map property_indexes e.properties ++ composite_indexes defs e) tt
     (All-append (IsIndexOf defs) (flat_map property_indexes e.properties) (composite_indexes defs e) properties composites))

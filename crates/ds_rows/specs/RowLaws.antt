@@ -1,5 +1,6 @@
 -- What the bytes of a row tell: the index that it is of, the entity, and the order of the rows of an index.
-use Rattle.std.specs.Prelude.{◌≡◌, ℕ, zero, suc, ◌+◌, ◌*◌, ◌/◌, ◌%◌, ◌^◌, ◌<◌, Bool, true, false, List, [], ◌∷◌, ◌++◌, length, Option, Some, None, refl}
+use Rattle.std.specs.Prelude.{◌≡◌, ℕ, zero, suc, ◌+◌, ◌*◌, ◌/◌, ◌%◌, ◌^◌, ◌<◌, Bool, true, false, List, [], ◌∷◌, ◌++◌, length, Option}
+use Rattle.std.specs.Prelude.{Some, None, refl}
 use Rattle.std.proofs.Common.{ap, sym, ◌∙◌, append_assoc, append-nil, subst, arith}
 use Rattle.std.specs.declared.cmp.Ordering.{Ordering}
 use Rattle.std.specs.declared.cmp.Ordering.TheVariants.{Less, Equal, Greater}
@@ -52,7 +53,8 @@ same_four a b c d a' b' c' d' xs ys e =
 -- the place of a definition is read in one way
 four_bytes-reads_once : (m n : ℕ) (a b : List ℕ) → m < 2 ^ 32 → n < 2 ^ 32 → four_bytes m ++ a ≡ four_bytes n ++ b → (m ≡ n) × (a ≡ b)
 four_bytes-reads_once m n a b p q e =
-    let four = same_four (m / 2 ^ 24 % 256) (m / 2 ^ 16 % 256) (m / 2 ^ 8 % 256) (m % 256) (n / 2 ^ 24 % 256) (n / 2 ^ 16 % 256) (n / 2 ^ 8 % 256) (n % 256) a b e in
+    let four = same_four (m / 2 ^ 24 % 256) (m / 2 ^ 16 % 256) (m / 2 ^ 8 % 256) (m % 256) (n / 2 ^ 24 % 256) (n / 2 ^ 16 % 256)
+    (n / 2 ^ 8 % 256) (n % 256) a b e in
     (sym (four_bytes-joined m p) ∙ four.0 ∙ four_bytes-joined n q, four.1)
 
 -- one definition stands at a place
@@ -75,7 +77,8 @@ texts_three s t u s' t' u' a b e =
     (first.0, others.0, others.1, others.2)
 
 -- What stands in front tells the index, the namespace, and where the index is of a kind, the kind.
-pub fronts_apart : (defs : List IndexDef) → length defs < 2 ^ 32 → (i j : Index) (ns kind ns' kind' a b : List ℕ) → IsIndexOf defs i → IsIndexOf defs j
+pub fronts_apart : (defs : List IndexDef) → length defs < 2 ^ 32 → (i j : Index) (ns kind ns' kind' a b : List ℕ) → IsIndexOf defs i
+    → IsIndexOf defs j
     → index_front i ns kind ++ a ≡ index_front j ns' kind' ++ b → IsSameIndex i j ns kind ns' kind' a b
 fronts_apart defs few AllByKey AllByKey ns kind ns' kind' a b p q e =
     let first = escaped-reads_once ns ns' a b (tails 0 0 (escaped ns ++ a) (escaped ns' ++ b) e) in
@@ -173,19 +176,22 @@ ancestors_apart false (Some x) y a b p q e = absurd p
 ancestors_apart false None (Some y) a b p q e = absurd q
 ancestors_apart false None None a b p q e = (refl, e)
 
-rests_apart : (defs : List IndexDef) (i : Index) (r s : IndexRow) → IsRowOf defs i r → IsRowOf defs i s → row_rest i r ≡ row_rest i s → r ≡ s
+rests_apart : (defs : List IndexDef) (i : Index) (r s : IndexRow) → IsRowOf defs i r → IsRowOf defs i s → row_rest i r ≡ row_rest i s → r
+    ≡ s
 rests_apart defs i r s p q e =
     let first = ancestors_apart (has_ancestor i) r.ancestor s.ancestor (row_bytes (directions i) (key_descends i) r.parts)
     (row_bytes (directions i) (key_descends i) s.parts) p.ancestor q.ancestor e in
     let parts = row_bytes-reads_once (directions i) (key_descends i) r.parts s.parts [] [] p.parts q.parts
-    (append-nil (row_bytes (directions i) (key_descends i) r.parts) ∙ first.1 ∙ sym (append-nil (row_bytes (directions i) (key_descends i) s.parts))) in
+    (append-nil (row_bytes (directions i) (key_descends i) r.parts) ∙ first.1
+    ∙ sym (append-nil (row_bytes (directions i) (key_descends i) s.parts))) in
     λ t. record { ancestor = first.0 t; parts = parts.0 t }
 
 -- Rows of different indexes differ, and in one index different rows do: so entities with different keys share none.
 pub rows_apart : (defs : List IndexDef) → AreDefs defs → (i j : Index) (r s : IndexRow) → IsRowOf defs i r → IsRowOf defs j s
     → index_row_bytes i r ≡ index_row_bytes j s → (i ≡ j) × (r ≡ s)
 rows_apart defs kept i j r s p q e =
-    let front = fronts_apart defs kept.few i j r.parts.key.namespace (kind_of r.parts.key) s.parts.key.namespace (kind_of s.parts.key) (row_rest i r)
+    let front = fronts_apart defs kept.few i j r.parts.key.namespace (kind_of r.parts.key) s.parts.key.namespace (kind_of s.parts.key)
+    (row_rest i r)
     (row_rest j s) p.index q.index e in (
       front.index,
       rests_apart defs i r s p (subst (λ (k : Index). IsRowOf defs k s) (sym front.index) q)
@@ -219,7 +225,8 @@ rows_ordered defs i r s p q namespaces kinds =
 -- ---- rows that stand together
 
 -- a row that begins as those of an index do is one of them
-pub front_tells : (defs : List IndexDef) → AreDefs defs → (i j : Index) (namespace kind more : List ℕ) (r : IndexRow) → IsIndexOf defs i → IsRowOf defs j r
+pub front_tells : (defs : List IndexDef) → AreDefs defs → (i j : Index) (namespace kind more : List ℕ) (r : IndexRow) → IsIndexOf defs i
+    → IsRowOf defs j r
     → index_row_bytes j r ≡ index_front i namespace kind ++ more
     → (j ≡ i) × (r.parts.key.namespace ≡ namespace) × HoldsKind j (kind_of r.parts.key) kind
 front_tells defs kept i j namespace kind more r p q e =
@@ -246,5 +253,6 @@ between (c ∷ front) a b (y ∷ x) low high = by (nat_cmp c y) refl (nat_cmp y 
   by Equal e o' e' rest =
       let same : c ≡ y = nat_cmp-IsAntisymmetric c y e in
       let found = rest (λ g. low (ap (λ (r : Ordering). ordering_then r (bytes_cmp (front ++ a) x)) e ∙ g))
-      (λ g. high (ap (λ (r : Ordering). ordering_then r (bytes_cmp x (front ++ b))) (ap (λ n. nat_cmp n c) (sym same) ∙ nat_cmp-self c) ∙ g)) in
+      (λ g. high (ap (λ (r : Ordering). ordering_then r (bytes_cmp x (front ++ b))) (ap (λ n. nat_cmp n c) (sym same) ∙ nat_cmp-self c)
+      ∙ g)) in
       (found.0, λ t. sym same t ∷ found.1 t)

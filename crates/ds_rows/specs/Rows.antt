@@ -8,7 +8,8 @@ use Rattle.ds_indexdef.specs.declared.IndexDef.{IndexDef}
 use Rattle.ds_bytes.specs.Encoding.{escaped, key_bytes}
 use Rattle.ds_bytes.specs.Rows.{RowParts, row_bytes}
 use Rattle.ds_rows.specs.IndexedValues.{kind_of, indexed_values, column_values, each_way}
-use Rattle.ds_rows.specs.Indexes.{Index, AllByKey, KindByKey, ByProperty, Composite, directions, key_descends, has_ancestor, value_columns, indexes_of}
+use Rattle.ds_rows.specs.Indexes.{Index, AllByKey, KindByKey, ByProperty, Composite, directions, key_descends, has_ancestor}
+use Rattle.ds_rows.specs.Indexes.{value_columns, indexes_of}
 
 -- ---- rows as values and keys
 

@@ -1,5 +1,6 @@
 -- What tables stand for: versions of entities, and at each stamp the rows of those that are seen.
-use Rattle.std.specs.Prelude.{ℕ, Bool, true, ◌&&◌, not, nat_le, nat_lt, List, Option, Some, None, All, count_by, filter, find, flat_map, map}
+use Rattle.std.specs.Prelude.{ℕ, Bool, true, ◌&&◌, not, nat_le, nat_lt, List, Option, Some, None, All, count_by, filter, find, flat_map}
+use Rattle.std.specs.Prelude.{map}
 use Rattle.std.specs.List.{IsDistinct}
 use Rattle.std.specs.Ordering.{is_lt}
 use Rattle.ds_base.specs.Keys.{KeyParts}

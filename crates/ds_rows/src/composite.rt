@@ -2,7 +2,8 @@
 ghost use Rattle.std.specs.Prelude.{◌≡◌, [], ◌∷◌, ◌++◌, cond, flat_map, map, IfOk, OnOk};
 ghost use Rattle.ds_base.specs.declared.index_value.IndexValue.TheVariants as class;
 ghost use Rattle.ds_rows.specs.IndexedValues.{kind_of, kind_in, property_values, column_values};
-ghost use Rattle.ds_rows.specs.Indexes.{Index, Composite, composite_indexes, value_columns, last_key_descends, has_ancestor, directions, key_descends};
+ghost use Rattle.ds_rows.specs.Indexes.{Index, Composite, composite_indexes, value_columns, last_key_descends};
+ghost use Rattle.ds_rows.specs.Indexes.{has_ancestor, directions, key_descends};
 ghost use Rattle.ds_rows.specs.Rows.{rows_in, ancestors, index_front, index_lists};
 ghost use Rattle.ds_bytes.specs.Encoding.{key_encoding};
 ghost use Rattle.ds_base.specs.Entities.{EntityParts};

@@ -51,7 +51,11 @@ fn put_key_rows(
 ) -> Result<(), NoMemory>
     requires encoded { key.now ≡ key_bytes entity.now.key }
     requires begun { rows.old.begun ≡ [] }
-    ensures { OnOk result (rows.new ≡ record { rows = rows.old.rows ++ (rows_in entity.now AllByKey ++ rows_in entity.now KindByKey); begun = [] }) }
+    ensures { OnOk result (rows.new ≡ record {
+      rows = rows.old.rows
+          ++ (rows_in entity.now AllByKey ++ rows_in entity.now KindByKey);
+      begun = [];
+    }) }
 {
     put_all_front(entity.key(), front)?;
     put_rows(front.bytes(), &[], key, rows)?;
@@ -95,7 +99,11 @@ fn put_both(
     requires theirs { values.now ≡ indexed_values entity.now property.now.name }
     requires encoded { key.now ≡ key_bytes entity.now.key }
     requires begun { rows.old.begun ≡ [] }
-    ensures put { OnOk result (rows.new ≡ record { rows = rows.old.rows ++ flat_map (rows_in entity.now) (property_indexes property.now); begun = [] }) }
+    ensures put { OnOk result (rows.new ≡ record {
+      rows = rows.old.rows
+          ++ flat_map (rows_in entity.now) (property_indexes property.now);
+      begun = [];
+    }) }
     ensures lawful { OnOk result (All IsLawfulValue values.now) }
 {
     put_property(entity, &property.name, false, values, key, front, rows)?;
@@ -115,7 +123,11 @@ fn put_property(
     requires theirs { values.now ≡ indexed_values entity.now name.now }
     requires encoded { key.now ≡ key_bytes entity.now.key }
     requires begun { rows.old.begun ≡ [] }
-    ensures put { OnOk result (rows.new ≡ record { rows = rows.old.rows ++ rows_in entity.now (ByProperty name.now descending); begun = [] }) }
+    ensures put { OnOk result (rows.new ≡ record {
+      rows = rows.old.rows
+          ++ rows_in entity.now (ByProperty name.now descending);
+      begun = [];
+    }) }
     ensures lawful { OnOk result (All IsLawfulValue values.now) }
 {
     put_property_front(name, descending, entity.key(), front)?;

@@ -44,9 +44,11 @@ pub trait Tables {
     ) -> Option<&[u8]>
         requires its_ledger { L.name ≡ ledger }
         requires kept { IsTrue (keeps self.now at) }
-        ensures finds_the_first { option_copied result ≡ first_row at_least.now (option_copied below.entry) (seen_rows (definitions self.now) at (versions self.now)) }
+        ensures finds_the_first { option_copied result
+            ≡ first_row at_least.now (option_copied below.entry) (seen_rows (definitions self.now) at (versions self.now)) }
         ensures steps_bounded { steps.new ≤ steps.old + 1
-            + rows_passed at_least.now (option_copied below.entry) (option_copied result) (unseen_rows (definitions self.now) at (versions self.now)) }
+            + rows_passed at_least.now (option_copied below.entry) (option_copied result)
+            (unseen_rows (definitions self.now) at (versions self.now)) }
         ensures steps_stay_counted { steps.old ≤ steps.new }
         ensures stands { AreTables (definitions self.now) at (versions self.now) };
 
@@ -62,9 +64,11 @@ pub trait Tables {
     ) -> Option<&[u8]>
         requires its_ledger { L.name ≡ ledger }
         requires kept { IsTrue (keeps self.now at) }
-        ensures finds_the_first { option_copied result ≡ first_row at_least.now (option_copied below.entry) (seen_rows (definitions self.now) at (versions self.now)) }
+        ensures finds_the_first { option_copied result
+            ≡ first_row at_least.now (option_copied below.entry) (seen_rows (definitions self.now) at (versions self.now)) }
         ensures steps_bounded { steps.new ≤ steps.old + 1
-            + rows_passed at_least.now (option_copied below.entry) (option_copied result) (unseen_rows (definitions self.now) at (versions self.now)) }
+            + rows_passed at_least.now (option_copied below.entry) (option_copied result)
+            (unseen_rows (definitions self.now) at (versions self.now)) }
         ensures steps_stay_counted { steps.old ≤ steps.new }
         ensures stands { AreTables (definitions self.now) at (versions self.now) }
     {

@@ -13,7 +13,8 @@ pub returns : goal.returns
 returns c =
     let e = c.args.entity.now in
     let d = c.args.def.now in
-    let descends : c.last_key_descends.result ≡ last_key_descends d.columns = c.last_key_descends.ensures ∙ ap last_key_descends c.as_slice-3.ensures in
+    let descends : c.last_key_descends.result ≡ last_key_descends d.columns = c.last_key_descends.ensures
+    ∙ ap last_key_descends c.as_slice-3.ensures in
     let last : c.bytes.result.now ≡ key_encoding (last_key_descends d.columns) e.key =
     c.bytes.ensures ∙ c.in_ok-encode_key.ensures.ok
     ∙ ap (λ (b : BufferParts). b.bytes ++ key_encoding c.last_key_descends.result c.key-2.result.now) c.new-key.ensures

@@ -19,13 +19,19 @@ loop-place-preserved c =
           (subst (λ n. i < n) (c.len-place-end.ensures ∙ ap length c.elems.ensures.value) c.loop-place-test.true) kept front_is
           c.loop-place.invariant.so_far
           (c.in_ok-put_rows.ensures.put
-          ∙ ap (λ (bs : List ℕ). record { rows = c.loop-place.rows.rows ++ map (row_of_way bs c.args.columns.now c.args.last.now) (each_way (lists_of c.args.columns.now)); begun = [] }) c.bytes.ensures);
+          ∙ ap (λ (bs : List ℕ). record {
+            rows = c.loop-place.rows.rows ++ map (row_of_way bs c.args.columns.now c.args.last.now)
+                (each_way (lists_of c.args.columns.now));
+            begun = [];
+          }) c.bytes.ensures);
       front = ap (λ (bs : List ℕ). take (length c.bytes-begun.result.now) bs) (front_is ∙ ap (λ (bs : List ℕ). bs ++ more) kept)
           ∙ take_at c.args.front.now.bytes more (length c.bytes-begun.result.now) (ap length (sym c.bytes-begun.ensures));
     }
 
 pub returns : goal.returns
 returns c =
-    all_ancestors c.args.rows.now.rows (ancestor_rows c.args.front.now.bytes c.args.columns.now c.args.last.now) c.args.key.now c.loop-place.place
+    all_ancestors c.args.rows.now.rows
+    (ancestor_rows c.args.front.now.bytes c.args.columns.now c.args.last.now) c.args.key.now c.loop-place.place
     c.loop-place.rows
-    (subst (λ n. n ≤ c.loop-place.place) (c.len-place-end.ensures ∙ ap length c.elems.ensures.value) c.loop-place-test.false) c.loop-place.invariant.so_far
+    (subst (λ n. n ≤ c.loop-place.place) (c.len-place-end.ensures
+    ∙ ap length c.elems.ensures.value) c.loop-place-test.false) c.loop-place.invariant.so_far

@@ -8,4 +8,5 @@ use Rattle.ds_rows.proofs.count.composite_counts.Given as goal
 
 abbrev pub invariant-loop-def : goal.invariant-loop-def
 invariant-loop-def l =
-    l.count ≡ min (0 + sum_by (λ d. cond (kind_in d.kind l.entity.key) (composite_count l.entity d) 0) (take l.def-index l.defs)) greatest_told
+    l.count ≡ min (0 + sum_by (λ d. cond (kind_in d.kind l.entity.key) (composite_count l.entity d) 0)
+    (take l.def-index l.defs)) greatest_told

@@ -12,13 +12,17 @@ pub returns : goal.returns
 returns c =
     let e = c.args.entity.now in
     let theirs : c.as_slice.result.now ≡ map property_values e.properties =
-    c.as_slice.ensures.value ∙ c.in_ok-lists.ensures ∙ ap (map property_values) (c.as_slice-properties.ensures ∙ c.properties.ensures.value) in
+    c.as_slice.ensures.value ∙ c.in_ok-lists.ensures ∙ ap (map property_values) (c.as_slice-properties.ensures
+    ∙ c.properties.ensures.value) in
     let single : c.single_count-single.result ≡ min (1 + sum_by (λ p. 2 * length (property_values p)) e.properties) greatest_told =
-    c.single_count-single.ensures ∙ ap (λ (ls : List (List IndexValue)). min (1 + sum_by (λ values. 2 * length values) ls) greatest_told) theirs
+    c.single_count-single.ensures
+    ∙ ap (λ (ls : List (List IndexValue)). min (1 + sum_by (λ values. 2 * length values) ls) greatest_told) theirs
     ∙ ap (λ n. min (1 + n) greatest_told) (two_each e.properties) in
     let given : c.composite_counts-composite.result
-    ≡ min (sum_by (λ d. cond (kind_in d.kind e.key) (composite_count e d) 0) c.as_slice-2.result.now) greatest_told = c.composite_counts-composite.ensures in
+    ≡ min (sum_by (λ d. cond (kind_in d.kind e.key)
+    (composite_count e d) 0) c.as_slice-2.result.now) greatest_told = c.composite_counts-composite.ensures in
     let composite = given
-    ∙ ap (λ (ds : List IndexDef). min (sum_by (λ d. cond (kind_in d.kind e.key) (composite_count e d) 0) ds) greatest_told) c.as_slice-2.ensures.value in
+    ∙ ap (λ (ds : List IndexDef). min (sum_by (λ d. cond (kind_in d.kind e.key)
+    (composite_count e d) 0) ds) greatest_told) c.as_slice-2.ensures.value in
     c.checked.ensures (row_count c.args.defs.now e)
     (counts_joined _ _ _ _ _ _ single composite c.saturating_add.ensures c.min.ensures)

@@ -9,10 +9,12 @@ use Rattle.ds_rows.proofs.indexed.values_named.Goals as goal
 
 pub returns-in-Ok : goal.returns-in-Ok
 returns-in-Ok c =
-    let named = c.in-Ok.ensures.position (λ p. bytes_cmp p.name c.args.name.now) (always_returns_same _ _ _ (λ a r g called. search rules)) in
+    let named = c.in-Ok.ensures.position (λ p. bytes_cmp p.name c.args.name.now) (always_returns_same _ _ _
+    (λ a r g called. search rules)) in
     λ e same.
     c.as_slice.ensures
-    ∙ named_at c.args.properties.now c.args.lists.now c.in-Ok.place c.args.name.now c.index-lists-place.result c.requires.ascending c.requires.theirs
+    ∙ named_at c.args.properties.now c.args.lists.now c.in-Ok.place c.args.name.now c.index-lists-place.result c.requires.ascending
+    c.requires.theirs
     c.in-Ok.ensures.bound named c.index-lists-place.is e same
 
 pub returns-in-Err : goal.returns-in-Err

@@ -14,7 +14,8 @@ pub returns-clause-put : goal.returns-clause-put
 returns-clause-put c =
     on_ok c.put_rows.result
     (rows_put c.args.rows.now c.put_rows.new.rows _ _
-    (rows_without c.args.entity.now (ByProperty c.args.name.now c.args.descending) c.bytes.result.now c.args.key.now (c.args.values.now ∷ [])
+    (rows_without c.args.entity.now (ByProperty c.args.name.now c.args.descending) c.bytes.result.now c.args.key.now
+    (c.args.values.now ∷ [])
     (c.args.descending ∷ []) refl
     (c.bytes.ensures ∙ c.in_ok-put_property_front.ensures
     ∙ ap (λ (k : KeyParts). index_front (ByProperty c.args.name.now c.args.descending) k.namespace (kind_of k)) c.key.ensures.value)

@@ -7,12 +7,14 @@ use Rattle.ds_rows.proofs.ways.put_way.Goals as goal
 
 pub nonzero_div-stride : goal.nonzero_div-stride
 nonzero_div-stride c =
-    (left_step c.args.columns.now c.loop-column.column-index c.loop-column.stride c.loop-column.left c.column-item.result c.loop-column-test.true
+    (left_step c.args.columns.now c.loop-column.column-index c.loop-column.stride c.loop-column.left c.column-item.result
+    c.loop-column-test.true
     c.column-item.is c.loop-column.invariant.stride c.loop-column.invariant.below).some
 
 pub bounds-column-left : goal.bounds-column-left
 bounds-column-left c =
-    let s = left_step c.args.columns.now c.loop-column.column-index c.loop-column.stride c.loop-column.left c.column-item.result c.loop-column-test.true
+    let s = left_step c.args.columns.now c.loop-column.column-index c.loop-column.stride c.loop-column.left c.column-item.result
+    c.loop-column-test.true
     c.column-item.is c.loop-column.invariant.stride c.loop-column.invariant.below in
     subst (λ n. c.loop-column.left / n < length c.column-item.result.values.now) (sym s.next) s.within
 
@@ -27,11 +29,13 @@ loop-column-preserved c =
     c.loop-column.invariant.below in
     let inside : left / next < length column.values.now = subst (λ n. left / n < length column.values.now) (sym s.next) s.within in
     let v = get_or column.values.now (left / next) c.index-column-left.result in
-    let read : v ≡ get_or column.values.now (left / next) v = get_or_default column.values.now (left / next) c.index-column-left.result v inside in
+    let read : v ≡ get_or column.values.now (left / next) v = get_or_default column.values.now
+    (left / next) c.index-column-left.result v inside in
     record {
       rows = ap (λ (w : Written). w.rows) c.in_ok-append_value.ensures.put ∙ c.loop-column.invariant.rows;
       so_far = ap (λ (w : Written). behind w.begun (drop (i + 1) columns) (left % next)) c.in_ok-append_value.ensures.put
-          ∙ value_put columns i left next (left / next) column v c.loop-column.rows.begun c.loop-column-test.true c.column-item.is s.next refl inside
+          ∙ value_put columns i left next
+          (left / next) column v c.loop-column.rows.begun c.loop-column-test.true c.column-item.is s.next refl inside
           read
           ∙ c.loop-column.invariant.so_far;
       lawful = λ others. c.loop-column.invariant.lawful

@@ -10,7 +10,8 @@ abbrev pub invariant-loop-column : goal.invariant-loop-column
 invariant-loop-column l = record {
   rows : l.rows.rows ≡ l.initial.rows.rows;
   so_far : behind l.rows.begun (drop l.column-index l.columns) l.left ≡ behind l.initial.rows.begun l.columns l.initial.left;
-  lawful : All IsLawfulValue (way_at (lists_of (drop l.column-index l.columns)) l.left) → All IsLawfulValue (way_at (lists_of l.columns) l.initial.left);
+  lawful : All IsLawfulValue (way_at (lists_of (drop l.column-index l.columns)) l.left)
+      → All IsLawfulValue (way_at (lists_of l.columns) l.initial.left);
   stride : l.stride ≡ ways_count (lists_of (drop l.column-index l.columns));
   below : l.left < l.stride;
 }
