@@ -24,8 +24,8 @@ fn are(rows: &RowSet, expected: &[&[u8]]) -> bool {
     rows.len() == expected.len() && rows.get(expected.len()).is_none()
 }
 
-/// The property n with the number 5 twice, or unindexed.
-fn fives(alloc: Global, indexed: bool) -> Result<Properties, Fail> {
+/// The entity of this key and one property n, with the number 5 twice.
+fn fives(alloc: Global, key: Key, indexed: bool) -> Result<Entity, Fail> {
     let values = Values::from(vec![in alloc; Value::Int(5), Value::Date(5)]?);
     let name = TextString::of(alloc, "n")?;
     let property = Property {
@@ -33,7 +33,8 @@ fn fives(alloc: Global, indexed: bool) -> Result<Properties, Fail> {
         indexed,
         values,
     };
-    Ok(Properties::from(vec![in alloc; property]?))
+    let properties = Properties::from(vec![in alloc; property]?);
+    Ok(Entity::new(key, properties)?)
 }
 
 /// An ancestor definition over n, descending.
@@ -57,7 +58,7 @@ fn child(alloc: Global, namespace: &str) -> Result<Key, Fail> {
 
 /// In the default namespace, without an ancestor: a number that stands twice has one row in each index.
 fn writes_each_row_once(alloc: Global) -> Result<bool, Fail> {
-    let entity = Entity::new(key(alloc)?, fives(alloc, true)?)?;
+    let entity = fives(alloc, key(alloc)?, true)?;
     let rows = rows_of(alloc, &Defs::new(alloc), &entity)?;
     Ok(are(
         &rows,
@@ -73,7 +74,7 @@ fn writes_each_row_once(alloc: Global) -> Result<bool, Fail> {
 /// In another namespace, under an ancestor definition: the namespace stands twice in each row, in that of the composite index
 /// three times, and there is one such row for the group and one for the entity itself.
 fn writes_rows_of_ancestors(alloc: Global) -> Result<bool, Fail> {
-    let entity = Entity::new(child(alloc, "s")?, fives(alloc, true)?)?;
+    let entity = fives(alloc, child(alloc, "s")?, true)?;
     let rows = rows_of(alloc, &by_ancestor(alloc)?, &entity)?;
     Ok(are(
         &rows,
@@ -96,7 +97,7 @@ fn writes_rows_of_ancestors(alloc: Global) -> Result<bool, Fail> {
 
 /// An unindexed property has no row, and a definition of it none either.
 fn writes_no_unindexed_row(alloc: Global) -> Result<bool, Fail> {
-    let entity = Entity::new(key(alloc)?, fives(alloc, false)?)?;
+    let entity = fives(alloc, key(alloc)?, false)?;
     let rows = rows_of(alloc, &by_ancestor(alloc)?, &entity)?;
     Ok(rows.len() == 2)
 }
