@@ -18,7 +18,7 @@ pub(crate) fn key(alloc: Global) -> Result<Key, Fail> {
     Ok(Key::new(alloc, Elems::from(vec![in alloc; named(alloc, "T", "a")?]?))?)
 }
 
-/// The property of this name with the numbers from 1 on, so many.
+/// The property of this name with so many numbers, from 0 on.
 pub(crate) fn numbers(alloc: Global, name: TextString, count: i64) -> Result<Property, AllocError>
     ensures { IfOk result (λ p. p.name ≡ name) }
 {
