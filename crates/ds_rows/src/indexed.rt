@@ -1,0 +1,91 @@
+//! What the indexes hold of an entity.
+ghost use Rattle.std.specs.Prelude.{◌≡◌, ◌∷◌, [], map, fold, filter_map, IsTrue, IfOk, OnOk};
+ghost use Rattle.ds_base.specs.Entities.{EntityParts, names_ascend};
+ghost use Rattle.ds_base.specs.IndexOrder.{index_value_cmp};
+ghost use Rattle.ds_base.specs.Values.{index_of};
+ghost use Rattle.std.specs.BTreeSet.{insert_key};
+ghost use Rattle.ds_rows.specs.IndexedValues.{kind_of, property_values, indexed_values, is_key_name};
+
+use ds_base::{IndexValue, IndexValues, Key, NoMemory, Property, TextString, Value};
+use std::alloc::Global;
+use std::collections::BTreeSet;
+
+/// The kind of the key's last element.
+pub(crate) fn kind_of(key: &Key) -> &[u8]
+    ensures { result.now ≡ kind_of key.now }
+{
+    match key.elems().as_slice().last() {
+        Some(elem) => elem.kind.bytes(),
+        None => &[],
+    }
+}
+
+/// Whether the name is that of the column of keys.
+pub(crate) fn is_key_name(name: &TextString) -> bool
+    ensures { result ≡ is_key_name name.now }
+{
+    name.text() == "__key__"
+}
+
+/// The values of each property that its indexes hold, each once, ascending, in the order of the properties.
+pub(crate) fn indexed_lists(
+    alloc: Global,
+    properties: &[Property],
+) -> Result<Vec<IndexValues>, NoMemory>
+    ensures { IfOk result (λ lists. lists.items ≡ map property_values properties.now) }
+{
+    let mut lists = Vec::with_capacity(alloc, properties.len())?;
+    for property in properties {
+        let values = property_values(alloc, property)?;
+        lists.push(values)?;
+    }
+    Ok(lists)
+}
+
+/// The values of a property that its indexes hold, each once, ascending. It takes no memory where the property isn't indexed.
+fn property_values(alloc: Global, property: &Property) -> Result<IndexValues, NoMemory>
+    ensures { IfOk result (λ values. values ≡ property_values property.now) }
+{
+    if !property.indexed {
+        return Ok(IndexValues::new(alloc));
+    }
+    let mut distinct = BTreeSet::new(alloc);
+    for value in property.values.as_slice() {
+        insert_indexed(alloc, value, &mut distinct)?;
+    }
+    let mut ascending = Vec::with_capacity(alloc, distinct.len())?;
+    for value in distinct {
+        ascending.push(value)?;
+    }
+    Ok(IndexValues::from(ascending))
+}
+
+/// Puts what an index holds of the value among the others, unless it is there.
+fn insert_indexed(
+    alloc: Global,
+    value: &Value,
+    distinct: &mut BTreeSet<IndexValue>,
+) -> Result<(), NoMemory>
+    ensures { OnOk result (distinct.new.keys ≡ fold (insert_key index_value_cmp) distinct.old.keys (filter_map index_of (value.now ∷ []))) }
+{
+    if let Some(indexed) = value.index(alloc)? {
+        distinct.insert(indexed)?;
+    }
+    Ok(())
+}
+
+/// The indexed values of the property of this name, out of those of all properties; none where there is no such property.
+pub(crate) fn values_named<'a>(
+    properties: &[Property],
+    lists: &'a [IndexValues],
+    name: &TextString,
+) -> &'a [IndexValue]
+    requires ascending { IsTrue (names_ascend properties.now) }
+    requires theirs { lists.now ≡ map property_values properties.now }
+    ensures { (e : EntityParts) → e.properties ≡ properties.now → result.now ≡ indexed_values e name.now }
+{
+    match properties.binary_search_by(|p| p.name.cmp(name)) {
+        Ok(place) => lists[place].as_slice(),
+        Err(_) => &[],
+    }
+}
