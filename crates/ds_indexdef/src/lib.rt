@@ -10,8 +10,18 @@ ghost use Rattle.ds_indexdef.specs.Definitions.{same_def};
 ghost use Rattle.ds_indexdef.specs.DefinitionLaws.{same_def-equiv};
 
 pub mod defs;
+mod form;
+mod lines;
+mod part;
+pub mod read;
+mod reading;
+mod refused;
+pub mod write;
 
 pub use defs::Defs;
+pub use read::read_yaml;
+pub use refused::YamlRefused;
+pub use write::{can_write, write_yaml};
 use ds_base::{Columns, TextString, TryCopy};
 use std::alloc::{AllocError, Global};
 
