@@ -1,3 +1,5 @@
 pub mod ColumnLaws
+pub mod GrammarLaws
 pub mod LineLaws
 pub mod ReadLaws
+pub mod WriteLaws

@@ -16,7 +16,7 @@ says n what = record { number = n; form = what }
 
 -- no column has this name
 abbrev pub lack : List Column → List ℕ → Bool
-lack columns name = list_all (λ c. not (bytes_eq c.name name)) columns
+lack columns name = list_all (λ c. not (bytes_eq name c.name)) columns
 
 -- no property stands twice, and `__key__` only as the last
 abbrev pub are_orderly : List Column → Bool

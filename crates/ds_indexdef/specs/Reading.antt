@@ -72,9 +72,12 @@ abbrev pub is_bare : List Column → Bool
 is_bare [] = true
 is_bare (c ∷ more) = false
 
--- a property of this name may follow: it doesn't stand there yet, and `__key__` doesn't
+-- a property of this name may follow these: it doesn't stand there yet, and `__key__` doesn't
+abbrev pub may_follow : List Column → List ℕ → Bool
+may_follow columns name = list_all (λ c. not (bytes_eq c.name name) && not (bytes_eq c.name key_name)) columns
+
 abbrev pub takes : IndexDef → List ℕ → Bool
-takes entry name = list_all (λ c. not (bytes_eq c.name name) && not (bytes_eq c.name key_name)) entry.columns
+takes entry name = may_follow entry.columns name
 
 -- the part of the file after a line that is neither empty nor the first of an entry; the part itself where the line is wrong there
 abbrev pub next : Part → Form → Result Part Part
@@ -140,16 +143,15 @@ abbrev pub gone_on : Result Part Part → List IndexDef → ℕ → ℕ → Resu
 gone_on (Ok part) defs last n = Ok (record { defs = defs; part = part; last = n })
 gone_on (Err part) defs last n = Err (refused part defs last n)
 
--- what was read with line n; or the line that is refused
+-- what was read with line n, which isn't empty; or the line that is refused
 abbrev pub step : Reading → ℕ → Form → Result Reading ℕ
-step r n Blank = Ok r
 step r n (Kind kind) = cond (is_start r.part) (Err n) (opened (closed r.part r.defs r.last) n kind)
-step r n Indexes = gone_on (next r.part Indexes) r.defs r.last n
-step r n (Ancestor ancestor) = gone_on (next r.part (Ancestor ancestor)) r.defs r.last n
-step r n Properties = gone_on (next r.part Properties) r.defs r.last n
-step r n (Name name) = gone_on (next r.part (Name name)) r.defs r.last n
-step r n (Direction descending) = gone_on (next r.part (Direction descending)) r.defs r.last n
-step r n Wrong = gone_on (next r.part Wrong) r.defs r.last n
+step r n form = gone_on (next r.part form) r.defs r.last n
+
+-- the same with any line: an empty one changes nothing
+abbrev pub read_line : Reading → ℕ → Form → Result Reading ℕ
+read_line r n Blank = Ok r
+read_line r n form = step r n form
 
 -- the definitions at the end of the text, where the line after the last is n
 abbrev pub finished : Result (Option (List IndexDef)) ℕ → ℕ → Result (List IndexDef) ℕ
@@ -168,13 +170,7 @@ pub record Line : Type 0 where
 -- the lines from line n on, without the empty ones, which count for the numbers alone
 abbrev pub numbered_before : ℕ → Form → List Line → List Line
 numbered_before n Blank more = more
-numbered_before n (Kind kind) more = record { number = n; form = Kind kind } ∷ more
-numbered_before n Indexes more = record { number = n; form = Indexes } ∷ more
-numbered_before n (Ancestor ancestor) more = record { number = n; form = Ancestor ancestor } ∷ more
-numbered_before n Properties more = record { number = n; form = Properties } ∷ more
-numbered_before n (Name name) more = record { number = n; form = Name name } ∷ more
-numbered_before n (Direction descending) more = record { number = n; form = Direction descending } ∷ more
-numbered_before n Wrong more = record { number = n; form = Wrong } ∷ more
+numbered_before n form more = record { number = n; form = form } ∷ more
 
 abbrev pub numbered : ℕ → List (List ℕ) → List Line
 numbered n [] = []

@@ -3,7 +3,7 @@ ghost use Rattle.std.specs.Prelude.{◌≡◌, ◌<◌, ◌||◌, IsTrue, IfOk, 
 ghost use Rattle.std.specs.Option.{option_map};
 ghost use Rattle.std.specs.List.{list_any};
 ghost use Rattle.ds_indexdef.specs.Answers.{Answers};
-ghost use Rattle.ds_indexdef.specs.Reading.{Reading, next, definition_of, is_builtin, are_builtin, adds_nothing, with_entry, closed, begins, may_become, refused, is_start, step, finish, opened, gone_on, is_key_ascending, ends_in_key, without_key, turned};
+ghost use Rattle.ds_indexdef.specs.Reading.{Reading, next, definition_of, is_builtin, are_builtin, adds_nothing, with_entry, closed, begins, may_become, refused, is_start, step, read_line, finish, opened, gone_on, is_key_ascending, ends_in_key, without_key, turned};
 
 use crate::defs::contains;
 use crate::form::Form;
@@ -46,9 +46,9 @@ impl Progress {
         }
     }
 
-    /// What was read with line `n`; or the line that is refused.
+    /// What was read with line `n`; or the line that is refused. An empty line changes nothing.
     pub(crate) fn step(self, alloc: Global, n: u64, form: Form) -> Result<Progress, YamlRefused>
-        ensures { Answers result (step self n form) }
+        ensures { Answers result (read_line self n form) }
     {
         match form {
             Form::Blank => Ok(self),

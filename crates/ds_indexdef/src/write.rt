@@ -73,7 +73,7 @@ fn stands_before(name: &TextString, rest: &[Column]) -> bool
 fn lack(columns: &[Column], name: &TextString) -> bool
     ensures { result ≡ lack columns.now name.now }
 {
-    columns.iter().all(|column| column.name != *name)
+    columns.iter().all(|column| *name != column.name)
 }
 
 /// The text of an index file with these definitions: `indexes:`, and for each `- kind: K`, `  ancestor: yes` or `  ancestor: no`,
