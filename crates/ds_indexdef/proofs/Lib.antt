@@ -1,4 +1,5 @@
 pub mod ColumnLaws
+pub mod FileLaws
 pub mod GrammarLaws
 pub mod LineLaws
 pub mod ReadLaws
