@@ -36,7 +36,7 @@ gone_on-ok (Ok part) defs last n r e =
 gone_on-ok (Err part) defs last n r e = absurd (cc)
 
 -- what is known of a step
-abbrev Steps : Part → List IndexDef → Form → ℕ → Reading → Type 0
+abbrev pub Steps : Part → List IndexDef → Form → ℕ → Reading → Type 0
 Steps p defs f n r = (moves p f ≡ Some r.part) × (with_entries defs (closing_by p f) ≡ Some r.defs) × (r.last ≡ n)
 
 opened-ok : (b : Bool) (w : Option (List IndexDef)) (last n : ℕ) (kind : List ℕ) (r : Reading)

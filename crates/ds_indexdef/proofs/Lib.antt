@@ -1,6 +1,9 @@
+pub mod BackLaws
 pub mod ColumnLaws
 pub mod FileLaws
 pub mod GrammarLaws
 pub mod LineLaws
 pub mod ReadLaws
+pub mod RefusalLaws
 pub mod WriteLaws
+pub mod YamlLaws

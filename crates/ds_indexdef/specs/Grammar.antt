@@ -1,7 +1,7 @@
 -- The grammar of an index file: which lines are a file, and the entries that stand in it.
 --
 -- The lines are those that aren't empty, each with its number, which the grammar doesn't look at, and what it says.
-use Rattle.std.specs.Prelude.{ℕ, ◌≡◌, ◌+◌, length, Bool, true, false, not, ◌&&◌, ◌||◌, List, [], ◌∷◌, ◌++◌, bytes_eq, Option, Some, None, option_and_then}
+use Rattle.std.specs.Prelude.{ℕ, ◌≡◌, ◌+◌, length, Bool, true, false, not, ◌&&◌, ◌||◌, List, [], ◌∷◌, ◌++◌, bytes_eq, Option, Some, None, option_and_then, Result, Ok, Err, ⊤}
 use Rattle.std.specs.List.{list_all}
 use Rattle.ds_base.specs.declared.column.Column.{Column}
 use Rattle.ds_indexdef.specs.Forms.{key_name}
@@ -10,6 +10,8 @@ use Rattle.ds_indexdef.specs.Reading.{Line, is_bare, numbered, with_entry}
 use Rattle.ds_indexdef.specs.declared.IndexDef.{IndexDef}
 use Rattle.ds_indexdef.specs.declared.form.Form.{Form}
 use Rattle.ds_indexdef.specs.declared.form.Form.TheVariants as form
+use Rattle.ds_indexdef.specs.declared.refused.YamlRefused.{YamlRefused}
+use Rattle.ds_indexdef.specs.declared.refused.YamlRefused.TheVariants as reason
 
 -- line n, which says this
 abbrev pub says : ℕ → Form → Line
@@ -112,3 +114,9 @@ pub data RefusedFor : List Line → ℕ → ℕ → Type 0 where
 
 abbrev pub IsRefusedAt : List ℕ → ℕ → Type 0
 IsRefusedAt text n = RefusedFor (lines_in text) (length (lines_of text) + 1) n
+
+-- the result of reading, in the words of the grammar: definitions stand in the text, and a line is the one that it is refused at
+abbrev pub Tells : Result (List IndexDef) YamlRefused → List ℕ → Type 0
+Tells (Ok defs) text = StandIn text defs
+Tells (Err (reason.Line n)) text = IsRefusedAt text n
+Tells (Err reason.NoMemory) text = ⊤
