@@ -1,6 +1,6 @@
 -- What is written is read as the same definitions.
 use Rattle.std.proofs.Common.{◌≡◌, ◌<◌, ◌≤◌, ◌+◌, ℕ, zero, suc, Bool, true, false, not, ◌&&◌, ◌||◌, cond, List, [], ◌∷◌, ◌++◌, length, map, refl, sym, ap, subst, ◌∙◌, arith, append_assoc, append-nil, eqb, take, ◌-◌, length-append, nat_lt, nat_le, Option, Some, None, Ok, Err, Result}
-use Rattle.std.specs.Prelude.{codes, bytes_eq, slice_index, option_and_then, IsTrue}
+use Rattle.std.specs.Prelude.{codes, IfOk, bytes_eq, slice_index, option_and_then, IsTrue}
 use Rattle.std.specs.List.{flat_map, list_all, list_any, slice_split, onto_first, IsDistinct, AllByRecursion}
 use Rattle.std.specs.Str.{is_utf8, IsUtf8, IsAscii}
 use Rattle.std.proofs.lemmas.Bool.{ltb-true, leb-true, lt-ltb}
@@ -254,10 +254,13 @@ defs-speak [] h = tt
 defs-speak (d ∷ ds) h =
     let parts = both (can_write_def d) (list_all can_write_def ds) h in
     let w = writable d parts.0 in
-    speak-append (def_lines d) (def_forms d) (flat_map def_lines ds) (flat_map def_forms ds)
-    (record { unbroken_line = kind-line-unbroken d.kind w.kind; form_is = kind-says d.kind w.kind; counted = λ n more. refl },
-      (record { unbroken_line = ancestor-unbroken d.ancestor; form_is = ancestor-says d.ancestor; counted = λ n more. refl },
-        (record { unbroken_line = refl; form_is = properties-says; counted = λ n more. refl }, columns-speak (written_columns d.columns) (written-names d.columns w.names))))
+    speak-append (def_lines d) (def_forms d) (flat_map def_lines ds) (flat_map def_forms ds) (
+      record { unbroken_line = kind-line-unbroken d.kind w.kind; form_is = kind-says d.kind w.kind; counted = λ n more. refl },
+      (
+        record { unbroken_line = ancestor-unbroken d.ancestor; form_is = ancestor-says d.ancestor; counted = λ n more. refl },
+        (record { unbroken_line = refl; form_is = properties-says; counted = λ n more. refl }, columns-speak (written_columns d.columns) (written-names d.columns w.names)),
+      ),
+    )
     (defs-speak ds parts.1)
 
 -- ---- the entries that are written
@@ -302,8 +305,8 @@ entries-written (d ∷ ds) n h =
     let lines = says n (Kind d.kind) ∷ flag ++ says (suc (suc n)) Properties ∷ p.0 in
     subst (λ x. AreEntries (says n (Kind d.kind) ∷ says (suc n) (Ancestor d.ancestor) ∷ says (suc (suc n)) Properties ∷ x) (map written_entry (d ∷ ds))) (sym p.3)
     (further lines (counted_from p.1 after) (written_entry d) (map written_entry ds)
-      (entry n (suc (suc n)) d.kind flag p.0 d.ancestor (written_columns d.columns) (given (suc n) d.ancestor) p.2 (written-orderly d.columns w.orderly))
-      (entries-written ds p.1 parts.1))
+    (entry n (suc (suc n)) d.kind flag p.0 d.ancestor (written_columns d.columns) (given (suc n) d.ancestor) p.2 (written-orderly d.columns w.orderly))
+    (entries-written ds p.1 parts.1))
 
 -- ---- their definitions
 
@@ -332,8 +335,9 @@ fresh-here (x ∷ xs) d more h =
 added-written : (front : List IndexDef) (d : IndexDef) → Writable d → list_any (same_def d) front ≡ false → length front < 200 → with_entry front (written_entry d) ≡ Some (front ++ d ∷ [])
 added-written front d w new few =
     let e = definition-written d.kind d.ancestor d.columns w.no_key in
+    let nothing_there : adds_nothing front d ≡ false = rw (w.no_builtin, new) refl in
     ap (λ x. cond (adds_nothing front x) (Some front) (cond (nat_lt (length front) 200) (Some (front ++ x ∷ [])) None)) e
-    ∙ ap (λ b. cond b (Some front) (cond (nat_lt (length front) 200) (Some (front ++ d ∷ [])) None)) (rw (w.no_builtin, new) refl)
+    ∙ ap (λ b. cond b (Some front) (cond (nat_lt (length front) 200) (Some (front ++ d ∷ [])) None)) nothing_there
     ∙ ap (λ b. cond b (Some (front ++ d ∷ [])) None) (lt-ltb (length front) 200 few)
 
 all-added : (front defs : List IndexDef) → list_all can_write_def defs ≡ true → IsDistinct same_def (front ++ defs) → length front + length defs ≤ 200
@@ -364,3 +368,9 @@ read-written defs kept can =
       subst (λ x. IsFile x (map written_entry defs)) (sym lines) (indexes 1 (counted_from 2 (flat_map def_forms defs)) (map written_entry defs) (entries-written defs 2 parts.1)),
       all-added [] defs parts.1 kept.distinct (omega (arith, leb-true (length defs) 200 parts.0)),
     )
+
+-- the same of an answer
+pub answer-read : {E : Type 0} (r : Result (List ℕ) E) (defs slice : List IndexDef) → slice ≡ defs → AreDefs defs → IsTrue (can_write defs) → IfOk r (λ text. text ≡ text_of slice)
+    → IfOk r (λ text. yaml_of text ≡ Ok defs)
+answer-read (Ok text) defs slice same kept can e = ap yaml_of (e ∙ ap text_of same) ∙ read-written defs kept can
+answer-read (Err x) defs slice same kept can e = e

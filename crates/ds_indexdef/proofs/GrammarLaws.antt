@@ -66,7 +66,7 @@ orderly-push (x ∷ xs) c o t =
     let follows = both (not (bytes_eq x.name c.name) && not (bytes_eq x.name key_name)) (may_follow xs c.name) t in
     let apart = both (not (bytes_eq x.name c.name)) (not (bytes_eq x.name key_name)) follows.0 in
     let lacks : lack (xs ++ c ∷ []) x.name ≡ true = list_all-append (λ (d : Column). not (bytes_eq x.name d.name)) xs (c ∷ [])
-        ∙ and_both (lack xs x.name) (not (bytes_eq x.name c.name) && true) first.0 (and_both (not (bytes_eq x.name c.name)) true apart.0 refl) in
+    ∙ and_both (lack xs x.name) (not (bytes_eq x.name c.name) && true) first.0 (and_both (not (bytes_eq x.name c.name)) true apart.0 refl) in
     and_both (lack (xs ++ c ∷ []) x.name && (not (bytes_eq x.name key_name) || is_bare (xs ++ c ∷ []))) (are_orderly (xs ++ c ∷ []))
     (and_both (lack (xs ++ c ∷ []) x.name) (not (bytes_eq x.name key_name) || is_bare (xs ++ c ∷ [])) lacks (or_left (not (bytes_eq x.name key_name)) (is_bare (xs ++ c ∷ [])) apart.1))
     (orderly-push xs c parts.1 follows.1)
@@ -128,21 +128,21 @@ pub data Further : Bool → List Column → List Line → List Column → Type 0
   done : (fresh : Bool) (cs : List Column) → is_bare cs ≡ false → Further fresh cs [] cs
   on : (fresh : Bool) (cs more : List Column) (lines : List Line) → AreProperties lines more → Further fresh cs lines (cs ++ more)
   turning : (n : ℕ) (descending : Bool) (cs columns : List Column) (lines : List Line)
-    → Further false (turned_columns cs descending) lines columns → Further true cs (says n (Direction descending) ∷ lines) columns
+      → Further false (turned_columns cs descending) lines columns → Further true cs (says n (Direction descending) ∷ lines) columns
 
 -- lines that complete a file behind a part, with the entries that are still to come
 pub data Rest : Part → List Line → List IndexDef → Type 0 where
   start : (lines : List Line) (es : List IndexDef) → IsFile lines es → Rest Start lines es
   listed : (lines : List Line) (es : List IndexDef) → AreEntries lines es → Rest Listed lines es
   headed : (m : ℕ) (kind : List ℕ) (flag properties lines : List Line) (ancestor : Bool) (columns : List Column) (es : List IndexDef)
-    → IsFlag flag ancestor → AreProperties properties columns → are_orderly columns ≡ true → AreEntries lines es
-    → Rest (Headed kind) ((flag ++ says m Properties ∷ properties) ++ lines) (record { kind = kind; ancestor = ancestor; columns = columns } ∷ es)
+      → IsFlag flag ancestor → AreProperties properties columns → are_orderly columns ≡ true → AreEntries lines es
+      → Rest (Headed kind) ((flag ++ says m Properties ∷ properties) ++ lines) (record { kind = kind; ancestor = ancestor; columns = columns } ∷ es)
   flagged : (m : ℕ) (kind : List ℕ) (properties lines : List Line) (ancestor : Bool) (columns : List Column) (es : List IndexDef)
-    → AreProperties properties columns → are_orderly columns ≡ true → AreEntries lines es
-    → Rest (Flagged kind ancestor) (says m Properties ∷ properties ++ lines) (record { kind = kind; ancestor = ancestor; columns = columns } ∷ es)
+      → AreProperties properties columns → are_orderly columns ≡ true → AreEntries lines es
+      → Rest (Flagged kind ancestor) (says m Properties ∷ properties ++ lines) (record { kind = kind; ancestor = ancestor; columns = columns } ∷ es)
   filled : (e : IndexDef) (fresh : Bool) (more lines : List Line) (columns : List Column) (es : List IndexDef)
-    → Further fresh e.columns more columns → are_orderly columns ≡ true → AreEntries lines es
-    → Rest (Filled e fresh) (more ++ lines) (record { kind = e.kind; ancestor = e.ancestor; columns = columns } ∷ es)
+      → Further fresh e.columns more columns → are_orderly columns ≡ true → AreEntries lines es
+      → Rest (Filled e fresh) (more ++ lines) (record { kind = e.kind; ancestor = e.ancestor; columns = columns } ∷ es)
 
 -- ---- from a rest to the part behind its first line
 
@@ -179,35 +179,65 @@ forward Listed lines es (listed _ _ none) = (refl, refl)
 forward Listed lines es (listed _ _ (further _ more e later (entry n m kind flag properties ancestor columns f ps o) d)) =
     record { part = Headed kind; later = e ∷ later; moved = refl; rest = headed m kind flag properties more ancestor columns later f ps o d; same = refl }
 forward (Headed kind) lines es (headed m _ _ properties left _ columns later absent ps o d) =
-    record { part = Filled (record { kind = kind; ancestor = false; columns = [] }) false; later = es; moved = refl;
-      rest = filled (record { kind = kind; ancestor = false; columns = [] }) false properties left columns later (on false [] columns properties ps) o d; same = refl }
+    record {
+      part = Filled (record { kind = kind; ancestor = false; columns = [] }) false;
+      later = es;
+      moved = refl;
+      rest = filled (record { kind = kind; ancestor = false; columns = [] }) false properties left columns later (on false [] columns properties ps) o d;
+      same = refl;
+    }
 forward (Headed kind) lines es (headed m _ _ properties left _ columns later (given n ancestor) ps o d) =
     record { part = Flagged kind ancestor; later = es; moved = refl; rest = flagged m kind properties left ancestor columns later ps o d; same = refl }
 forward (Flagged kind ancestor) lines es (flagged m _ properties left _ columns later ps o d) =
-    record { part = Filled (record { kind = kind; ancestor = ancestor; columns = [] }) false; later = es; moved = refl;
-      rest = filled (record { kind = kind; ancestor = ancestor; columns = [] }) false properties left columns later (on false [] columns properties ps) o d; same = refl }
+    record {
+      part = Filled (record { kind = kind; ancestor = ancestor; columns = [] }) false;
+      later = es;
+      moved = refl;
+      rest = filled (record { kind = kind; ancestor = ancestor; columns = [] }) false properties left columns later (on false [] columns properties ps) o d;
+      same = refl;
+    }
 forward (Filled e fresh) lines es (filled _ _ _ _ _ _ (done _ _ h) o none) = (ap not h, refl)
 forward (Filled e fresh) lines es (filled _ _ _ _ _ _ (done _ _ h) o (further _ more e2 later (entry n m kind flag properties ancestor columns f ps o2) d)) =
     record { part = Headed kind; later = e2 ∷ later; moved = ap (λ b. cond b None (Some (Headed kind))) h; rest = headed m kind flag properties more ancestor columns later f ps o2 d; same = refl }
 forward (Filled e fresh) lines es (filled _ _ _ left _ later (on _ _ _ _ (one _ _ (plain n name))) o d) =
     let c : Column = record { name = name; descending = false } in
-    record { part = Filled (with_column e c) true; later = es; moved = name-moved e fresh name (takes-orderly e.columns c [] o);
-      rest = filled (with_column e c) true [] left (e.columns ++ c ∷ []) later (done true (e.columns ++ c ∷ []) (bare-push e.columns c [])) o d; same = refl }
+    record {
+      part = Filled (with_column e c) true;
+      later = es;
+      moved = name-moved e fresh name (takes-orderly e.columns c [] o);
+      rest = filled (with_column e c) true [] left (e.columns ++ c ∷ []) later (done true (e.columns ++ c ∷ []) (bare-push e.columns c [])) o d;
+      same = refl;
+    }
 forward (Filled e fresh) lines es (filled _ _ _ left _ later (on _ _ _ _ (one _ _ (directed n m name descending))) o d) =
     let c : Column = record { name = name; descending = descending } in
-    record { part = Filled (with_column e (record { name = name; descending = false })) true; later = es; moved = name-moved e fresh name (takes-orderly e.columns c [] o);
+    record {
+      part = Filled (with_column e (record { name = name; descending = false })) true;
+      later = es;
+      moved = name-moved e fresh name (takes-orderly e.columns c [] o);
       rest = filled (with_column e (record { name = name; descending = false })) true (says m (Direction descending) ∷ []) left (e.columns ++ c ∷ []) later
-        (turning-after m e.columns name descending [] (e.columns ++ c ∷ []) (done false (e.columns ++ c ∷ []) (bare-push e.columns c []))) o d; same = refl }
+          (turning-after m e.columns name descending [] (e.columns ++ c ∷ []) (done false (e.columns ++ c ∷ []) (bare-push e.columns c []))) o d;
+      same = refl;
+    }
 forward (Filled e fresh) lines es (filled _ _ _ left _ later (on _ _ _ _ (several _ more _ cs (plain n name) ps)) o d) =
     let c : Column = record { name = name; descending = false } in
-    record { part = Filled (with_column e c) true; later = es; moved = name-moved e fresh name (takes-orderly e.columns c cs o);
-      rest = filled (with_column e c) true more left (e.columns ++ c ∷ cs) later (on-after e.columns c cs more ps) o d; same = refl }
+    record {
+      part = Filled (with_column e c) true;
+      later = es;
+      moved = name-moved e fresh name (takes-orderly e.columns c cs o);
+      rest = filled (with_column e c) true more left (e.columns ++ c ∷ cs) later (on-after e.columns c cs more ps) o d;
+      same = refl;
+    }
 forward (Filled e fresh) lines es (filled _ _ _ left _ later (on _ _ _ _ (several _ more _ cs (directed n m name descending) ps)) o d) =
     let c : Column = record { name = name; descending = descending } in
-    record { part = Filled (with_column e (record { name = name; descending = false })) true; later = es; moved = name-moved e fresh name (takes-orderly e.columns c cs o);
+    record {
+      part = Filled (with_column e (record { name = name; descending = false })) true;
+      later = es;
+      moved = name-moved e fresh name (takes-orderly e.columns c cs o);
       rest = filled (with_column e (record { name = name; descending = false })) true (says m (Direction descending) ∷ more) left (e.columns ++ c ∷ cs) later
-        (turning-after m e.columns name descending more (e.columns ++ c ∷ cs)
-          (subst (λ x. Further false (e.columns ++ c ∷ []) more x) (append_assoc e.columns (c ∷ []) cs) (on false (e.columns ++ c ∷ []) cs more ps))) o d; same = refl }
+          (turning-after m e.columns name descending more (e.columns ++ c ∷ cs)
+          (subst (λ x. Further false (e.columns ++ c ∷ []) more x) (append_assoc e.columns (c ∷ []) cs) (on false (e.columns ++ c ∷ []) cs more ps))) o d;
+      same = refl;
+    }
 forward (Filled e fresh) lines es (filled _ _ _ left columns later (turning n descending _ _ more f) o d) =
     record { part = Filled (turned e descending) false; later = es; moved = refl; rest = filled (turned e descending) false more left columns later f o d; same = refl }
 

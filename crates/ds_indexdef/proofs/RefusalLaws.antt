@@ -89,7 +89,7 @@ pub record Reached (front : List Line) (r : Reading) : Type 0 where
   pub fine : is_fine r.part ≡ true
   pub onward : (left : List Line) (es : List IndexDef) → IsFile (front ++ left) es → (later : List IndexDef) × Rest r.part left later
   pub backward : (left : List Line) (later : List IndexDef) → Rest r.part left later
-    → (before : List IndexDef) × IsFile (front ++ left) (before ++ later) × (with_entries [] before ≡ Some r.defs)
+      → (before : List IndexDef) × IsFile (front ++ left) (before ++ later) × (with_entries [] before ≡ Some r.defs)
   pub latest : LastOf r.part front r.last
 
 start-back : (left : List Line) (later : List IndexDef) → Rest Start left later → (before : List IndexDef) × IsFile ([] ++ left) (before ++ later) × (with_entries [] before ≡ Some [])
@@ -283,8 +283,17 @@ over-many front ls r m after e fresh p is whole over number fine latest backward
     let last = subst (λ x. LastOf x front r.last) is latest in
     let b = backward [] (e ∷ []) (subst (λ x. Rest x [] (e ∷ [])) (sym is) (filled e fresh [] [] e.columns [] (done fresh e.columns whole) fine2 none)) in
     many (front ++ ls) after m (record {
-      front = last.0; last = last.1; behind = ls; apart = ap (λ x. x ++ ls) last.2; number = last.3 ∙ sym number; before = b.0; entry = e;
-      file = subst (λ x. IsFile x (b.0 ++ e ∷ [])) (append-nil front ∙ last.2) b.1; defs = r.defs; given = b.2; refused = over;
+      front = last.0;
+      last = last.1;
+      behind = ls;
+      apart = ap (λ x. x ++ ls) last.2;
+      number = last.3 ∙ sym number;
+      before = b.0;
+      entry = e;
+      file = subst (λ x. IsFile x (b.0 ++ e ∷ [])) (append-nil front ∙ last.2) b.1;
+      defs = r.defs;
+      given = b.2;
+      refused = over;
     })
 
 over-refused : (front ls : List Line) (r : Reading) (m after : ℕ) → Reached front r → Over r m → RefusedFor (front ++ ls) after m

@@ -30,7 +30,7 @@ are_orderly (c ∷ more) = (lack more c.name && (not (bytes_eq c.name key_name) 
 pub data IsProperty : List Line → Column → Type 0 where
   plain : (n : ℕ) (name : List ℕ) → IsProperty (says n (form.Name name) ∷ []) (record { name = name; descending = false })
   directed : (n m : ℕ) (name : List ℕ) (descending : Bool)
-    → IsProperty (says n (form.Name name) ∷ says m (form.Direction descending) ∷ []) (record { name = name; descending = descending })
+      → IsProperty (says n (form.Name name) ∷ says m (form.Direction descending) ∷ []) (record { name = name; descending = descending })
 
 -- property {property}
 pub data AreProperties : List Line → List Column → Type 0 where
@@ -45,8 +45,8 @@ pub data IsFlag : List Line → Bool → Type 0 where
 -- entry = - kind: NAME [ancestor: yes | ancestor: no] properties: property {property}
 pub data IsEntry : List Line → IndexDef → Type 0 where
   entry : (n m : ℕ) (kind : List ℕ) (flag properties : List Line) (ancestor : Bool) (columns : List Column)
-    → IsFlag flag ancestor → AreProperties properties columns → are_orderly columns ≡ true
-    → IsEntry (says n (form.Kind kind) ∷ flag ++ says m form.Properties ∷ properties) (record { kind = kind; ancestor = ancestor; columns = columns })
+      → IsFlag flag ancestor → AreProperties properties columns → are_orderly columns ≡ true
+      → IsEntry (says n (form.Kind kind) ∷ flag ++ says m form.Properties ∷ properties) (record { kind = kind; ancestor = ancestor; columns = columns })
 
 -- {entry}
 pub data AreEntries : List Line → List IndexDef → Type 0 where

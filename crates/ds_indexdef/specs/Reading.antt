@@ -50,7 +50,7 @@ adds_nothing defs def = is_builtin def || list_any (same_def def) defs
 -- the definitions with that of an entry; none where it would be the 201st
 abbrev pub with_entry : List IndexDef → IndexDef → Option (List IndexDef)
 with_entry defs entry = cond (adds_nothing defs (definition_of entry)) (Some defs)
-  (cond (nat_lt (length defs) most_definitions) (Some (defs ++ definition_of entry ∷ [])) None)
+    (cond (nat_lt (length defs) most_definitions) (Some (defs ++ definition_of entry ∷ [])) None)
 
 -- ---- how lines follow one another
 

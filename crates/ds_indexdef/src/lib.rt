@@ -19,11 +19,11 @@ mod refused;
 pub mod write;
 
 pub use defs::Defs;
+use ds_base::{Columns, TextString, TryCopy};
 pub use read::read_yaml;
 pub use refused::YamlRefused;
-pub use write::{can_write, write_yaml};
-use ds_base::{Columns, TextString, TryCopy};
 use std::alloc::{AllocError, Global};
+pub use write::{can_write, write_yaml};
 
 /// A composite index: over the entities of a kind, with a row for each combination of its properties' values, and for
 /// each path element where `ancestor` is set, in the order of its columns and then by key.

@@ -69,7 +69,12 @@ fn empty_entry(alloc: Global, kind: TextString, ancestor: bool) -> Part
     )
 }
 
-fn after_column(alloc: Global, entry: IndexDef, fresh: bool, form: Form) -> Result<Result<Part, Part>, AllocError>
+fn after_column(
+    alloc: Global,
+    entry: IndexDef,
+    fresh: bool,
+    form: Form,
+) -> Result<Result<Part, Part>, AllocError>
     ensures { IfOk result (λ r. r ≡ next (Part.Filled entry fresh) form) }
 {
     match form {

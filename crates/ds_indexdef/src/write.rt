@@ -84,10 +84,17 @@ fn lack(columns: &[Column], name: &TextString) -> bool
 pub fn write_yaml(alloc: Global, defs: &Defs) -> Result<ByteString, NoMemory>
     requires { IsTrue (can_write defs.now) }
     ensures text { IfOk result (λ text. text ≡ text_of defs.now) }
+    ensures read { IfOk result (λ text. yaml_of text ≡ Ok defs.now) }
+{
+    write_lines(alloc, defs.as_slice())
+}
+
+fn write_lines(alloc: Global, defs: &[IndexDef]) -> Result<ByteString, AllocError>
+    ensures { IfOk result (λ text. text ≡ text_of defs.now) }
 {
     let mut text = ByteString::new(alloc);
     write_line(&mut text, b"indexes:", b"")?;
-    for def in defs.as_slice() {
+    for def in defs {
         write_def(&mut text, def)?;
     }
     Ok(text)

@@ -1,8 +1,8 @@
-use Rattle.std.proofs.Common.{ap, sym, arith}
-use Rattle.ds_indexdef.specs.Reading.{yaml_of}
-use Rattle.ds_indexdef.proofs.ReadLaws.{left}
+use Rattle.ds_indexdef.proofs.YamlLaws.{answer-stands, answer-given}
 use Rattle.ds_indexdef.proofs.read.read_yaml.Goals as goal
 
-pub loop-rest-init : goal.loop-rest-init
-unfolding yaml_of
-loop-rest-init c = record { whole = ap (λ r. left c.args.text.now r 1) (sym c.new-progress.ensures); few = omega arith }
+pub returns-clause-grammar : goal.returns-clause-grammar
+returns-clause-grammar c = answer-stands c.args.text.now c.read_lines.result c.read_lines.ensures
+
+pub returns-clause-file : goal.returns-clause-file
+returns-clause-file c = answer-given c.args.text.now c.read_lines.result c.read_lines.ensures
