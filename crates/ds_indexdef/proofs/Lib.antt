@@ -3,6 +3,7 @@ pub mod ColumnLaws
 pub mod FileLaws
 pub mod GrammarLaws
 pub mod LineLaws
+pub mod NameLaws
 pub mod ReadLaws
 pub mod RefusalLaws
 pub mod WriteLaws

@@ -191,11 +191,11 @@ opened-fails false None e fresh defs last n m kind h k f = inr (record { entry =
 opened-fails false (Some more) e fresh defs last n m kind h k f = absurd (cc)
 
 choice-fails : (b c : Bool) (w : Option (List IndexDef)) (e : IndexDef) (fresh : Bool) (defs : List IndexDef) (last n m : ℕ) → is_bare e.columns ≡ b → with_entry defs e ≡ w
-    → cond (b || (is_some w || c)) n last ≡ m → (m ≡ n) ⊎ Over (record { defs = defs; part = Filled e fresh; last = last }) m
+    → cond (b || (c || is_some w)) n last ≡ m → (m ≡ n) ⊎ Over (record { defs = defs; part = Filled e fresh; last = last }) m
 choice-fails true c w e fresh defs last n m h k f = inl (sym f)
-choice-fails false true None e fresh defs last n m h k f = inl (sym f)
+choice-fails false true w e fresh defs last n m h k f = inl (sym f)
 choice-fails false false None e fresh defs last n m h k f = inr (record { entry = e; fresh = fresh; here = refl; whole = h; over = k; number = sym f })
-choice-fails false c (Some more) e fresh defs last n m h k f = inl (sym f)
+choice-fails false false (Some more) e fresh defs last n m h k f = inl (sym f)
 
 refused-fails : (p : Part) (defs : List IndexDef) (last n m : ℕ) → refused p defs last n ≡ m → (m ≡ n) ⊎ Over (record { defs = defs; part = p; last = last }) m
 refused-fails Start defs last n m f = inl (sym f)

@@ -62,11 +62,13 @@ dash_form line = either (behind (codes "-") line) item_form Wrong
 
 -- what a line says that may begin with a word that one of two words follows
 abbrev pub choice_form : List ℕ → Form
-choice_form line = either (behind (codes "ancestor:") line) ancestor_form (either (behind (codes "direction:") line) direction_form (dash_form line))
+choice_form line = either (behind (codes "ancestor:") line) ancestor_form
+    (either (behind (codes "direction:") line) direction_form (dash_form line))
 
 -- what a line says whose comment and outer blanks are cut
 abbrev pub form_of_cut : List ℕ → Form
-form_of_cut line = cond (bytes_eq line []) Blank (cond (bytes_eq line (codes "indexes:")) Indexes (cond (bytes_eq line (codes "properties:")) Properties (choice_form line)))
+form_of_cut line = cond (bytes_eq line []) Blank (cond (bytes_eq line (codes "indexes:")) Indexes
+    (cond (bytes_eq line (codes "properties:")) Properties (choice_form line)))
 
 -- what a line says; one that isn't UTF-8 says nothing, in its comment either
 unfoldable pub form_of : List ℕ → Form

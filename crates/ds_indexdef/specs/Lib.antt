@@ -4,5 +4,6 @@ pub mod Definitions
 pub mod Forms
 pub mod Grammar
 pub mod Lines
+pub mod Names
 pub mod Reading
 pub mod Text

@@ -92,8 +92,8 @@ next part form = Err part
 
 -- ---- the reading of a file
 
--- what was read so far: the definitions of the entries before the last, the part of the file that the last lines belong to, and the
--- number of the last line that isn't empty
+-- what was read so far: the definitions of the entries before the last, the part of the file that the last lines belong to, and
+-- the number of the last line that isn't empty
 pub record Reading : Type 0 where
   pub defs : List IndexDef
   pub part : Part
@@ -115,15 +115,15 @@ begins entry def = bytes_eq entry.kind def.kind && (beq entry.ancestor def.ances
 abbrev pub may_become : List IndexDef → IndexDef → Bool → Bool
 may_become defs entry fresh = list_any (begins entry) defs || (fresh && list_any (begins (turned entry true)) defs)
 
--- the line that is refused where line n is wrong behind a part: n, but where the entry before it would be the 201st definition, however it
--- went on, the last line of that
+-- the line that is refused where line n is wrong behind a part: n, but where the entry before it would be the 201st definition,
+-- however it went on, the last line of that
 abbrev pub refused : Part → List IndexDef → ℕ → ℕ → ℕ
 refused Start defs last n = n
 refused Listed defs last n = n
 refused (Headed kind) defs last n = n
 refused (Flagged kind ancestor) defs last n = n
 refused (Filled entry fresh) defs last n =
-    cond (is_bare entry.columns || (is_some (with_entry defs entry) || may_become defs entry fresh)) n last
+    cond (is_bare entry.columns || (may_become defs entry fresh || is_some (with_entry defs entry))) n last
 
 abbrev pub is_start : Part → Bool
 is_start Start = true

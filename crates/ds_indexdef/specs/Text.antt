@@ -45,10 +45,11 @@ text_of defs = flat_map line (written_lines defs)
 abbrev pub has_property_names : List Column → Bool
 has_property_names columns = list_all (λ c. is_property c.name) columns
 
--- its names keep the rules of the grammar, no property stands twice, `__key__` stands at the end alone and not ascending there, and its
--- rows aren't those of a built-in index
+-- its names keep the rules of the grammar, no property stands twice, `__key__` stands at the end alone and not ascending there,
+-- and its rows aren't those of a built-in index
 abbrev pub can_write_def : IndexDef → Bool
-can_write_def def = (is_kind def.kind && has_property_names def.columns) && (are_orderly def.columns && (not (ends_in_key def.columns) && not (is_builtin def)))
+can_write_def def = (is_kind def.kind && has_property_names def.columns)
+    && (are_orderly def.columns && (not (ends_in_key def.columns) && not (is_builtin def)))
 
 -- at most 200 definitions, each of which can be written
 abbrev pub can_write : List IndexDef → Bool

@@ -2,7 +2,9 @@
 ghost use Rattle.std.specs.Prelude.{◌≡◌, IfOk, nat_eq, option_map, bytes_eq, MatchOption, true, false};
 ghost use Rattle.std.specs.List.{list_all, starts_with};
 ghost use Rattle.std.specs.Str.{is_utf8};
-ghost use Rattle.ds_indexdef.specs.Forms.{is_name_byte, is_plain, is_kind, is_property, spaced, behind, ancestor_form, direction_form, kind_form, name_form, item_form, dash_form, choice_form, form_of_cut, form_of};
+ghost use Rattle.ds_indexdef.specs.Forms.{is_name_byte, is_plain, is_kind, is_property, spaced, behind};
+ghost use Rattle.ds_indexdef.specs.Forms.{ancestor_form, direction_form, kind_form, name_form, item_form};
+ghost use Rattle.ds_indexdef.specs.Forms.{dash_form, choice_form, form_of_cut, form_of};
 
 use crate::lines::{cut, without_blanks};
 use ds_base::{TextString, is_name, is_reserved};

@@ -30,7 +30,7 @@ use std::alloc::Global;
 /// definition, its last line. `NoMemory`: want of memory.
 ///
 /// The keys are those of the Datastore's own file; the order of the lines and the refusals are our own profile. Each line is read
-/// once; an entry is compared with each definition that is there.
+/// once, and a property is looked up among those of its entry; an entry is compared with each definition that is there.
 pub fn read_yaml(alloc: Global, text: &[u8]) -> Result<Defs, YamlRefused>
     ensures answer { Answers result (yaml_of text.now) }
     ensures grammar { Tells result text.now }

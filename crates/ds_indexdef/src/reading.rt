@@ -1,13 +1,16 @@
 //! Reading an index file line by line: the definitions so far, and the part of the file that the last lines belong to.
-ghost use Rattle.std.specs.Prelude.{◌≡◌, ◌<◌, ◌||◌, IsTrue, IfOk, Ok, Err, length, is_some, map, Result};
+ghost use Rattle.std.specs.Prelude.{◌≡◌, ◌<◌, ◌||◌, cond, IsTrue, IfOk, Ok, Err, length, is_some, map, Result};
 ghost use Rattle.std.specs.Option.{option_map};
 ghost use Rattle.std.specs.List.{list_any};
 ghost use Rattle.ds_indexdef.specs.Answers.{Answers};
-ghost use Rattle.ds_indexdef.specs.Reading.{Reading, next, definition_of, is_builtin, are_builtin, adds_nothing, with_entry, closed, begins, may_become, refused, is_start, step, read_line, finish, opened, gone_on, is_key_ascending, ends_in_key, without_key, turned};
+ghost use Rattle.ds_indexdef.specs.Reading.{Reading, next, step, read_line, finish, gone_on, closed, refused, begins, may_become};
+ghost use Rattle.ds_indexdef.specs.Reading.{definition_of, is_builtin, are_builtin, adds_nothing, with_entry};
+ghost use Rattle.ds_indexdef.specs.Reading.{is_key_ascending, ends_in_key, without_key};
 
 use crate::defs::contains;
+use crate::entry::{is_key, turned};
 use crate::form::Form;
-use crate::part::{Part, is_bare, is_key, next, turned};
+use crate::part::{Part, next};
 use crate::{Defs, IndexDef, YamlRefused};
 use ds_base::limits::MAX_DEFINITIONS;
 use ds_base::{Column, Columns, TextString, TryCopy};
@@ -111,10 +114,10 @@ fn closed(part: Part, defs: Defs, last: u64) -> Result<Option<Defs>, YamlRefused
         Part::Start | Part::Listed => Ok(Some(defs)),
         Part::Headed(_) | Part::Flagged(_, _) => Ok(None),
         Part::Filled(entry, _) => {
-            if is_bare(entry.columns.as_slice()) {
+            if entry.is_bare() {
                 return Ok(None);
             }
-            match with_entry(defs, entry)? {
+            match with_entry(defs, entry.into_def())? {
                 Some(defs) => Ok(Some(defs)),
                 None => Err(YamlRefused::Line(last)),
             }
@@ -220,14 +223,29 @@ fn refused(alloc: Global, part: Part, defs: Defs, last: u64, n: u64) -> Result<u
     let Part::Filled(entry, fresh) = part else {
         return Ok(n);
     };
-    if is_bare(entry.columns.as_slice()) {
+    if entry.is_bare() {
         return Ok(n);
     }
-    let entry = entry;
-    if may_become(alloc, &defs, &entry, fresh)? || with_entry(defs, entry)?.is_some() {
-        Ok(n)
-    } else {
-        Ok(last)
+    refused_behind(alloc, entry.into_def(), fresh, defs, last, n)
+}
+
+// The same behind an entry that may be whole.
+fn refused_behind(
+    alloc: Global,
+    entry: IndexDef,
+    fresh: bool,
+    defs: Defs,
+    last: u64,
+    n: u64,
+) -> Result<u64, AllocError>
+    ensures { IfOk result (λ line. line ≡ cond (may_become defs entry fresh || is_some (with_entry defs entry)) n last) }
+{
+    if may_become(alloc, &defs, &entry, fresh)? {
+        return Ok(n);
+    }
+    match with_entry(defs, entry)? {
+        Some(_) => Ok(n),
+        None => Ok(last),
     }
 }
 

@@ -4,10 +4,11 @@ ghost use Rattle.std.specs.List.{flat_map, list_all};
 ghost use Rattle.ds_indexdef.specs.Grammar.{lack, are_orderly};
 ghost use Rattle.ds_indexdef.specs.Forms.{is_kind, key_name};
 ghost use Rattle.ds_indexdef.specs.Reading.{yaml_of, is_bare};
-ghost use Rattle.ds_indexdef.specs.Text.{line, column_lines, written_columns, def_lines, text_of, has_property_names, can_write_def, can_write};
+ghost use Rattle.ds_indexdef.specs.Text.{line, column_lines, written_columns, def_lines, text_of};
+ghost use Rattle.ds_indexdef.specs.Text.{has_property_names, can_write_def, can_write};
 
+use crate::entry::{is_bare, is_key};
 use crate::form::{is_kind, is_property};
-use crate::part::{is_bare, is_key};
 use crate::reading::{ends_in_key, is_builtin};
 use crate::{Defs, IndexDef};
 use ds_base::limits::MAX_DEFINITIONS;

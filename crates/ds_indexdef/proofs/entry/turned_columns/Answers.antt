@@ -1,7 +1,7 @@
 use Rattle.std.proofs.Common.{ap, sym, ◌∙◌, arith, length}
 use Rattle.ds_indexdef.proofs.ColumnLaws.{turned_columns-by, turned_columns-none}
-use Rattle.ds_indexdef.proofs.part.turned_columns.Goals as goal
-use Rattle.ds_indexdef.proofs.part.turned_columns.Goals.{then-count-gt0, else-count-gt0}
+use Rattle.ds_indexdef.proofs.entry.turned_columns.Goals as goal
+use Rattle.ds_indexdef.proofs.entry.turned_columns.Goals.{then-count-gt0, else-count-gt0}
 
 pub returns : goal.returns
 returns c = elim c.if-count-gt0.branch [
