@@ -1,2 +1,9 @@
+pub mod Answers
 pub mod DefinitionLaws
 pub mod Definitions
+pub mod Forms
+pub mod Grammar
+pub mod Lines
+pub mod Names
+pub mod Reading
+pub mod Text

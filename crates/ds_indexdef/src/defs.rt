@@ -78,7 +78,7 @@ impl Defs {
 }
 
 // Whether the definition is there.
-fn contains(defs: &[IndexDef], def: &IndexDef) -> bool
+pub(crate) fn contains(defs: &[IndexDef], def: &IndexDef) -> bool
     ensures { result ≡ list_any (same_def def.now) defs.now }
 {
     defs.iter().any(|known| *def == *known)

@@ -1,7 +1,12 @@
-//! Composite index definitions: the kind, the ancestor flag and the columns of an index, and lists of distinct ones.
+//! Composite index definitions, and the index file in which they stand: the kind, the ancestor flag and the columns of an index,
+//! lists of distinct ones, and reading and writing them as `index.yaml`.
 //!
-//! It stands on `ds_base`, whose `Column` is a column of an index too. Begin with `defs`; the definitions that the
-//! contracts cite are in `specs/Definitions`: when two definitions are the same, and what a list of them keeps.
+//! It stands on `ds_base`, whose `Column` is a column of an index too. Begin with `defs`, then `read` and `write`; a line of the file
+//! goes through `lines` (cutting), `form` (what it says), `part` and `entry` (where it stands) and `reading` (the definitions so
+//! far). The definitions that the contracts cite are in `specs/`: `Definitions` (when two definitions are the same, and what a list
+//! of them keeps), `Lines`, `Forms` and `Reading` (what an index file gives, line by line), `Grammar` (which lines are a file, and
+//! which line another is refused at), `Text` (what is written, and of which definitions), `Names` (the names of an entry's columns)
+//! and `Answers`. `proofs/` shows that what is read is what the grammar says.
 #![tactic(auto)]
 
 ghost use Rattle.std.specs.Prelude.{◌≡◌, ◌↔◌, IsTrue};
@@ -10,10 +15,21 @@ ghost use Rattle.ds_indexdef.specs.Definitions.{same_def};
 ghost use Rattle.ds_indexdef.specs.DefinitionLaws.{same_def-equiv};
 
 pub mod defs;
+mod entry;
+mod form;
+mod lines;
+mod part;
+pub mod read;
+mod reading;
+mod refused;
+pub mod write;
 
 pub use defs::Defs;
 use ds_base::{Columns, TextString, TryCopy};
+pub use read::read_yaml;
+pub use refused::YamlRefused;
 use std::alloc::{AllocError, Global};
+pub use write::{can_write, write_yaml};
 
 /// A composite index: over the entities of a kind, with a row for each combination of its properties' values, and for
 /// each path element where `ancestor` is set, in the order of its columns and then by key.

@@ -1,0 +1,10 @@
+pub mod BackLaws
+pub mod ColumnLaws
+pub mod FileLaws
+pub mod GrammarLaws
+pub mod LineLaws
+pub mod NameLaws
+pub mod ReadLaws
+pub mod RefusalLaws
+pub mod WriteLaws
+pub mod YamlLaws
