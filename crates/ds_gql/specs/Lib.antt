@@ -1,0 +1,5 @@
+pub mod Pieces
+pub mod Statements
+pub mod Steps
+pub mod Taking
+pub mod Tokens

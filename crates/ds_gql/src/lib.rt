@@ -1,0 +1,9 @@
+//! GQL.
+#![tactic(auto)]
+
+mod draft;
+mod token;
+pub mod statement;
+mod steps;
+
+mod parse;
