@@ -1,5 +1,5 @@
 -- What stands at a place of a GQL text.
-use Rattle.std.specs.Prelude.{ℕ, ℤ, Bool, true, false, List, [], ◌∷◌, ◌&&◌, ◌==◌, if◌then◌else◌, Option, Some, None}
+use Rattle.std.specs.Prelude.{ℕ, ℤ, Bool, false, List, [], ◌∷◌, ◌&&◌, ◌==◌, if◌then◌else◌, slice_index, drop, Option, Some, None}
 use denote.Enum.Bare.{sameb}
 use Rattle.ds_gql.specs.contracts.token.Mark.{the_type}
 use Rattle.ds_gql.specs.declared.token.Mark.{Mark}
@@ -21,6 +21,10 @@ abbrev pub undoubled : List ℕ → List ℕ
 undoubled [] = []
 undoubled (b ∷ []) = b ∷ []
 undoubled (b ∷ c ∷ bytes) = if (b == 39) && (c == 39) then 39 ∷ undoubled bytes else b ∷ undoubled (c ∷ bytes)
+
+-- what follows the first quote of a doubled one
+abbrev pub without_second : List ℕ → List ℕ
+without_second bytes = if slice_index bytes 0 == 39 then drop 1 bytes else bytes
 
 -- what the code reads, without where it lies in memory
 abbrev pub seen : Found → Piece

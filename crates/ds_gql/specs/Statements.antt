@@ -5,21 +5,21 @@ use Rattle.ds_gql.specs.declared.statement.Statement.{Statement}
 use Rattle.ds_gql.specs.declared.statement.GqlRefused.{GqlRefused}
 use Rattle.ds_gql.specs.declared.statement.GqlRefused.TheVariants as refused
 use Rattle.ds_gql.specs.declared.draft.Draft.{Draft}
-use Rattle.ds_gql.specs.declared.draft.Phase.{Phase}
-use Rattle.ds_gql.specs.declared.draft.Phase.TheVariants.{Ended}
 use Rattle.ds_gql.specs.declared.token.Mark.TheVariants as mark
 use Rattle.ds_gql.specs.Pieces.{is}
 use Rattle.ds_gql.specs.Tokens.{Token, tokens_of}
 use Rattle.ds_gql.specs.Steps.{empty, complete, step}
 
+-- behind a token: the statement at the end of the text, what the others make of it, or the token's place where it took no step
+abbrev pub stepped : Option Draft → Token → (Draft → Result Statement ℕ) → Result Statement ℕ
+stepped None t others = Err t.place
+stepped (Some next) t others = if is mark.End t.piece then Ok (complete next) else others next
+
 -- Token by token from a draft on: the statement at the end of the text, or the place of the first token that takes no step.
 -- Tokens without an end, which no text has, stop at 0.
 unfoldable pub read_on : Bindings → Draft → List Token → Result Statement ℕ
 read_on given d [] = Err 0
-read_on given d (t ∷ tokens) = stepped (step given d t.piece) (λ next. read_on given next tokens) where
-  stepped : Option Draft → (Draft → Result Statement ℕ) → Result Statement ℕ
-  stepped None others = Err t.place
-  stepped (Some next) others = if is mark.End t.piece then Ok (complete next) else others next
+read_on given d (t ∷ tokens) = stepped (step given d t.piece) t (λ next. read_on given next tokens)
 
 -- the statement that a text is under these arguments, or the byte at which it stops being one
 unfoldable pub statement_of : List ℕ → Bindings → Result Statement ℕ

@@ -1,19 +1,16 @@
 -- What may stand behind what has been read of a GQL text, token by token. Each part of the grammar is a small group of phases; a
 -- token that no sentence has at its place takes no step. What a whole sentence looks like stands in `Sentences`.
-use Rattle.std.specs.Prelude.{◌≡◌, ℕ, zero, suc, ◌+◌, ◌-◌, ℤ, pos, negsuc, Bool, true, false, not, ◌&&◌, ◌||◌, ◌==◌, nat_lt, nat_le, if◌then◌else◌, bytes_eq, codes, List, [], ◌∷◌, ◌++◌, length, slice_get}
+use Rattle.std.specs.Prelude.{ℕ, ◌-◌, ℤ, pos, negsuc, Bool, true, false, ◌==◌, nat_lt, nat_le, if◌then◌else◌, bytes_eq, codes, List, [], ◌∷◌, ◌++◌, length, slice_get}
 use Rattle.std.specs.Prelude.{Option, Some, None, option_map, option_and_then, unwrap_or}
-use Rattle.ds_base.specs.Limits.{most_results, most_name_bytes, most_elements, greatest_id}
+use Rattle.ds_base.specs.Limits.{most_results, most_elements}
 use Rattle.ds_base.specs.Keys.{KeyParts, is_name, is_ident, is_path}
 use Rattle.ds_base.specs.declared.key.Ident.{Ident}
 use Rattle.ds_base.specs.declared.key.Ident.TheVariants as ident
-use Rattle.ds_base.specs.declared.key.Elem.{Elem}
 use Rattle.ds_base.specs.declared.value.Value.{Value}
 use Rattle.ds_base.specs.declared.value.Value.TheVariants as value
 use Rattle.ds_base.specs.declared.named_value.NamedValue.{NamedValue}
-use Rattle.ds_base.specs.declared.column.Column.{Column}
 use Rattle.ds_query.specs.declared.query.Op.{Op}
 use Rattle.ds_query.specs.declared.query.Op.TheVariants as op
-use Rattle.ds_query.specs.declared.query.Filter.{Filter}
 use Rattle.ds_query.specs.declared.query.Select.{Select}
 use Rattle.ds_query.specs.declared.query.Select.TheVariants as select
 use Rattle.ds_gql.specs.declared.statement.Bindings.{Bindings}
@@ -32,8 +29,21 @@ use Rattle.ds_gql.specs.Pieces.{Piece, fixed, name, integer, string, numbered, n
 -- nothing is read yet
 abbrev pub empty : Draft
 empty = record {
-  phase = phase.Start; select = select.Entities; names = []; kind = None; ancestor = None; filters = []; orders = [];
-  offset = 0; limit = None; property = []; op = op.Equal; values = []; key_for = for.Operand; path = []; elem_kind = [];
+  phase = phase.Start;
+  select = select.Entities;
+  names = [];
+  kind = None;
+  ancestor = None;
+  filters = [];
+  orders = [];
+  offset = 0;
+  limit = None;
+  property = [];
+  op = op.Equal;
+  values = [];
+  key_for = for.Operand;
+  path = [];
+  elem_kind = [];
 }
 
 -- names are a projection
@@ -44,10 +54,16 @@ selected found names = if length names == 0 then found else select.Projection na
 abbrev pub complete : Draft → Statement
 complete d = record {
   query = record {
-    namespace = []; kind = d.kind; ancestor = d.ancestor; filters = d.filters; orders = d.orders;
-    select = selected d.select d.names; cursors = false;
+    namespace = [];
+    kind = d.kind;
+    ancestor = d.ancestor;
+    filters = d.filters;
+    orders = d.orders;
+    select = selected d.select d.names;
+    cursors = false;
   };
-  offset = d.offset; limit = d.limit;
+  offset = d.offset;
+  limit = d.limit;
 }
 
 -- the draft behind a token that has no part of its own
@@ -202,8 +218,10 @@ at_compare d p = if is mark.In p then Some (record d { phase = phase.ListOpen; o
 -- the condition is whole: it is a filter
 abbrev pub with_filter : Draft → List Value → Draft
 with_filter d values = record d {
-  phase = phase.ConditionRead; filters = d.filters ++ record { property = d.property; op = d.op; values = values } ∷ [];
-  property = []; values = [];
+  phase = phase.ConditionRead;
+  filters = d.filters ++ record { property = d.property; op = d.op; values = values } ∷ [];
+  property = [];
+  values = [];
 }
 
 abbrev pub operand_by : Draft → Option Value → Option Draft
@@ -284,7 +302,9 @@ order_named d (Some text) = Some (record d { phase = phase.OrderRead; property =
 -- the order is whole
 abbrev pub with_order : Draft → Bool → Draft
 with_order d down = record d {
-  phase = phase.DirectionRead; orders = d.orders ++ record { name = d.property; descending = down } ∷ []; property = [];
+  phase = phase.DirectionRead;
+  orders = d.orders ++ record { name = d.property; descending = down } ∷ [];
+  property = [];
 }
 
 abbrev pub at_direction_read : Draft → Piece → Option Draft

@@ -1,21 +1,18 @@
 -- The tokens of a GQL text. Blanks stand between them, and the longest token is taken.
-use Rattle.std.specs.Prelude.{◌≡◌, ℕ, zero, suc, ◌+◌, ◌-◌, ◌^◌, ℤ, pos, neg_ℤ, Bool, true, false, not, ◌&&◌, ◌||◌, ◌==◌, nat_lt, nat_le, if◌then◌else◌, List, [], ◌∷◌, length, take, drop, slice_index, codes}
+use Rattle.std.specs.Prelude.{ℕ, zero, suc, ◌+◌, ◌-◌, ◌^◌, ℤ, pos, neg_ℤ, Bool, not, ◌&&◌, ◌||◌, ◌==◌, nat_lt, nat_le, if◌then◌else◌, List, [], ◌∷◌, length, take, drop, slice_index, codes}
 use Rattle.std.specs.Prelude.{Option, Some, None, option_map, unwrap_or}
-use Rattle.std.specs.List.{prefix_len}
+use Rattle.std.specs.List.{prefix_len, position_or_len}
 use Rattle.std.specs.Char.{is_ascii_digit, is_ascii_alphabetic}
-use Rattle.std.specs.Str.{str_eq_ignore_ascii_case}
+use Rattle.std.specs.Str.{str_eq_ignore_ascii_case, all_ascii_digits}
 use Rattle.std.specs.Str.Parse.{digits_value}
 use Rattle.ds_gql.specs.declared.token.Mark.{Mark}
 use Rattle.ds_gql.specs.declared.token.Mark.TheVariants as mark
 use Rattle.ds_gql.specs.Pieces.{Piece, fixed, name, integer, string, numbered, named, strange, undoubled}
 
--- what stands at the front of a text, and how many bytes it takes
+-- a token at the front of a text, and how many bytes it takes behind its first one
 pub record Front : Type 0 where
   pub piece : Piece
-  pub bytes : ℕ
-
-abbrev pub none_here : Front
-none_here = record { piece = strange; bytes = 0 }
+  pub more : ℕ
 
 -- ---- the bytes that tokens are made of
 
@@ -59,14 +56,14 @@ word_by (Some keyword) word = fixed keyword
 unfoldable pub word_of : List ℕ → Piece
 word_of word = word_by (lookup keywords word) word
 
-unfoldable pub word : List ℕ → Front
-word text = let n = prefix_len is_word_byte text in record { piece = word_of (take n text); bytes = n }
+unfoldable pub word : List ℕ → Option Front
+word text = let n = prefix_len is_word_byte (drop 1 text) in Some (record { piece = word_of (take (n + 1) text); more = n })
 
 -- a name in double quotes: at least one byte, none of them a double quote. The text begins behind the first of the two.
-unfoldable pub quoted_name : List ℕ → Front
+unfoldable pub quoted_name : List ℕ → Option Front
 quoted_name text =
-    let n = prefix_len (λ b. not (is_double_quote b)) text in
-    if nat_lt 0 n && nat_lt n (length text) then record { piece = name (take n text); bytes = n + 2 } else none_here
+    let n = position_or_len is_double_quote text in
+    if nat_lt 0 n && nat_lt n (length text) then Some (record { piece = name (take n text); more = n + 1 }) else None
 
 -- ---- strings
 
@@ -79,70 +76,71 @@ closing (b ∷ c ∷ text) =
     if is_quote b then (if is_quote c then Some (unwrap_or (option_map (λ n. n + 2) (closing text)) 1) else Some 1)
     else option_map (λ n. n + 1) (closing (c ∷ text))
 
-abbrev pub string_by : Option ℕ → List ℕ → Front
-string_by None text = none_here
-string_by (Some n) text = record { piece = string (undoubled (take (n - 1) text)); bytes = n + 1 }
+abbrev pub string_by : Option ℕ → List ℕ → Option Front
+string_by None text = None
+string_by (Some n) text = Some (record { piece = string (undoubled (take (n - 1) text)); more = n })
 
 -- the text begins behind the opening quote
-unfoldable pub string_front : List ℕ → Front
+unfoldable pub string_front : List ℕ → Option Front
 string_front text = string_by (closing text) text
 
 -- ---- numbers
+
+-- an optional `-`, and digits
+abbrev pub is_integer : List ℕ → Bool
+is_integer text = if slice_index text 0 == 45 then all_ascii_digits (drop 1 text) else all_ascii_digits text
 
 -- digits with an optional `-` in front, as a number of 64 bits with a sign
 unfoldable pub integer_of : List ℕ → Option ℤ
 integer_of text =
     if slice_index text 0 == 45
     then (let n = digits_value 10 (drop 1 text) in if nat_lt 0 (length (drop 1 text)) && nat_le n (2 ^ 63) then Some (neg_ℤ (pos n)) else None)
-    else (let n = digits_value 10 text in if nat_lt n (2 ^ 63) then Some (pos n) else None)
+    else (let n = digits_value 10 text in if nat_lt 0 (length text) && nat_lt n (2 ^ 63) then Some (pos n) else None)
 
-abbrev pub integer_by : Option ℤ → ℕ → Front
-integer_by None n = none_here
-integer_by (Some i) n = record { piece = integer i; bytes = n }
+abbrev pub integer_by : Option ℤ → ℕ → Option Front
+integer_by None n = None
+integer_by (Some i) n = Some (record { piece = integer i; more = n })
 
--- a number that leaves 64 bits is no token, and no shorter one is taken in its place
-unfoldable pub integer_front : List ℕ → Front
-integer_front text =
-    let sign = if slice_index text 0 == 45 then 1 else 0 in
-    let n = sign + prefix_len is_ascii_digit (drop sign text) in
-    integer_by (integer_of (take n text)) n
+-- The text begins with `-` or a digit. A number that leaves 64 bits is no token, and no shorter one is taken in its place.
+unfoldable pub integer_front : List ℕ → Option Front
+integer_front text = let n = prefix_len is_ascii_digit (drop 1 text) in integer_by (integer_of (take (n + 1) text)) n
 
 -- ---- bindings
 
 -- `:` and digits without a leading zero, or `:` and a word, taken as written; the text begins behind the `:`. No list of
 -- arguments has 2^64 values, so a number from there on is no token.
-unfoldable pub numbered_front : List ℕ → Front
+unfoldable pub numbered_front : List ℕ → Option Front
 numbered_front text =
     let n = prefix_len is_ascii_digit text in
     let number = digits_value 10 (take n text) in
-    if nat_lt number (2 ^ 64) then record { piece = numbered number; bytes = n + 1 } else none_here
+    if nat_lt number (2 ^ 64) then Some (record { piece = numbered number; more = n }) else None
 
-unfoldable pub named_front : List ℕ → Front
-named_front text = let n = prefix_len is_word_byte text in record { piece = named (take n text); bytes = n + 1 }
+unfoldable pub named_front : List ℕ → Option Front
+named_front text = let n = prefix_len is_word_byte text in Some (record { piece = named (take n text); more = n })
 
-unfoldable pub binding : List ℕ → Front
+unfoldable pub binding : List ℕ → Option Front
 binding text =
     let b = slice_index text 0 in
-    if begins_word b then named_front text else (if is_ascii_digit b && not (b == 48) then numbered_front text else none_here)
+    if begins_word b then named_front text else (if is_ascii_digit b && not (b == 48) then numbered_front text else None)
 
 -- ---- signs
 
-abbrev pub sign_of : Mark → ℕ → Front
-sign_of found n = record { piece = fixed found; bytes = n }
+abbrev pub sign_of : Mark → ℕ → Option Front
+sign_of found n = Some (record { piece = fixed found; more = n })
 
 -- the sign that begins with the byte b, which `next` follows
-unfoldable pub sign : ℕ → ℕ → Front
+unfoldable pub sign : ℕ → ℕ → Option Front
 sign b next =
-    if b == 42 then sign_of mark.Star 1 else (if b == 44 then sign_of mark.Comma 1
-    else (if b == 40 then sign_of mark.Open 1 else (if b == 41 then sign_of mark.Close 1 else (if b == 61 then sign_of mark.Equal 1
-    else (if b == 60 then (if next == 61 then sign_of mark.LessEqual 2 else sign_of mark.Less 1)
-    else (if b == 62 then (if next == 61 then sign_of mark.GreaterEqual 2 else sign_of mark.Greater 1)
-    else (if (b == 33) && (next == 61) then sign_of mark.NotEqual 2 else none_here)))))))
+    if b == 42 then sign_of mark.Star 0 else (if b == 44 then sign_of mark.Comma 0
+    else (if b == 40 then sign_of mark.Open 0 else (if b == 41 then sign_of mark.Close 0 else (if b == 61 then sign_of mark.Equal 0
+    else (if b == 60 then (if next == 61 then sign_of mark.LessEqual 1 else sign_of mark.Less 0)
+    else (if b == 62 then (if next == 61 then sign_of mark.GreaterEqual 1 else sign_of mark.Greater 0)
+    else (if (b == 33) && (next == 61) then sign_of mark.NotEqual 1 else None)))))))
 
 -- ---- the tokens of a text
 
--- the longest token at the front of a text, whose first byte is no blank
-unfoldable pub front : List ℕ → Front
+-- the longest token at the front of a text, whose first byte is no blank; none where no token stands there
+unfoldable pub front : List ℕ → Option Front
 front text =
     let b = slice_index text 0 in
     if begins_word b then word text
@@ -152,19 +150,30 @@ front text =
     else (if is_ascii_digit b || (b == 45) then integer_front text
     else sign b (slice_index text 1)))))
 
+-- what is there; the end where nothing is left of the text
+abbrev pub first : List ℕ → Option Front
+first [] = Some (record { piece = fixed mark.End; more = 0 })
+first (b ∷ text) = front (b ∷ text)
+
+abbrev pub behind_blanks : List ℕ → List ℕ
+behind_blanks text = drop (prefix_len is_blank text) text
+
 -- what stands at a place of a text, counted in bytes
 pub record Token : Type 0 where
   pub piece : Piece
   pub place : ℕ
 
 -- The tokens of what is left of a text, from this place on. The first number counts the bytes that belong to a token that has
--- begun. The last token is the end of the text, or the first place where no token stands.
+-- begun. The last token is the end of the text, or stands for the first place where no token stands.
 abbrev pub tokens_from : ℕ → ℕ → List ℕ → List Token
-tokens_from left at [] = record { piece = fixed mark.End; place = at } ∷ []
-tokens_from (suc left) at (b ∷ text) = tokens_from left (suc at) text
-tokens_from zero at (b ∷ text) = if is_blank b then tokens_from zero (suc at) text else behind (front (b ∷ text)) at (λ left. tokens_from left (suc at) text) where
-  behind : Front → ℕ → (ℕ → List Token) → List Token
-  behind first at others = if nat_lt 0 first.bytes then record { piece = first.piece; place = at } ∷ others (first.bytes - 1) else record { piece = strange; place = at } ∷ []
+tokens_from left place [] = record { piece = fixed mark.End; place = place } ∷ []
+tokens_from (suc left) place (b ∷ text) = tokens_from left (suc place) text
+tokens_from zero place (b ∷ text) =
+    if is_blank b then tokens_from zero (suc place) text
+    else begun (front (b ∷ text)) place (λ left. tokens_from left (suc place) text) where
+      begun : Option Front → ℕ → (ℕ → List Token) → List Token
+      begun None place others = record { piece = strange; place = place } ∷ []
+      begun (Some found) place others = record { piece = found.piece; place = place } ∷ others found.more
 
 unfoldable pub tokens_of : List ℕ → List Token
 tokens_of text = tokens_from 0 0 text

@@ -10,6 +10,7 @@ mod limits;
 mod operands;
 mod orders;
 mod selection;
+mod strings;
 
 use crate::draft::{Draft, Phase};
 use crate::statement::Bindings;
@@ -19,6 +20,7 @@ use std::alloc::Global;
 
 impl Draft {
     /// Takes one more token, and says whether a statement goes on so.
+    #[tactic(auto, unfolding(crate::specs::Steps::step))]
     pub(crate) fn step(
         &mut self,
         alloc: Global,

@@ -4,6 +4,7 @@ ghost use Rattle.ds_gql.specs.Steps as spec;
 ghost use Rattle.ds_gql.specs.Pieces.{seen, undoubled};
 
 use crate::statement::Bindings;
+use crate::steps::strings::undoubled;
 use crate::token::{Mark, Piece};
 use ds_base::limits::MAX_ID;
 use ds_base::{Ident, NamedValue, NoMemory, TextString, TryCopy, Value, Values, is_name};
@@ -136,11 +137,4 @@ fn id_of(n: i64) -> Option<Ident>
     } else {
         None
     }
-}
-
-/// What is between the quotes of a string, with one quote for each two.
-fn undoubled(alloc: Global, raw: &str) -> Result<TextString, NoMemory>
-    ensures { IfOk result (λ text. text ≡ undoubled raw.now) }
-{
-    TextString::of(alloc, raw)
 }

@@ -1,0 +1,6 @@
+pub mod ClosingLemmas
+pub mod DoublingLemmas
+pub mod FrontLemmas
+pub mod NumberLemmas
+pub mod ReadingLemmas
+pub mod RunLemmas
