@@ -1,5 +1,6 @@
 pub mod Fronts
 pub mod Pieces
+pub mod Sentences
 pub mod Statements
 pub mod Steps
 pub mod Taking

@@ -213,7 +213,7 @@ compare_by d None = None
 compare_by d (Some found) = Some (record d { phase = phase.Operand; op = found })
 
 abbrev pub at_compare : Draft → Piece → Option Draft
-at_compare d p = if is mark.In p then Some (record d { phase = phase.ListOpen; op = op.OneOf }) else compare_by d (compare_in p)
+at_compare d p = if is mark.In p then Some (record d { phase = phase.ListOpen; op = op.OneOf; values = [] }) else compare_by d (compare_in p)
 
 -- the condition is whole: it is a filter
 abbrev pub with_filter : Draft → List Value → Draft
@@ -229,7 +229,7 @@ operand_by d None = None
 operand_by d (Some v) = Some (with_filter d (v ∷ []))
 
 abbrev pub key_begins : KeyFor → Draft → Option Draft
-key_begins purpose d = Some (record d { phase = phase.KeyOpen; key_for = purpose })
+key_begins purpose d = Some (record d { phase = phase.KeyOpen; key_for = purpose; path = [] })
 
 abbrev pub at_operand : Bindings → Draft → Piece → Option Draft
 at_operand given d p = if is mark.Key p then key_begins for.Operand d else operand_by d (value_of given p)
@@ -326,10 +326,13 @@ abbrev pub at_limit_read : Draft → Piece → Option Draft
 at_limit_read d p =
     if is mark.Comma p then on phase.PairedLimit d else (if is mark.Offset p then on phase.Offset d else at_end d p)
 
+abbrev pub with_pair : Draft → ℕ → ℕ → Option Draft
+with_pair d offset limit = Some (record d { phase = phase.Whole; offset = offset; limit = Some limit })
+
 -- in `LIMIT a , b` the offset is a and the limit is b
 abbrev pub paired_by : Draft → Option ℕ → Option Draft
 paired_by d None = None
-paired_by d (Some n) = Some (record d { phase = phase.Whole; offset = unwrap_or d.limit 0; limit = Some n })
+paired_by d (Some n) = with_pair d (unwrap_or d.limit 0) n
 
 abbrev pub offset_by : Draft → Option ℕ → Option Draft
 offset_by d None = None

@@ -38,7 +38,7 @@ impl Draft {
             Phase::From => self.at_from(alloc, piece),
             Phase::KindRead => Ok(self.at_conditions(piece)),
             Phase::Condition => self.at_condition(alloc, piece),
-            Phase::Compare => Ok(self.at_compare(piece)),
+            Phase::Compare => Ok(self.at_compare(alloc, piece)),
             Phase::Operand => self.at_operand(alloc, bindings, piece),
             Phase::ListOpen => Ok(self.go_if(piece.is(Mark::Open), Phase::Listed)),
             Phase::Listed => self.at_listed(alloc, bindings, piece),

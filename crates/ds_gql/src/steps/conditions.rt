@@ -51,11 +51,12 @@ impl Draft {
     }
 
     /// IN, or another operator.
-    pub(super) fn at_compare(&mut self, piece: Piece<'_>) -> bool
+    pub(super) fn at_compare(&mut self, alloc: Global, piece: Piece<'_>) -> bool
         ensures { Takes (spec.at_compare self.old (seen piece.entry)) result self.new }
     {
         if piece.is(Mark::In) {
             self.op = Op::OneOf;
+            self.values = Values::new(alloc);
             return self.go(Phase::ListOpen);
         }
         match compare_in(piece) {
@@ -77,7 +78,7 @@ impl Draft {
         ensures { TakesUnlessNoMemory (spec.at_operand bindings.now self.old (seen piece.entry)) result self.new }
     {
         if piece.is(Mark::Key) {
-            return Ok(self.begin_key(KeyFor::Operand));
+            return Ok(self.begin_key(alloc, KeyFor::Operand));
         }
         match value_of(alloc, bindings, piece)? {
             Some(value) => {
@@ -98,7 +99,7 @@ impl Draft {
         ensures { TakesUnlessNoMemory (spec.at_listed bindings.now self.old (seen piece.entry)) result self.new }
     {
         if piece.is(Mark::Key) {
-            return Ok(self.begin_key(KeyFor::Listed));
+            return Ok(self.begin_key(alloc, KeyFor::Listed));
         }
         match value_of(alloc, bindings, piece)? {
             Some(value) => {
@@ -137,7 +138,7 @@ impl Draft {
         ensures { TakesUnlessNoMemory (spec.at_ancestor_key bindings.now self.old (seen piece.entry)) result self.new }
     {
         if piece.is(Mark::Key) {
-            return Ok(self.begin_key(KeyFor::Ancestor));
+            return Ok(self.begin_key(alloc, KeyFor::Ancestor));
         }
         match value_of(alloc, bindings, piece)? {
             Some(Value::Key(key)) => {

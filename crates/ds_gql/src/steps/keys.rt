@@ -13,10 +13,11 @@ use std::alloc::{AllocError, Global};
 
 impl Draft {
     /// KEY was read, for this purpose.
-    pub(super) fn begin_key(&mut self, purpose: KeyFor) -> bool
+    pub(super) fn begin_key(&mut self, alloc: Global, purpose: KeyFor) -> bool
         ensures { Takes (spec.key_begins purpose self.old) result self.new }
     {
         self.key_for = purpose;
+        self.path = Elems::new(alloc);
         self.go(Phase::KeyOpen)
     }
 

@@ -61,12 +61,19 @@ impl Draft {
     {
         match count_in(piece) {
             Some(count) => {
-                self.offset = self.limit.unwrap_or(0);
-                self.limit = Some(count);
-                self.go(Phase::Whole)
+                let first = self.limit.unwrap_or(0);
+                self.put_pair(first, count)
             }
             None => false,
         }
+    }
+
+    fn put_pair(&mut self, offset: u32, limit: u32) -> bool
+        ensures { Takes (spec.with_pair self.old offset limit) result self.new }
+    {
+        self.offset = offset;
+        self.limit = Some(limit);
+        self.go(Phase::Whole)
     }
 
     /// The count behind OFFSET.
