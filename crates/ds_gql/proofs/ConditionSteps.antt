@@ -44,10 +44,22 @@ key_of path = record { namespace = []; elems = path }
 
 -- ---- operands
 
+-- what values of a list add to the open ones
+pub record Listed (r s : Open) (xs : List Value) : Type 0 where
+  pub values : s.values ≡ r.values ++ xs
+  pub property : s.property ≡ r.property
+  pub op : s.op ≡ r.op
+
+abbrev filter_with : List ℕ → Op → List Value → Filter
+filter_with property found values = record { property = property; op = found; values = values }
+
+filter_same : {p q : List ℕ} {o u : Op} {xs ys : List Value} → p ≡ q → o ≡ u → xs ≡ ys → filter_with p o xs ≡ filter_with q u ys
+filter_same pq ou xy = λ i. filter_with (pq i) (ou i) (xy i)
+
 module _ {given : Bindings} (v : Shown) where
   -- the one value of a condition
   pub operand_goes : (r : Open) (o : Operand) (x : Value) → operand_value given o ≡ Some x
-    → (s : Open) × Goes given (draft phase.Operand v r) (operand_pieces o) (draft phase.ConditionRead (record v { filters = v.filters ++ record { property = r.property; op = r.op; values = x ∷ [] } ∷ [] }) s)
+      → (s : Open) × Goes given (draft phase.Operand v r) (operand_pieces o) (draft phase.ConditionRead (record v { filters = v.filters ++ record { property = r.property; op = r.op; values = x ∷ [] } ∷ [] }) s)
   unfolding step
   operand_goes r (one p) x e =
       let others = value_is_no given p x e in
@@ -57,15 +69,11 @@ module _ {given : Bindings} (v : Shown) where
   operand_goes r (key (f ∷ fs)) x e =
       let parts = only_if (is_path (f ∷ fs)) (Some (value.Key (record { namespace = []; elems = f ∷ fs }))) x e in
       let same : value.Key (record { namespace = []; elems = f ∷ fs }) ≡ x = cc in
-      let s : Open = record r { property = []; values = []; key_for = for.Operand; path = []; elem_kind = [] } in
-      (s, subst (λ (y : Value). Goes given (draft phase.Operand v r) (operand_pieces (key (f ∷ fs))) (draft phase.ConditionRead (record v { filters = v.filters ++ record { property = r.property; op = r.op; values = y ∷ [] } ∷ [] }) s)) same
-      (more refl refl (key_behind v r for.Operand f fs parts.0)))
-
-  -- what a value of a list adds to the open ones
-  pub record Listed (r s : Open) (xs : List Value) : Type 0 where
-    pub values : s.values ≡ r.values ++ xs
-    pub property : s.property ≡ r.property
-    pub op : s.op ≡ r.op
+      let s : Open = record r { property = []; values = []; key_for = for.Operand; path = []; elem_kind = [] } in (
+        s,
+        subst (λ (y : Value). Goes given (draft phase.Operand v r) (operand_pieces (key (f ∷ fs))) (draft phase.ConditionRead (record v { filters = v.filters ++ record { property = r.property; op = r.op; values = y ∷ [] } ∷ [] }) s)) same
+            (more refl refl (key_behind v r for.Operand f fs parts.0)),
+      )
 
   listed_goes : (r : Open) (o : Operand) (x : Value) → operand_value given o ≡ Some x → (s : Open) × Goes given (draft phase.Listed v r) (operand_pieces o) (draft phase.ListedRead v s) × Listed r s (x ∷ [])
   unfolding step
@@ -87,12 +95,15 @@ module _ {given : Bindings} (v : Shown) where
       let first = chain_some (operand_value given o) (λ y. option_map (λ vs. y ∷ vs) (operand_values given os)) xs e in
       let rest = map_some (operand_values given os) (λ vs. first.0 ∷ vs) xs first.2 in
       let here = listed_goes r o first.0 first.1 in
-      let there = further_listed here.0 os rest.0 rest.1 in
-      (there.0, more refl refl (then here.1 there.1), record {
-        values = there.2.values ∙ ap (λ vs. vs ++ rest.0) here.2.values ∙ append_assoc r.values (first.0 ∷ []) rest.0 ∙ ap (λ vs. r.values ++ vs) rest.2;
-        property = there.2.property ∙ here.2.property;
-        op = there.2.op ∙ here.2.op;
-      })
+      let there = further_listed here.0 os rest.0 rest.1 in (
+        there.0,
+        more refl refl (then here.1 there.1),
+        record {
+          values = there.2.values ∙ ap (λ vs. vs ++ rest.0) here.2.values ∙ append_assoc r.values (first.0 ∷ []) rest.0 ∙ ap (λ vs. r.values ++ vs) rest.2;
+          property = there.2.property ∙ here.2.property;
+          op = there.2.op ∙ here.2.op;
+        },
+      )
 
   ancestor_goes : (r : Open) (o : Operand) (k : KeyParts) → option_and_then key_in (operand_value given o) ≡ Some k → (s : Open) × Goes given (draft phase.AncestorKey v r) (operand_pieces o) (draft phase.ConditionRead (record v { ancestor = Some k }) s)
   unfolding step
@@ -105,8 +116,9 @@ module _ {given : Bindings} (v : Shown) where
   ancestor_goes r (key (f ∷ fs)) k e = by (is_path (f ∷ fs)) refl e where
     s : Open
     s = record r { key_for = for.Ancestor; path = []; elem_kind = [] }
+
     by : (lawful : Bool) → is_path (f ∷ fs) ≡ lawful → option_and_then key_in (cond lawful (Some (value.Key (record { namespace = []; elems = f ∷ fs }))) None) ≡ Some k
-      → (s : Open) × Goes given (draft phase.AncestorKey v r) (operand_pieces (key (f ∷ fs))) (draft phase.ConditionRead (record v { ancestor = Some k }) s)
+        → (s : Open) × Goes given (draft phase.AncestorKey v r) (operand_pieces (key (f ∷ fs))) (draft phase.ConditionRead (record v { ancestor = Some k }) s)
     by false is e = absurd (cc)
     by true is e =
         let same : record { namespace = []; elems = f ∷ fs } ≡ k = cc in
@@ -125,10 +137,12 @@ module _ {given : Bindings} where
       let valued = map_some (operand_value given o) (λ x. (v.filters ++ record { property = property; op = found.0; values = x ∷ [] } ∷ [], v.ancestor)) next found.2 in
       let others = operator_is_no sign found.0 found.1 in
       let d = draft phase.Compare v (record r { property = property }) in
-      let o_goes = operand_goes v (record r { property = property; op = found.0 }) o valued.0 valued.1 in
-      (o_goes.0, subst (λ (n : Conditions). Goes given (draft phase.Condition v r) (condition_pieces (compare property sign o)) (draft phase.ConditionRead (with_found v n) o_goes.0)) valued.2
-      (more refl refl
-      (more (ap (λ b. cond b (Some (draft phase.ListOpen v (record r { property = property; op = op.OneOf; values = [] }))) (compare_by d (compare_of sign))) others.1 ∙ ap (compare_by d) found.1) others.0 o_goes.1)))
+      let o_goes = operand_goes v (record r { property = property; op = found.0 }) o valued.0 valued.1 in (
+        o_goes.0,
+        subst (λ (n : Conditions). Goes given (draft phase.Condition v r) (condition_pieces (compare property sign o)) (draft phase.ConditionRead (with_found v n) o_goes.0)) valued.2
+            (more refl refl
+            (more (ap (λ b. cond b (Some (draft phase.ListOpen v (record r { property = property; op = op.OneOf; values = [] }))) (compare_by d (compare_of sign))) others.1 ∙ ap (compare_by d) found.1) others.0 o_goes.1)),
+      )
   condition_goes v r (among property first rest) next e =
       let valued = map_some (operand_values given (first ∷ rest)) (λ xs. (v.filters ++ record { property = property; op = op.OneOf; values = xs } ∷ [], v.ancestor)) next e in
       let x = chain_some (operand_value given first) (λ y. option_map (λ vs. y ∷ vs) (operand_values given rest)) valued.0 valued.1 in
@@ -136,20 +150,21 @@ module _ {given : Bindings} where
       let here = listed_goes v (record r { property = property; op = op.OneOf; values = [] }) first x.0 x.1 in
       let there = further_listed v here.0 rest xs.0 xs.1 in
       let s = there.0 in
-      let filter_is : record { property = s.property; op = s.op; values = s.values } ≡ record { property = property; op = op.OneOf; values = valued.0 } =
-          filter_same (there.2.property ∙ here.2.property) (there.2.op ∙ here.2.op) (there.2.values ∙ ap (λ vs. vs ++ xs.0) here.2.values ∙ xs.2) in
-      (record s { property = []; values = [] },
-      subst (λ (n : Conditions). Goes given (draft phase.Condition v r) (condition_pieces (among property first rest)) (draft phase.ConditionRead (with_found v n) (record s { property = []; values = [] }))) (ap (λ (f : Filter). (v.filters ++ f ∷ [], v.ancestor)) filter_is ∙ valued.2)
-      (more refl refl (more refl refl (more refl refl (then here.1 (then there.1 (more refl refl stay))))))) where
-        filter_same : {p q : List ℕ} {o u : Op} {xs ys : List Value} → p ≡ q → o ≡ u → xs ≡ ys → record { property = p; op = o; values = xs } ≡ record { property = q; op = u; values = ys }
-        filter_same pq ou xy = λ i. record { property = pq i; op = ou i; values = xy i }
+      let filter_is : filter_with s.property s.op s.values ≡ filter_with property op.OneOf valued.0 =
+      filter_same (there.2.property ∙ here.2.property) (there.2.op ∙ here.2.op) (there.2.values ∙ ap (λ vs. vs ++ xs.0) here.2.values ∙ xs.2) in (
+        record s { property = []; values = [] },
+        subst (λ (n : Conditions). Goes given (draft phase.Condition v r) (condition_pieces (among property first rest)) (draft phase.ConditionRead (with_found v n) (record s { property = []; values = [] }))) (ap (λ (f : Filter). (v.filters ++ f ∷ [], v.ancestor)) filter_is ∙ valued.2)
+            (more refl refl (more refl refl (more refl refl (then here.1 (then there.1 (more refl refl stay)))))),
+      )
   condition_goes v r (under o) next e =
       let found = chain_some (option_and_then key_in (operand_value given o)) (λ k. cond (no_ancestor v.ancestor) (Some (v.filters, Some k)) None) next e in
       let parts = only_if (no_ancestor v.ancestor) (Some (v.filters, Some found.0)) next found.2 in
       let same : (v.filters, Some found.0) ≡ next = cc in
-      let goes = ancestor_goes v r o found.0 found.1 in
-      (goes.0, subst (λ (n : Conditions). Goes given (draft phase.Condition v r) (condition_pieces (under o)) (draft phase.ConditionRead (with_found v n) goes.0)) same
-      (more (ap (λ b. on_if b phase.AncestorIs (draft phase.Condition v r)) parts.0) refl (more refl refl goes.1)))
+      let goes = ancestor_goes v r o found.0 found.1 in (
+        goes.0,
+        subst (λ (n : Conditions). Goes given (draft phase.Condition v r) (condition_pieces (under o)) (draft phase.ConditionRead (with_found v n) goes.0)) same
+            (more (ap (λ b. on_if b phase.AncestorIs (draft phase.Condition v r)) parts.0) refl (more refl refl goes.1)),
+      )
 
   pub further_conditions : (v : Shown) (r : Open) (cs : List Condition) (next : Conditions) → with_conditions given (v.filters, v.ancestor) cs ≡ Some next → (s : Open) × Goes given (draft phase.ConditionRead v r) (others (fixed mark.And) condition_pieces cs) (draft phase.ConditionRead (with_found v next) s)
   unfolding step

@@ -5,4 +5,5 @@ pub mod FrontLemmas
 pub mod NumberLemmas
 pub mod ReadingLemmas
 pub mod RunLemmas
+pub mod SentenceLaws
 pub mod SentenceSteps

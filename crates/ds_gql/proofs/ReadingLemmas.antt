@@ -100,7 +100,7 @@ step-strange given d = by d.phase refl where
   by phase.Whole is = rw is refl
   by phase.Ended is = rw is refl
 
-read_on-cons : (given : Bindings) (d : Draft) (t : Token) (tokens : List Token) → read_on given d (t ∷ tokens) ≡ stepped (step given d t.piece) t (λ next. read_on given next tokens)
+pub read_on-cons : (given : Bindings) (d : Draft) (t : Token) (tokens : List Token) → read_on given d (t ∷ tokens) ≡ stepped (step given d t.piece) t (λ next. read_on given next tokens)
 unfolding read_on
 read_on-cons given d t tokens = refl
 

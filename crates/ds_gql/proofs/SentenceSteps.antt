@@ -53,8 +53,21 @@ pub record Open : Type 0 where
 
 abbrev pub draft : Phase → Shown → Open → Draft
 draft p v r = record {
-  phase = p; select = v.select; names = v.names; kind = v.kind; ancestor = v.ancestor; filters = v.filters; orders = v.orders;
-  offset = v.offset; limit = v.limit; property = r.property; op = r.op; values = r.values; key_for = r.key_for; path = r.path; elem_kind = r.elem_kind;
+  phase = p;
+  select = v.select;
+  names = v.names;
+  kind = v.kind;
+  ancestor = v.ancestor;
+  filters = v.filters;
+  orders = v.orders;
+  offset = v.offset;
+  limit = v.limit;
+  property = r.property;
+  op = r.op;
+  values = r.values;
+  key_for = r.key_for;
+  path = r.path;
+  elem_kind = r.elem_kind;
 }
 
 -- ---- reading pieces, without their places
@@ -139,7 +152,7 @@ module _ {given : Bindings} (v : Shown) where
 
   -- what follows KEY
   pub key_behind : (r : Open) (purpose : KeyFor) (e : Elem) (es : List Elem) → is_path (e ∷ es) ≡ true → Goes given (draft phase.KeyOpen v (record r { key_for = purpose; path = [] })) (fixed mark.Open ∷ (elem_pieces e ++ others comma elem_pieces es) ++ fixed mark.Close ∷ [])
-    (key_read_for purpose (draft phase.ElemRead v (record r { key_for = purpose; path = []; elem_kind = [] })) (record { namespace = []; elems = e ∷ es }))
+      (key_read_for purpose (draft phase.ElemRead v (record r { key_for = purpose; path = []; elem_kind = [] })) (record { namespace = []; elems = e ∷ es }))
   unfolding step
   key_behind r purpose e es lawful =
       let parts = and_parts (nat_le 1 (length (e ∷ es)) && nat_le (length (e ∷ es)) most_elements) (list_all is_elem (e ∷ es)) lawful in

@@ -1,4 +1,5 @@
 pub mod Fronts
+pub mod GqlLaws
 pub mod Pieces
 pub mod Sentences
 pub mod Statements

@@ -192,10 +192,16 @@ says given s =
     if is_what s.what && is_kind s.kind
     then option_and_then (λ found. option_map (λ bounds. record {
       query = record {
-        namespace = []; kind = s.kind; ancestor = found.1; filters = found.0; orders = map column_of s.orders;
-        select = select_of s.what; cursors = false;
+        namespace = [];
+        kind = s.kind;
+        ancestor = found.1;
+        filters = found.0;
+        orders = map column_of s.orders;
+        select = select_of s.what;
+        cursors = false;
       };
-      offset = bounds.0; limit = bounds.1;
+      offset = bounds.0;
+      limit = bounds.1;
     }) (bounds_of s.limits)) (with_conditions given ([], None) s.conditions)
     else None
 

@@ -10,6 +10,7 @@
 #![tactic(auto)]
 
 mod draft;
+pub mod laws;
 mod lexer;
 pub mod parser;
 pub mod statement;
