@@ -2,6 +2,8 @@ pub mod ClosingLemmas
 pub mod ConditionSteps
 pub mod DoublingLemmas
 pub mod FrontLemmas
+pub mod GoingOn
+pub mod GoingOnLaws
 pub mod NumberLemmas
 pub mod ReadingLemmas
 pub mod RunLemmas

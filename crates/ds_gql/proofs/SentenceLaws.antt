@@ -1,11 +1,9 @@
 -- Sentences are read, and where a text stops no sentence goes on.
-use Rattle.std.proofs.Common.{◌≡◌, ℕ, zero, suc, ◌+◌, Bool, true, false, cond, not, List, [], ◌∷◌, ◌++◌, length, map, Option, Some, None, Result, Ok, Err, ◌⊎◌, inl, inr, refl, sym, ap, ◌∙◌, subst, arith, append_assoc, append-nil}
-use Rattle.std.specs.Prelude.{option_map, option_and_then, unwrap_or, pos, ◌&&◌, ◌||◌, ◌==◌, bytes_eq}
+use Rattle.std.proofs.Common.{◌≡◌, ℕ, zero, suc, Bool, true, false, cond, not, List, [], ◌∷◌, ◌++◌, length, map, Option, Some, None, Ok, Err, ◌⊎◌, inl, inr, refl, sym, ap, ◌∙◌, subst, arith, append_assoc, append-nil}
+use Rattle.std.specs.Prelude.{option_map, unwrap_or, pos, ◌&&◌, ◌||◌, ◌==◌, bytes_eq}
 use Rattle.std.specs.List.{list_any}
 use Rattle.std.proofs.lemmas.Bool.{and_parts}
 use Rattle.std.proofs.lemmas.Bool.Decides.{nat_tests}
-use Rattle.ds_base.specs.Keys.{KeyParts, is_name}
-use Rattle.ds_base.specs.declared.column.Column.{Column}
 use Rattle.ds_query.specs.declared.query.Op.TheVariants as op
 use Rattle.ds_query.specs.declared.query.Select.{Select}
 use Rattle.ds_query.specs.declared.query.Select.TheVariants as select
@@ -18,11 +16,11 @@ use Rattle.ds_gql.specs.declared.draft.Draft.{Draft}
 use Rattle.ds_gql.specs.declared.token.Mark.TheVariants as mark
 use Rattle.ds_gql.specs.Pieces.{Piece, fixed, name, integer, strange, is}
 use Rattle.ds_gql.specs.Tokens.{Front, Token, tokens_from, tokens_of, front, is_blank}
-use Rattle.ds_gql.specs.Steps.{step, empty, complete, selected, projected, count_of, key_name, on, limit_by, offset_by, paired_by}
+use Rattle.ds_gql.specs.Steps.{step, empty, complete, selected, projected, count_of, key_name, limit_by, offset_by, paired_by}
 use Rattle.ds_gql.specs.Statements.{read_on, stepped, statement_of}
 use Rattle.ds_gql.specs.Sentences.{What, everything, keys, names, Condition, Conditions, Order, Limits, none, limit, limit_offset, pair, offset, Sentence, comma, others, led_by, name_pieces, what_pieces, kind_pieces, condition_pieces, direction_pieces, order_pieces, limits_pieces, pieces, is_what, select_of, is_kind, with_conditions, column_of, bounds_of, says, Derives}
-use Rattle.ds_gql.specs.GqlLaws.{pieces_of, SentencesAreRead, StopsAt, NoSentenceGoesOn}
-use Rattle.ds_gql.proofs.SentenceSteps.{Shown, Open, draft, stepped_to, read_pieces, Goes, stay, more, then, chain_some, map_some, only_if}
+use Rattle.ds_gql.specs.GqlLaws.{pieces_of, SentencesAreRead, NoSentenceGoesOn}
+use Rattle.ds_gql.proofs.SentenceSteps.{Shown, Open, draft, stepped_to, read_pieces, Goes, stay, more, chain_some, map_some, only_if}
 use Rattle.ds_gql.proofs.ConditionSteps.{with_found, first_conditions}
 use Rattle.ds_gql.proofs.ReadingLemmas.{step-strange, read_on-cons}
 
@@ -317,7 +315,7 @@ module _ (given : Bindings) where
 
   -- ---- with their places
 
-  read_with_places : (tokens : List Token) (d : Draft) (st : Statement) → read_pieces given d (pieces_of tokens) ≡ Some st → read_on given d tokens ≡ Ok st
+  pub read_with_places : (tokens : List Token) (d : Draft) (st : Statement) → read_pieces given d (pieces_of tokens) ≡ Some st → read_on given d tokens ≡ Ok st
   read_with_places [] d st e = absurd (cc)
   read_with_places (t ∷ tokens) d st e = read_on-cons given d t tokens ∙ by (step given d t.piece) e (λ n. read_with_places tokens n st) where
     by : (next : Option Draft) → stepped_to next t.piece (λ n. read_pieces given n (pieces_of tokens)) ≡ Some st → ((n : Draft) → read_pieces given n (pieces_of tokens) ≡ Some st → read_on given n tokens ≡ Ok st) → stepped next t (λ n. read_on given n tokens) ≡ Ok st
@@ -337,7 +335,7 @@ sentences_are_read given text st derived = read_with_places given (tokens_of tex
 -- ---- where a text stops
 
 -- the last token is the end, or a place where no token stands
-abbrev Closed : List Token → Type 0
+abbrev pub Closed : List Token → Type 0
 Closed [] = ⊥
 Closed (t ∷ []) = (t.piece ≡ strange) ⊎ (t.piece ≡ fixed mark.End)
 Closed (t ∷ u ∷ ts) = Closed (u ∷ ts)
@@ -346,7 +344,7 @@ closed_more : (t : Token) (ts : List Token) → Closed ts → Closed (t ∷ ts)
 closed_more t [] closed = absurd closed
 closed_more t (u ∷ ts) closed = closed
 
-tokens_from-closed : (left place : ℕ) (text : List ℕ) → Closed (tokens_from left place text)
+pub tokens_from-closed : (left place : ℕ) (text : List ℕ) → Closed (tokens_from left place text)
 tokens_from-closed left place [] = inr refl
 tokens_from-closed (suc left) place (b ∷ text) = tokens_from-closed left (suc place) text
 tokens_from-closed zero place (b ∷ text) = by (is_blank b) refl (λ left. tokens_from-closed left (suc place) text) where

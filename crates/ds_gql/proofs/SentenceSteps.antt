@@ -1,7 +1,7 @@
 -- How the tokens of a sentence are read, part by part.
-use Rattle.std.proofs.Common.{◌≡◌, ℕ, ◌+◌, ◌<◌, ◌≤◌, Bool, true, false, cond, not, List, [], ◌∷◌, ◌++◌, length, map, Option, Some, None, Result, Ok, Err, refl, sym, ap, ◌∙◌, subst, arith, append_assoc, append-nil, length-append}
-use Rattle.std.specs.Prelude.{option_map, option_and_then, unwrap_or, pos, nat_lt, nat_le, ◌&&◌, ◌||◌, ◌==◌, bytes_eq}
-use Rattle.std.specs.List.{list_all, list_any}
+use Rattle.std.proofs.Common.{◌≡◌, ℕ, ◌+◌, ◌≤◌, Bool, true, false, cond, List, [], ◌∷◌, ◌++◌, length, Option, Some, None, refl, sym, ap, ◌∙◌, subst, arith, append_assoc, append-nil, length-append}
+use Rattle.std.specs.Prelude.{option_map, option_and_then, nat_lt, nat_le, ◌&&◌}
+use Rattle.std.specs.List.{list_all}
 use Rattle.std.proofs.lemmas.Bool.{and_parts}
 use borrow.Author.Tests.{leb-true, lt-ltb}
 use Rattle.ds_base.specs.Limits.{most_elements}
@@ -10,26 +10,20 @@ use Rattle.ds_base.specs.declared.key.Ident.{Ident}
 use Rattle.ds_base.specs.declared.key.Ident.TheVariants as ident
 use Rattle.ds_base.specs.declared.key.Elem.{Elem}
 use Rattle.ds_base.specs.declared.value.Value.{Value}
-use Rattle.ds_base.specs.declared.value.Value.TheVariants as value
 use Rattle.ds_base.specs.declared.column.Column.{Column}
 use Rattle.ds_query.specs.declared.query.Op.{Op}
-use Rattle.ds_query.specs.declared.query.Op.TheVariants as op
 use Rattle.ds_query.specs.declared.query.Filter.{Filter}
 use Rattle.ds_query.specs.declared.query.Select.{Select}
-use Rattle.ds_query.specs.declared.query.Select.TheVariants as select
 use Rattle.ds_gql.specs.declared.statement.Bindings.{Bindings}
 use Rattle.ds_gql.specs.declared.statement.Statement.{Statement}
 use Rattle.ds_gql.specs.declared.draft.Phase.{Phase}
 use Rattle.ds_gql.specs.declared.draft.Phase.TheVariants as phase
 use Rattle.ds_gql.specs.declared.draft.KeyFor.{KeyFor}
-use Rattle.ds_gql.specs.declared.draft.KeyFor.TheVariants as for
 use Rattle.ds_gql.specs.declared.draft.Draft.{Draft}
-use Rattle.ds_gql.specs.declared.token.Mark.{Mark}
 use Rattle.ds_gql.specs.declared.token.Mark.TheVariants as mark
-use Rattle.ds_gql.specs.Pieces.{Piece, fixed, name, integer, string, numbered, named, strange, is}
-use Rattle.ds_gql.specs.Steps.{step, empty, complete, value_of, constant_of, key_in, compare_of, count_of, key_name, key_read_for, with_filter, operand_by, listed_by, ancestor_by, elem_kind_by, ident_by, select_named, next_named, kind_named, on_if, compare_by, no_ancestor, limit_by, offset_by, paired_by}
-use Rattle.ds_gql.specs.Sentences as sentence
-use Rattle.ds_gql.specs.Sentences.{comma, others, led_by, elem_pieces, ident_piece, operand_pieces, condition_pieces, order_pieces, limits_pieces, operand_value, operand_values, Operand, Condition, Order, Limits, What}
+use Rattle.ds_gql.specs.Pieces.{Piece, fixed, is}
+use Rattle.ds_gql.specs.Steps.{step, complete, key_read_for, elem_kind_by, ident_by, on_if}
+use Rattle.ds_gql.specs.Sentences.{comma, others, elem_pieces, ident_piece}
 
 -- ---- drafts by their phase, what they show in the end, and what is being read
 
