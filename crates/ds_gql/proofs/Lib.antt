@@ -1,0 +1,11 @@
+pub mod ClosingLemmas
+pub mod ConditionSteps
+pub mod DoublingLemmas
+pub mod FrontLemmas
+pub mod GoingOn
+pub mod GoingOnLaws
+pub mod NumberLemmas
+pub mod ReadingLemmas
+pub mod RunLemmas
+pub mod SentenceLaws
+pub mod SentenceSteps

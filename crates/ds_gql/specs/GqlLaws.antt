@@ -1,0 +1,44 @@
+-- What is proved of the reading of texts, beside that the code meets it.
+use Rattle.std.specs.Prelude.{◌≡◌, ℕ, List, ◌∷◌, ◌++◌, map, Ok, Err}
+use Rattle.ds_gql.specs.declared.statement.Bindings.{Bindings}
+use Rattle.ds_gql.specs.declared.statement.Statement.{Statement}
+use Rattle.ds_gql.specs.Pieces.{Piece}
+use Rattle.ds_gql.specs.Tokens.{Token, tokens_of}
+use Rattle.ds_gql.specs.Sentences.{Derives}
+use Rattle.ds_gql.specs.Statements.{read_on, statement_of}
+use Rattle.ds_gql.specs.Steps.{empty}
+
+abbrev pub pieces_of : List Token → List Piece
+pieces_of tokens = map (λ t. t.piece) tokens
+
+-- a text whose tokens are a sentence is the statement that the sentence says
+abbrev pub SentencesAreRead : Type 0
+SentencesAreRead = (given : Bindings) (text : List ℕ) (st : Statement) → Derives given (pieces_of (tokens_of text)) st → statement_of text given ≡ Ok st
+
+-- no sentence begins with the tokens up to the one at this place
+pub record StopsAt (given : Bindings) (tokens : List Token) (place : ℕ) : Type 0 where
+  pub before : List Token
+  pub token : Token
+  pub behind : List Token
+  pub all : tokens ≡ before ++ token ∷ behind
+  pub there : token.place ≡ place
+  pub stops : (more : List Piece) (st : Statement) → Derives given (pieces_of before ++ token.piece ∷ more) st → ⊥
+
+-- where a text stops being a statement, no sentence begins with the tokens up to there
+abbrev pub NoSentenceGoesOn : Type 0
+NoSentenceGoesOn = (given : Bindings) (text : List ℕ) (place : ℕ) → statement_of text given ≡ Err place → StopsAt given (tokens_of text) place
+
+-- the tokens up to this place, without the one there, go on to a statement
+pub record GoesOnTo (given : Bindings) (tokens : List Token) (place : ℕ) : Type 0 where
+  pub before : List Token
+  pub token : Token
+  pub behind : List Token
+  pub all : tokens ≡ before ++ token ∷ behind
+  pub there : token.place ≡ place
+  pub more : List Token
+  pub statement : Statement
+  pub reads : read_on given empty (before ++ more) ≡ Ok statement
+
+-- where a text stops being a statement, the tokens before that place could have gone on
+abbrev pub TokensBeforeGoOn : Type 0
+TokensBeforeGoOn = (given : Bindings) (text : List ℕ) (place : ℕ) → statement_of text given ≡ Err place → GoesOnTo given (tokens_of text) place
