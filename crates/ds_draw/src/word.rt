@@ -9,7 +9,6 @@ use std::alloc::Global;
 use std::marker::Model;
 use std::sync::Wait;
 use std::thread;
-use std::thread::Threads;
 
 /// A word that only rises, shared by threads, from which seats draw numbers.
 #[derive(Drop)]
@@ -44,7 +43,7 @@ impl Word {
     /// `at + count` is the seat's counter then, which wasn't above `at` before. An exchange that finds another number is
     /// a look, and is tried again: the call waits until the word comes to stand at `at`, and never returns where it
     /// doesn't. It takes no memory.
-    pub fn draw_at<Rt: Threads + Wait + Sync>(&self, rt: &Rt, seat: &mut Seat, at: u64, count: u64)
+    pub fn draw_at<Rt: Wait>(&self, rt: &Rt, seat: &mut Seat, at: u64, count: u64)
         requires word { seat.old.word ≡ self.now.name }
         requires some { 0 < count }
         requires limit { at + count < 2 ^ 63 }

@@ -15,32 +15,32 @@ pub struct Origin<T, O> {
 pub type Knows<O, S> = Option<Origin<<S as Absorb<O>>::State, O>>;
 
 /// The copy that is shown is the fold of its prefix, from where everyone knows the hub to begin.
-pub struct Law;
+pub struct ShownIsFold;
 
-impl<O, S: Absorb<O> + Drop> Protocol<Version<O, S>, Knows<O, S>> for Law {
+impl<O: Drop, S: Absorb<O> + Drop> Protocol<Version<O, S>, Knows<O, S>> for ShownIsFold {
     ghost use Rattle.std.specs.Prelude.{None};
-    ghost use Rattle.ds_hub.specs.Steps.{AllFit};
+    ghost use Rattle.ds_hub.specs.Logs.{AllFit};
 
     ghost holds = { λ x views. AllFit S.applied (S.state x.state) x.prefix views };
 
     ghost first = { None };
 }
 
-/// The writer's first step: it learns where the hub begins.
+/// The first publish, by which the writer learns where the hub begins.
 pub struct Begins;
 
-impl<O, S: Absorb<O> + Drop> Outcome<Version<O, S>, Knows<O, S>> for Begins {
+impl<O: Drop, S: Absorb<O> + Drop> Outcome<Version<O, S>, Knows<O, S>> for Begins {
     ghost use Rattle.std.specs.Prelude.{◌≡◌, Some};
 
     ghost then = { λ v x y w. w ≡ Some (record { start = S.state x.state; prefix = x.prefix }) };
 }
 
-/// A later step, which leaves what is known.
+/// An enter or a later publish, which leaves what is known.
 pub struct Stays;
 
-impl<O, S: Absorb<O> + Drop> Outcome<Version<O, S>, Knows<O, S>> for Stays {
+impl<O: Drop, S: Absorb<O> + Drop> Outcome<Version<O, S>, Knows<O, S>> for Stays {
     ghost use Rattle.std.specs.Prelude.{◌≡◌};
-    ghost use Rattle.ds_hub.specs.Steps.{Fits};
+    ghost use Rattle.ds_hub.specs.Logs.{Fits};
 
     ghost then = { λ v x y w. (w ≡ v) × Fits S.applied (S.state y.state) y.prefix v };
 }

@@ -1,6 +1,6 @@
 ghost use Rattle.std.specs.Prelude.{◌≡◌, []};
 
-use super::*;
+use ds_hub::*;
 use std::sync::Wait;
 use std::test::Fail;
 use std::thread::{Threads, join};
