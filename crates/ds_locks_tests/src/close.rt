@@ -23,6 +23,7 @@ pub fn close<J: Names, R: Wait, H: Wait + Drop>(
     one: (Pass<J>, bool),
     two: (Pass<J>, bool),
 ) -> Result<Closed, NoMemory>
+    ensures hubs { IfOk result (λ c. (c.one.journal.hub ≡ c.journal.hub) × (c.two.journal.hub ≡ c.journal.hub) × (c.one.first.hub ≡ c.first.hub) × (c.two.first.hub ≡ c.first.hub) × (c.one.second.hub ≡ c.second.hub) × (c.two.second.hub ≡ c.second.hub)) }
     ensures journal { IfOk result (λ c. IsPrefix c.one.journal.known c.journal.list × IsPrefix c.two.journal.known c.journal.list) }
     ensures first { IfOk result (λ c. IsPrefix c.one.first.known c.first.list × IsPrefix c.two.first.known c.first.list) }
     ensures second { IfOk result (λ c. IsPrefix c.one.second.known c.second.list × IsPrefix c.two.second.known c.second.list) }
@@ -99,7 +100,8 @@ fn close_hub<R: Wait, H: Wait + Drop>(
 ) -> Note<u64>
     requires one { one.now.hub ≡ writer.writer.hub }
     requires two { two.now.hub ≡ writer.writer.hub }
-    ensures { IsPrefix one.now.known result.list × IsPrefix two.now.known result.list }
+    ensures hub { result.hub ≡ writer.writer.hub }
+    ensures lists { IsPrefix one.now.known result.list × IsPrefix two.now.known result.list }
 {
     writer.writer.confirm(rt, one);
     writer.writer.confirm(rt, two);
@@ -113,7 +115,8 @@ fn close_shard<J: Names, R: Wait, H: Wait + Drop>(
     one: &ShardReader<J>,
     two: &ShardReader<J>,
 ) -> Note<u64>
-    ensures { IsPrefix one.now.reader.known result.list × IsPrefix two.now.reader.known result.list }
+    ensures hub { (one.now.reader.hub ≡ result.hub) × (two.now.reader.hub ≡ result.hub) }
+    ensures lists { IsPrefix one.now.reader.known result.list × IsPrefix two.now.reader.known result.list }
 {
     is_of(rt, &desk, one);
     is_of(rt, &desk, two);

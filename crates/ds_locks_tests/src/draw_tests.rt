@@ -2,6 +2,7 @@
 ghost use Rattle.std.specs.Prelude.{◌≡◌, ◌^◌, ◌<◌, ◌++◌, [], IfOk};
 ghost use Rattle.ds_draw.specs.Draws.{HasEachOnce};
 
+use crate::opened::{ThreeSeats, three_seats};
 use ds_draw::{Drawn, Seat, Seats, Word, make};
 use std::alloc::{AllocError, Global};
 use std::sync::{Mutex, Wait};
@@ -131,5 +132,23 @@ fn in_turn<Rt: Threads + Wait + Sync>(rt: &Rt, alloc: Global) -> Result<(u64, bo
 #[test]
 fn a_draw_waits_until_the_word_comes(rt: HostRuntime) -> Result<(), Fail> {
     assert_eq!(rt; in_turn(&rt, rt.alloc())?, (201, true));
+    Ok(())
+}
+
+// Draws 5, 6 and 7 with one seat, and looks with another, which drew nothing.
+fn look_without_a_draw<R: Wait>(rt: &R, alloc: Global) -> Result<u64, AllocError> {
+    let ThreeSeats {
+        word,
+        mut one,
+        mut two,
+        ..
+    } = three_seats(alloc, 5)?;
+    word.draw_at(rt, &mut one, 5, 3);
+    Ok(word.look(&mut two))
+}
+
+#[test]
+fn a_look_shows_what_another_seat_drew(rt: HostRuntime) -> Result<(), Fail> {
+    assert_eq!(rt; look_without_a_draw(&rt, rt.alloc())?, 8);
     Ok(())
 }
