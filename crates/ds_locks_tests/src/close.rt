@@ -1,7 +1,7 @@
 //! How a store ends.
 ghost use Rattle.std.specs.Prelude.{◌≡◌, ◌++◌, [], IfOk};
-ghost use mathlib.Core.List.{IsPrefix};
 ghost use Rattle.ds_draw.specs.Draws.{HasEachOnce};
+ghost use Rattle.ds_locks_tests.specs.Ending.{Begins};
 
 use crate::client::{Ended, NumbersDrawn, Pass, ShardReader};
 use crate::desk::{JournalDesk, ShardDesk};
@@ -23,10 +23,9 @@ pub fn close<J: Names, R: Wait, H: Wait + Drop>(
     one: (Pass<J>, bool),
     two: (Pass<J>, bool),
 ) -> Result<Closed, NoMemory>
-    ensures hubs { IfOk result (λ c. (c.one.journal.hub ≡ c.journal.hub) × (c.two.journal.hub ≡ c.journal.hub) × (c.one.first.hub ≡ c.first.hub) × (c.two.first.hub ≡ c.first.hub) × (c.one.second.hub ≡ c.second.hub) × (c.two.second.hub ≡ c.second.hub)) }
-    ensures journal { IfOk result (λ c. IsPrefix c.one.journal.known c.journal.list × IsPrefix c.two.journal.known c.journal.list) }
-    ensures first { IfOk result (λ c. IsPrefix c.one.first.known c.first.list × IsPrefix c.two.first.known c.first.list) }
-    ensures second { IfOk result (λ c. IsPrefix c.one.second.known c.second.list × IsPrefix c.two.second.known c.second.list) }
+    ensures journal { IfOk result (λ c. Begins c.one.journal c.journal × Begins c.two.journal c.journal) }
+    ensures first { IfOk result (λ c. Begins c.one.first c.first × Begins c.two.first c.first) }
+    ensures second { IfOk result (λ c. Begins c.one.second c.second × Begins c.two.second c.second) }
     ensures commits { IfOk result (λ c. HasEachOnce 1 c.next_commit (c.one.commits.items ++ c.two.commits.items)) }
     ensures ids { IfOk result (λ c. HasEachOnce FIRST_ID c.next_id (c.one.ids.items ++ c.two.ids.items)) }
 {
@@ -100,8 +99,7 @@ fn close_hub<R: Wait, H: Wait + Drop>(
 ) -> Note<u64>
     requires one { one.now.hub ≡ writer.writer.hub }
     requires two { two.now.hub ≡ writer.writer.hub }
-    ensures hub { result.hub ≡ writer.writer.hub }
-    ensures lists { IsPrefix one.now.known result.list × IsPrefix two.now.known result.list }
+    ensures { Begins one.now result × Begins two.now result }
 {
     writer.writer.confirm(rt, one);
     writer.writer.confirm(rt, two);
@@ -115,8 +113,7 @@ fn close_shard<J: Names, R: Wait, H: Wait + Drop>(
     one: &ShardReader<J>,
     two: &ShardReader<J>,
 ) -> Note<u64>
-    ensures hub { (one.now.reader.hub ≡ result.hub) × (two.now.reader.hub ≡ result.hub) }
-    ensures lists { IsPrefix one.now.reader.known result.list × IsPrefix two.now.reader.known result.list }
+    ensures { Begins one.now.reader result × Begins two.now.reader result }
 {
     is_of(rt, &desk, one);
     is_of(rt, &desk, two);

@@ -1,7 +1,7 @@
 //! The store: two clients, who commit under the journal's lock and apply what they committed under the locks of the shards.
 ghost use Rattle.std.specs.Prelude.{◌≡◌, ◌++◌, ◌∷◌, [], IfOk};
-ghost use mathlib.Core.List.{IsPrefix};
 ghost use Rattle.ds_draw.specs.Draws.{HasEachOnce};
+ghost use Rattle.ds_locks_tests.specs.Ending.{Begins};
 ghost use Rattle.ds_locks_tests.specs.declared.opened.TheConstants.{FIRST_ID};
 
 use crate::client::Ended;
@@ -47,10 +47,9 @@ pub struct Store<J: Names, H: Wait + Drop> {
 /// of the shards begins the list of that hub, and the numbers that the clients drew are those below the words, each once.
 /// `Err` is want of memory.
 pub fn run<R: Threads + Wait + Sync>(rt: &R, alloc: Global, rounds: u32) -> Result<Closed, NoMemory>
-    ensures hubs { IfOk result (λ c. (c.one.journal.hub ≡ c.journal.hub) × (c.two.journal.hub ≡ c.journal.hub) × (c.one.first.hub ≡ c.first.hub) × (c.two.first.hub ≡ c.first.hub) × (c.one.second.hub ≡ c.second.hub) × (c.two.second.hub ≡ c.second.hub)) }
-    ensures journal { IfOk result (λ c. IsPrefix c.one.journal.known c.journal.list × IsPrefix c.two.journal.known c.journal.list) }
-    ensures first { IfOk result (λ c. IsPrefix c.one.first.known c.first.list × IsPrefix c.two.first.known c.first.list) }
-    ensures second { IfOk result (λ c. IsPrefix c.one.second.known c.second.list × IsPrefix c.two.second.known c.second.list) }
+    ensures journal { IfOk result (λ c. Begins c.one.journal c.journal × Begins c.two.journal c.journal) }
+    ensures first { IfOk result (λ c. Begins c.one.first c.first × Begins c.two.first c.first) }
+    ensures second { IfOk result (λ c. Begins c.one.second c.second × Begins c.two.second c.second) }
     ensures commits { IfOk result (λ c. HasEachOnce 1 c.next_commit (c.one.commits.items ++ c.two.commits.items)) }
     ensures ids { IfOk result (λ c. HasEachOnce FIRST_ID c.next_id (c.one.ids.items ++ c.two.ids.items)) }
 {
@@ -75,10 +74,9 @@ fn serve<J: Names + Send + Sync, R: Threads + Wait + Sync, H: Wait + Drop + Send
     requires shards { J.shards ≡ opened.first.writer.writer.hub ∷ opened.second.writer.writer.hub ∷ [] }
     requires words { (opened.commits.word.name ≡ J.commits) × (opened.ids.word.name ≡ J.ids) }
     requires begun { (opened.commits.word.first ≡ 1) × (opened.ids.word.first ≡ FIRST_ID) }
-    ensures hubs { IfOk result (λ c. (c.one.journal.hub ≡ c.journal.hub) × (c.two.journal.hub ≡ c.journal.hub) × (c.one.first.hub ≡ c.first.hub) × (c.two.first.hub ≡ c.first.hub) × (c.one.second.hub ≡ c.second.hub) × (c.two.second.hub ≡ c.second.hub)) }
-    ensures journal { IfOk result (λ c. IsPrefix c.one.journal.known c.journal.list × IsPrefix c.two.journal.known c.journal.list) }
-    ensures first { IfOk result (λ c. IsPrefix c.one.first.known c.first.list × IsPrefix c.two.first.known c.first.list) }
-    ensures second { IfOk result (λ c. IsPrefix c.one.second.known c.second.list × IsPrefix c.two.second.known c.second.list) }
+    ensures journal { IfOk result (λ c. Begins c.one.journal c.journal × Begins c.two.journal c.journal) }
+    ensures first { IfOk result (λ c. Begins c.one.first c.first × Begins c.two.first c.first) }
+    ensures second { IfOk result (λ c. Begins c.one.second c.second × Begins c.two.second c.second) }
     ensures commits { IfOk result (λ c. HasEachOnce 1 c.next_commit (c.one.commits.items ++ c.two.commits.items)) }
     ensures ids { IfOk result (λ c. HasEachOnce FIRST_ID c.next_id (c.one.ids.items ++ c.two.ids.items)) }
 {
