@@ -57,6 +57,3 @@ pub fn make(alloc: Global, first: u64, seats: u32) -> Result<Drawn, AllocError>
         seats: all,
     })
 }
-
-#[cfg(test)]
-mod tests;

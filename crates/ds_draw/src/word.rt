@@ -9,7 +9,6 @@ use std::alloc::Global;
 use std::marker::Model;
 use std::sync::Wait;
 use std::thread;
-use std::thread::Threads;
 
 /// A word that only rises, shared by threads, from which seats draw numbers.
 #[derive(Drop)]
@@ -29,8 +28,9 @@ impl Model for Word {
 }
 
 impl Word {
-    /// The word as it stands, which becomes the seat's counter. It isn't below the counter that the seat had. It
-    /// doesn't wait, and takes no memory.
+    /// Loads the word, by one atomic step: the number that it finds becomes the seat's counter, and isn't below the counter that
+    /// the seat had. It doesn't wait, and takes no memory. No clause says that the number is the word's own at that step, since
+    /// another thread may raise the word at any time; only a test shows that a look sees what other seats drew.
     pub fn look(&self, seat: &mut Seat) -> u64
         requires { seat.old.word ≡ self.now.name }
         ensures counter { seat.new ≡ record { word = seat.old.word; draws = seat.old.draws; counter = result } }
@@ -40,11 +40,11 @@ impl Word {
         self.table.shared.load::<Look>(&mut seat.inner, 0)
     }
 
-    /// Draws the numbers from `at` up to but without `at + count` by the one exchange that finds the word at `at`;
-    /// `at + count` is the seat's counter then, which wasn't above `at` before. An exchange that finds another number is
-    /// a look, and is tried again: the call waits until the word comes to stand at `at`, and never returns where it
-    /// doesn't. It takes no memory.
-    pub fn draw_at<Rt: Threads + Wait + Sync>(&self, rt: &Rt, seat: &mut Seat, at: u64, count: u64)
+    /// Draws the numbers from `at` up to but without `at + count`, by one exchange that finds the word at `at` and leaves it at
+    /// `at + count`, which is the seat's counter then; before, the counter wasn't above `at`. An exchange that finds another
+    /// number is a look, and is tried again after a yield: the call waits until the word comes to stand at `at`, and never returns
+    /// where it doesn't. It takes no memory. The clauses say which numbers the seat drew, and not by how many exchanges.
+    pub fn draw_at<Rt: Wait>(&self, rt: &Rt, seat: &mut Seat, at: u64, count: u64)
         requires word { seat.old.word ≡ self.now.name }
         requires some { 0 < count }
         requires limit { at + count < 2 ^ 63 }

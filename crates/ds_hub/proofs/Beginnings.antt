@@ -1,11 +1,10 @@
--- Lists that begin a list, and the batches of a history.
+-- Lists that begin a list.
 use Rattle.std.proofs.Common.{◌≡◌, ℕ, ◌≤◌, List, [], ◌∷◌, ◌++◌, length, refl, ap, sym, ◌∙◌, arith, append_assoc, length-append}
 use Rattle.std.proofs.lemmas.List.{append-nil}
 use Rattle.std.proofs.lemmas.Bool.{leb-true, le-leb}
 use Rattle.std.specs.Prelude.{IsTrue, ◌↔◌}
 use Rattle.std.proofs.Math.Dec.{leb}
 use mathlib.Core.List.{IsPrefix}
-use Rattle.ds_hub.specs.Line.{joined}
 
 module _ {O : Type 0} where
   pub begins_itself : (xs : List O) → IsPrefix xs xs
@@ -37,17 +36,6 @@ module _ {O : Type 0} where
   begins_whole (x ∷ xs) [] p le = absurd (cc (p.1))
   begins_whole (x ∷ xs) (y ∷ ys) p le =
       let rest = begins_whole xs ys (p.0, cc (p.1)) (omega arith) in cc (p.1, rest)
-
-  pub joined-append : (xs ys : List (List O)) → joined (xs ++ ys) ≡ joined xs ++ joined ys
-  joined-append [] ys = refl
-  joined-append (x ∷ xs) ys = ap (λ w. x ++ w) (joined-append xs ys) ∙ sym (append_assoc x (joined xs) (joined ys))
-
-  pub joined-one_more : (xs : List (List O)) (y : List O) → joined (xs ++ y ∷ []) ≡ joined xs ++ y
-  joined-one_more xs y = joined-append xs (y ∷ []) ∙ ap (λ w. joined xs ++ w) (append-nil y)
-
-  -- what begins a history holds operations that begin the operations of the history
-  pub joined_begins : (xs ys : List (List O)) → IsPrefix xs ys → IsPrefix (joined xs) (joined ys)
-  joined_begins xs ys p = (joined p.0, sym (joined-append xs p.0) ∙ ap joined p.1)
 
   -- which of two beginnings of one list begins the other is told by their lengths
   pub begins_by_length : (xs ys zs : List O) (m n : ℕ) → m ≡ length xs → n ≡ length ys → IsPrefix xs zs → IsPrefix ys zs → IsTrue (leb m n) ↔ IsPrefix xs ys

@@ -7,9 +7,9 @@ use lib.ListN.{get_elem?}
 use Rattle.crossbeam_utils.specs.Register.{Admits, TurnsAt, Forks, Merges}
 use Rattle.atomic_table.proofs.Lists.{at_set, at_snoc}
 use Rattle.ds_hub.specs.Line.{Line}
-use Rattle.ds_hub.specs.Steps.{Fits, AllFit}
+use Rattle.ds_hub.specs.Logs.{Fits, AllFit}
 use Rattle.ds_hub.specs.declared.version.Version.{Version}
-use Rattle.ds_hub.specs.declared.law.Origin.{Origin}
+use Rattle.ds_hub.specs.declared.rule.Origin.{Origin}
 
 module _ {T O : Type 0} (applied : T → O → T) where
   -- a line and a state that go on by the same operations fit whatever they fitted before

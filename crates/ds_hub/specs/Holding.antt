@@ -1,7 +1,7 @@
 -- What contracts see of a hub's readers, views and notes, and of its writer.
 use Rattle.std.specs.Prelude.{◌≡◌, List, fold, Option, Some, None}
 use Rattle.ds_hub.specs.Line.{HubId}
-use Rattle.ds_hub.specs.declared.law.Origin.{Origin}
+use Rattle.ds_hub.specs.declared.rule.Origin.{Origin}
 
 -- of a reader: its hub, the state with which the hub begins, and the longest list that it saw or learnt, which each other such list begins
 pub record Following (T O : Type 0) : Type 0 where

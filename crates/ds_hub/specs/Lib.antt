@@ -1,5 +1,5 @@
 pub mod Line
-pub mod Steps
+pub mod Logs
 pub mod Holding
 pub mod Running
 pub mod Copied

@@ -7,24 +7,23 @@ use Rattle.logbook.specs.Pages.{Cell, Step, View, Book, Named}
 abbrev pub HubId : Type 0
 HubId = Book
 
+-- a name to begin with where a trait's ghost member asks for one, before a call picks the name of a real hub
+abbrev pub no_hub : HubId
+no_hub = record { number = 0; log_name = 0; cells_name = 0 }
+
 -- which hub it is, and a beginning of the list that this hub has published
 pub record Line (O : Type 0) : Type 0 where
   pub hub : HubId
   pub list : List O
 
--- the batches, one after another
-abbrev pub joined : {O : Type 0} → List (List O) → List O
-joined [] = []
-joined (batch ∷ batches) = batch ++ joined batches
-
--- The first word counts the operations of all batches. A history has two words, of which a hub leaves the second at 0
-abbrev pub IsCounted : {O : Type 0} → List Cell → List (List O) → Type 0
-IsCounted cells batches = cells ≡ (length (joined batches), true) ∷ (0, true) ∷ []
+-- The first word counts the operations. A history has two words, of which a hub leaves the second at 0
+abbrev pub IsCounted : {O : Type 0} → List Cell → List O → Type 0
+IsCounted cells log = cells ≡ (length log, true) ∷ (0, true) ∷ []
 
 -- the word of the history of this hub
 abbrev pub head_of : HubId → Named
 head_of hub = record { tracked = true; key = 0; book = hub }
 
--- Where the word was found as it was expected, the batch stands behind all that was known
-abbrev pub Announced : {O : Type 0} → Step (List O) → View (List O) ℕ → ℕ → View (List O) ℕ → Type 0
-Announced step known found after = OnTrue (found == step.old) (joined after.0 ≡ joined known.0 ++ step.ask)
+-- where the word was found as it was expected, the operation stands behind all that was known
+abbrev pub Announced : {O : Type 0} → Step O → View O ℕ → ℕ → View O ℕ → Type 0
+Announced step known found after = OnTrue (found == step.old) (after.0 ≡ known.0 ++ step.ask ∷ [])

@@ -6,15 +6,15 @@ ghost use Rattle.ds_hub.specs.Holding.{IsOf, start_of};
 use crate::NoMemory;
 use crate::absorb::Absorb;
 use crate::copies::Copies;
-use crate::law::{Begins, Tells};
 use crate::prefix::{Head, Prefix};
-use crate::reader::{Outside, Reader};
+use crate::reader::{IdleReader, Reader};
 use crate::readers::Readers;
+use crate::rule::{Begins, Tells};
 use crate::version::Version;
 use crate::writer::{Ruled, Writer};
 use std::alloc::{AllocError, Global};
 use std::sync::Wait;
-use std::thread::Threads;
+use std::thread;
 
 /// A hub: its one writer, and its readers.
 pub struct Hub<O: Drop, S: Absorb<O> + Drop> {
@@ -24,8 +24,8 @@ pub struct Hub<O: Drop, S: Absorb<O> + Drop> {
 
 /// Makes a hub of two equal states, with so many readers. The hub begins with that state, to which no operation of this hub was
 /// applied: nothing is published or pending, and no reader has seen anything. A place for a reader that `left_right` refuses is
-/// asked for again. `Err` is want of memory.
-pub fn make<O: Drop, S: Absorb<O> + Drop, Rt: Threads + Wait + Sync>(
+/// asked for again, after a yield: `left_right` refuses one without cause only while readers come and go. `Err` is want of memory.
+pub fn make<O: Drop, S: Absorb<O> + Drop, Rt: Wait>(
     rt: &Rt,
     alloc: Global,
     first: S,
@@ -49,7 +49,7 @@ pub fn make<O: Drop, S: Absorb<O> + Drop, Rt: Threads + Wait + Sync>(
             copies,
             head,
             announced: prefix,
-            unmarked: 0,
+            parked: None,
             waiting: 0,
         },
         readers: list,
@@ -68,16 +68,16 @@ fn open<O: Drop, S: Absorb<O> + Drop, R: Wait>(
     requires some { 0 < readers }
     requires alike { S.state first ≡ S.state second }
     requires empty { prefix.now.list ≡ [] }
-    ensures shown { IfOk result (λ copies. (copies.shown.prefix ≡ prefix.now) × (S.state copies.shown.state ≡ S.state first) × (copies.steps ≡ [])) }
+    ensures shown { IfOk result (λ copies. (copies.shown.prefix ≡ prefix.now) × (S.state copies.shown.state ≡ S.state first) × (copies.log ≡ [])) }
     ensures knows { IfOk result (λ copies. copies.knows ≡ Some (record { start = S.state first; prefix = prefix.now })) }
 {
     let first = Version {
         state: first,
-        prefix: prefix.again(),
+        prefix: prefix.duplicate(),
     };
     let second = Version {
         state: second,
-        prefix: prefix.again(),
+        prefix: prefix.duplicate(),
     };
     let mut copies = Copies::new(alloc, first, second, readers)?;
     match copies.publish_as::<Begins, R>(rt) {
@@ -89,15 +89,16 @@ fn open<O: Drop, S: Absorb<O> + Drop, R: Wait>(
     }
 }
 
-// A reader that was told where the hub begins.
-fn seat<O: Drop, S: Absorb<O> + Drop, R: Wait>(rt: &R, copies: &mut Ruled<O, S>) -> Outside<O, S>
-    ensures copies { (copies.new.shown ≡ copies.old.shown) × (copies.new.steps ≡ copies.old.steps) × (copies.new.knows ≡ copies.old.knows) }
+// A reader that was told where the hub begins. It waits for a place, where one is refused without cause.
+fn seat<O: Drop, S: Absorb<O> + Drop, R: Wait>(rt: &R, copies: &mut Ruled<O, S>) -> IdleReader<O, S>
+    ensures copies { (copies.new.shown ≡ copies.old.shown) × (copies.new.log ≡ copies.old.log) × (copies.new.knows ≡ copies.old.knows) }
     ensures told { knows result.place ≡ copies.old.knows }
 {
     for _ in rt.forever() {
-        if let Ok(outside) = copies.reader::<Tells, Tells>() {
-            return outside;
+        if let Ok(reader) = copies.reader::<Tells, Tells>() {
+            return reader;
         }
+        thread::yield_now();
     }
     unreachable!()
 }
@@ -112,13 +113,13 @@ fn seat_all<O: Drop, S: Absorb<O> + Drop, R: Wait>(
 ) -> Result<(), AllocError>
     requires told { IsOf prefix.now.hub copies.old.knows }
     requires empty { list.old ≡ [] }
-    ensures copies { (copies.new.shown ≡ copies.old.shown) × (copies.new.steps ≡ copies.old.steps) × (copies.new.knows ≡ copies.old.knows) }
+    ensures copies { (copies.new.shown ≡ copies.old.shown) × (copies.new.log ≡ copies.old.log) × (copies.new.knows ≡ copies.old.knows) }
     ensures list { IfOk result (λ _. list.new ≡ replicate count (record { hub = prefix.now.hub; start = start_of copies.old.knows; known = prefix.now.list })) }
 {
     for _place in 0..count {
         let reader = Reader {
-            outside: seat(rt, copies),
-            prefix: prefix.again(),
+            reader: seat(rt, copies),
+            prefix: prefix.duplicate(),
         };
         if list.push(reader).is_err() {
             return Err(AllocError);

@@ -12,23 +12,22 @@
 
 mod absorb;
 mod copies;
+mod held;
 mod history;
 mod hub;
-mod law;
 mod note;
 mod prefix;
 mod reader;
 mod readers;
+mod rule;
 mod version;
 mod writer;
 
 pub use absorb::Absorb;
+pub use held::HeldWriter;
 pub use hub::{Hub, make};
 pub use note::Note;
 pub use reader::{Reader, View};
 pub use readers::Readers;
 pub use std::alloc::AllocError as NoMemory;
 pub use writer::Writer;
-
-#[cfg(test)]
-mod tests;

@@ -1,10 +1,9 @@
 //! What a thread knows of the list that a hub publishes.
-ghost use Rattle.std.specs.Prelude.{◌≡◌, ◌+◌, ◌<◌, ◌^◌, ◌++◌, ◌⊎◌, ◌↔◌, IsTrue, [], None, length, MatchBool};
+ghost use Rattle.std.specs.Prelude.{◌≡◌, ◌+◌, ◌<◌, ◌^◌, ◌∷◌, ◌++◌, ◌⊎◌, ◌↔◌, IsTrue, [], length, MatchBool};
 ghost use mathlib.Core.List.{IsPrefix};
 
-use crate::history::{Announce, History, Nothing};
-use logbook::{Offer, Plain, Seen, Start, Word};
-use std::collections::LinkedList;
+use crate::history::{Announce, CountsAnnounced, NoGain};
+use logbook::{Offer, Seen, Start, Word};
 use std::marker::Model;
 
 /// A beginning of the list that a hub publishes, as far as its holder knows it. It holds a number and no operation.
@@ -12,24 +11,24 @@ use std::marker::Model;
 #[derive(Drop)]
 pub struct Prefix<O> {
     held: u64,
-    seen: Seen<LinkedList<O>, u64, History>,
+    seen: Seen<O, u64, CountsAnnounced>,
 }
 
 impl<O> Model for Prefix<O> {
     ghost use Rattle.std.specs.Prelude.{◌≡◌, length};
-    ghost use Rattle.ds_hub.specs.Line.{Line, joined};
+    ghost use Rattle.ds_hub.specs.Line.{Line};
 
     ghost Value = { Line O };
 
-    ghost view = { λ p. record { hub = p.seen.book; list = joined p.seen.log } };
+    ghost view = { λ p. record { hub = p.seen.book; list = p.seen.log } };
 
-    ghost invariant = { λ p. p.held ≡ length (joined p.seen.log) };
+    ghost invariant = { λ p. p.held ≡ length p.seen.log };
 }
 
 /// The word of a hub's history, which its writer alone holds. Contracts see which hub it is.
 #[derive(Drop)]
 pub struct Head<O> {
-    word: Word<LinkedList<O>, u64, History>,
+    word: Word<O, u64, CountsAnnounced>,
 }
 
 impl<O> Model for Head<O> {
@@ -47,7 +46,7 @@ impl<O> Model for Head<O> {
 }
 
 impl<O> Head<O> {
-    /// A new history, with no batch in it.
+    /// A new history, with no operation in it.
     pub fn open() -> (Head<O>, Prefix<O>)
         ensures { (result.1.hub ≡ result.0) × (result.1.list ≡ []) }
     {
@@ -60,37 +59,26 @@ impl<O> Head<O> {
         )
     }
 
-    /// Puts a batch of `count` operations behind all that the prefix has, and says whether it did.
-    pub fn announce<X, B: Plain<X, LinkedList<O>, u64>>(
-        &self,
-        prefix: &mut Prefix<O>,
-        about: &X,
-        count: u64,
-    ) -> bool
+    /// Puts an operation behind all that the prefix has, and says whether it did. It didn't where another had written the
+    /// history, which no other can.
+    pub fn announce(&self, prefix: &mut Prefix<O>, operation: &O) -> bool
         requires hub { prefix.old.hub ≡ self.now }
-        requires batch { (B.state about.now ≡ None) × (length (B.ask about.now) ≡ count) }
-        requires room { length prefix.old.list + count < 2 ^ 63 }
+        requires room { length prefix.old.list < 2 ^ 62 }
         ensures hub { prefix.new.hub ≡ prefix.old.hub }
-        ensures list { MatchBool result (prefix.new.list ≡ prefix.old.list ++ B.ask about.now) (prefix.new ≡ prefix.old) }
+        ensures list { MatchBool result (prefix.new.list ≡ prefix.old.list ++ operation.now ∷ []) (prefix.new ≡ prefix.old) }
     {
         let mut seen = prefix.seen.again();
-        let mut offer: Offer<LinkedList<O>, u64, History, Nothing> = seen.plain::<Nothing, X, B>(
-            about,
+        let mut offer: Offer<O, u64, CountsAnnounced, NoGain> = seen.plain::<NoGain, O, Announce>(
+            operation,
         );
         let mut pen = seen.no_pen();
         let held = prefix.held;
         let found = self
             .word
-            .compare_exchange::<Announce, Nothing>(
-                held,
-                held + count,
-                &mut seen,
-                &mut offer,
-                &mut pen,
-            );
+            .compare_exchange::<Announce, NoGain>(held, held + 1, &mut seen, &mut offer, &mut pen);
         if found == held {
             *prefix = Prefix {
-                held: held + count,
+                held: held + 1,
                 seen,
             };
             true
@@ -108,8 +96,8 @@ impl<O> Prefix<O> {
         self.held
     }
 
-    /// A copy.
-    pub fn again(&self) -> Prefix<O>
+    /// A copy, which takes no memory.
+    pub fn duplicate(&self) -> Prefix<O>
         ensures { result ≡ self.now }
     {
         Prefix {
@@ -138,9 +126,9 @@ impl<O> Prefix<O> {
         let mut both = self.seen.again();
         both.learn(&other.seen);
         if self.held < other.held {
-            other.again()
+            other.duplicate()
         } else {
-            self.again()
+            self.duplicate()
         }
     }
 }

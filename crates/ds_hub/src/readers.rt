@@ -8,11 +8,11 @@ use std::marker::Model;
 
 /// A list of readers. Contracts see what they see of each reader.
 #[derive(Drop)]
-pub struct Readers<O, S: Absorb<O> + Drop> {
+pub struct Readers<O: Drop, S: Absorb<O> + Drop> {
     items: Vec<Reader<O, S>>,
 }
 
-impl<O, S: Absorb<O> + Drop> Model for Readers<O, S> {
+impl<O: Drop, S: Absorb<O> + Drop> Model for Readers<O, S> {
     ghost use Rattle.std.specs.Prelude.{List};
     ghost use Rattle.ds_hub.specs.Holding.{Following};
 
@@ -21,7 +21,7 @@ impl<O, S: Absorb<O> + Drop> Model for Readers<O, S> {
     ghost view = { λ r. r.items.items };
 }
 
-impl<O, S: Absorb<O> + Drop> Readers<O, S> {
+impl<O: Drop, S: Absorb<O> + Drop> Readers<O, S> {
     /// An empty list, which takes no memory.
     pub fn new(alloc: Global) -> Self
         ensures { result ≡ [] }

@@ -3,39 +3,53 @@ use crate::absorb::Absorb;
 use crate::prefix::Prefix;
 use std::alloc::AllocError;
 
-/// One of the two copies. Where its last step was a mark, its state has the operations of the prefix.
+/// One of the two copies: its state has the operations of the prefix.
 #[derive(Drop)]
 pub struct Version<O, S: Drop> {
     pub state: S,
     pub prefix: Prefix<O>,
 }
 
-/// What a copy takes in.
+/// What a copy takes in: an operation, with the mark that says which operations are in the state after it.
 #[derive(Drop)]
-pub enum Step<O: Drop> {
-    Operation(O),
-    /// The prefix which has the operations up to here.
-    Mark(Prefix<O>),
+pub struct Logged<O: Drop> {
+    pub operation: O,
+    pub mark: Prefix<O>,
 }
 
-impl<O: Drop, S: Absorb<O> + Drop> left_right::Absorb<Step<O>> for Version<O, S> {
-    ghost use Rattle.ds_hub.specs.Steps.{stepped};
+impl<O: Drop, S: Absorb<O> + Drop> left_right::Absorb<Logged<O>> for Version<O, S> {
+    ghost use Rattle.ds_hub.specs.Logs.{taken_in};
 
     type State = (S::State, Prefix<O>);
 
     ghost state = { λ v. (S.state v.state, v.prefix) };
 
-    ghost applied = { stepped S.applied };
+    ghost applied = { taken_in S.applied };
 
     ghost never_fails = { S.never_fails };
 
-    fn absorb_first(&mut self, step: &Step<O>, _other: &Version<O, S>) -> Result<(), AllocError> {
-        match step {
-            Step::Operation(operation) => self.state.absorb(operation),
-            Step::Mark(prefix) => {
-                self.prefix = prefix.again();
+    fn absorb_first(
+        &mut self,
+        logged: &Logged<O>,
+        _other: &Version<O, S>,
+    ) -> Result<(), AllocError> {
+        self.state.absorb(&logged.operation)?;
+        self.prefix = logged.mark.duplicate();
+        Ok(())
+    }
+
+    fn absorb_second(
+        &mut self,
+        logged: Logged<O>,
+        _other: &Version<O, S>,
+    ) -> Result<(), Logged<O>> {
+        let Logged { operation, mark } = logged;
+        match self.state.absorb_second(operation) {
+            Ok(()) => {
+                self.prefix = mark;
                 Ok(())
             }
+            Err(operation) => Err(Logged { operation, mark }),
         }
     }
 }
