@@ -1,3 +1,8 @@
 pub mod After
+pub mod ConflictLaws
+pub mod Conflicts
+pub mod Heads
+pub mod Ids
 pub mod Logs
 pub mod Shards
+pub mod Touches
