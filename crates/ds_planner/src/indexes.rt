@@ -1,0 +1,156 @@
+//! What an index is to a branch: whether it may be scanned for it, and what a scan of it is bound to.
+ghost use Rattle.std.specs.Prelude.{◌≡◌, ◌&&◌, ◌||◌, not, bytes_eq, IsTrue, ◌∷◌, is_some, option_and_then};
+ghost use Rattle.std.specs.Option.{option_copied};
+ghost use Rattle.std.specs.List.{list_all, slice_get};
+ghost use Rattle.ds_query.specs.ColumnLists.{has_column};
+ghost use Rattle.ds_query.specs.Lawful.{ends_in_key, has_pair};
+ghost use Rattle.ds_planner.specs.Indexes.{defined_columns, is_of_kind, is_usable, is_paired, are_paired, names_column, by_key, in_front_of, leading, leads, is_candidate, has_flag, is_by_key, binds_ancestor};
+
+use crate::key_columns::{in_front_of, is_ascending_key, is_by_key};
+use crate::pairs::has_pair;
+use crate::planned::Index;
+use ds_base::{Column, TextString};
+use ds_indexdef::{Defs, IndexDef};
+use ds_query::{Branch, Pair};
+
+/// Whether the index ends with the branch's columns, and each of its columns in front of them is on the property of one of
+/// the pairs.
+pub(crate) fn is_paired(branch: &Branch, defs: &Defs, index: &Index, pairs: &[Pair]) -> bool
+    requires { IsTrue (ends_in_key branch.now.columns) }
+    ensures { result ≡ is_paired branch.now defs.now index.now pairs.now }
+{
+    let columns = branch.columns.as_slice();
+    match index {
+        Index::AllByKey => !has_kind(branch) && is_by_key(columns),
+        Index::KindByKey => has_kind(branch) && is_by_key(columns),
+        Index::Property { name, descending } => {
+            has_kind(branch) && is_property_paired(name, *descending, columns, pairs)
+        }
+        Index::Composite { position } => match leading(branch, defs, *position) {
+            Some(columns) => are_paired(columns, pairs),
+            None => false,
+        },
+    }
+}
+
+/// Whether the index may be scanned for the branch.
+pub(crate) fn is_candidate(branch: &Branch, defs: &Defs, index: &Index) -> bool
+    requires { IsTrue (ends_in_key branch.now.columns) }
+    ensures { result ≡ is_candidate branch.now defs.now index.now }
+{
+    is_paired(branch, defs, index, branch.equal.as_slice())
+}
+
+/// Whether the index has the property in front of the branch's columns.
+pub(crate) fn leads(branch: &Branch, defs: &Defs, index: &Index, wanted: &TextString) -> bool
+    requires { IsTrue (ends_in_key branch.now.columns) }
+    ensures { result ≡ leads branch.now defs.now index.now wanted.now }
+{
+    match index {
+        Index::AllByKey | Index::KindByKey => false,
+        Index::Property { name, .. } => {
+            has_kind(branch) && is_by_key(branch.columns.as_slice()) && *wanted == *name
+        }
+        Index::Composite { position } => match leading(branch, defs, *position) {
+            Some(columns) => has_column(columns, wanted),
+            None => false,
+        },
+    }
+}
+
+/// Whether a scan of the index is bound to the branch's ancestor.
+pub(crate) fn binds_ancestor(branch: &Branch, defs: &Defs, index: &Index) -> bool
+    ensures { result ≡ binds_ancestor branch.now defs.now index.now }
+{
+    is_by_key(branch.columns.as_slice()) || has_flag(defs, index)
+}
+
+/// Whether the index's definition has the ancestor flag.
+pub(crate) fn has_flag(defs: &Defs, index: &Index) -> bool
+    ensures { result ≡ has_flag defs.now index.now }
+{
+    match index {
+        Index::Composite { position } => match defs.get(*position as usize) {
+            Some(def) => def.ancestor,
+            None => false,
+        },
+        _ => false,
+    }
+}
+
+pub(crate) fn has_kind(branch: &Branch) -> bool
+    ensures { result ≡ is_some branch.now.kind }
+{
+    branch.kind.is_some()
+}
+
+/// The columns of a composite index in front of the branch's; none where it doesn't serve the branch.
+fn leading<'a>(branch: &Branch, defs: &'a Defs, position: u32) -> Option<&'a [Column]>
+    requires { IsTrue (ends_in_key branch.now.columns) }
+    ensures { option_copied result ≡ leading branch.now defs.now (Index.Composite position) }
+{
+    match defs.get(position as usize) {
+        Some(def) => leading_of(branch, def),
+        None => None,
+    }
+}
+
+fn leading_of<'a>(branch: &Branch, def: &'a IndexDef) -> Option<&'a [Column]>
+    requires { IsTrue (ends_in_key branch.now.columns) }
+    ensures { option_copied result ≡ option_and_then (in_front_of branch.now.columns) (defined_columns branch.now (Some def.now)) }
+{
+    if is_usable(branch, def) {
+        in_front_of(branch.columns.as_slice(), def.columns.as_slice())
+    } else {
+        None
+    }
+}
+
+/// Whether the definition is of the branch's kind, and has the ancestor flag only where the branch has an ancestor.
+fn is_usable(branch: &Branch, def: &IndexDef) -> bool
+    ensures { result ≡ is_usable branch.now def.now }
+{
+    is_of_kind(branch, &def.kind) && (!def.ancestor || branch.ancestor.is_some())
+}
+
+fn is_of_kind(branch: &Branch, kind: &TextString) -> bool
+    ensures { result ≡ is_of_kind branch.now.kind kind.now }
+{
+    match &branch.kind {
+        Some(own) => *own == *kind,
+        None => false,
+    }
+}
+
+/// Whether the columns are on properties of the pairs.
+fn are_paired(columns: &[Column], pairs: &[Pair]) -> bool
+    ensures { result ≡ list_all (λ c. has_pair pairs.now c.name) columns.now }
+{
+    columns.iter().all(|column| has_pair(pairs, &column.name))
+}
+
+fn has_column(columns: &[Column], name: &TextString) -> bool
+    ensures { result ≡ has_column columns.now name.now }
+{
+    columns.iter().any(|column| *name == column.name)
+}
+
+/// The same of the index of one property: the columns are `__key__` alone and the property has a pair, or it is the first of
+/// two columns.
+fn is_property_paired(
+    name: &TextString,
+    descending: bool,
+    columns: &[Column],
+    pairs: &[Pair],
+) -> bool
+    requires { IsTrue (ends_in_key columns.now) }
+    ensures { result ≡ are_paired pairs.now
+        (in_front_of columns.now (record { name = name.now; descending = descending } ∷ by_key)) }
+{
+    match columns {
+        [first, last] => {
+            first.name == *name && first.descending == descending && is_ascending_key(last)
+        }
+        _ => is_by_key(columns) && has_pair(pairs, name),
+    }
+}
