@@ -1,1 +1,4 @@
 pub mod Examples
+pub mod GroupViews
+pub mod LongerJournals
+pub mod SeenGrows

@@ -52,9 +52,9 @@ pub record IsSeenPlace (journal : List Commit) (s : Session) (m : ℕ) : Type 0 
   pub seen : s.place ≤ m
   pub within : m ≤ length journal
 
--- where a group stands: at its touch place, or at the place of its first touch
+-- where a group stands: at its touch place, which lies in the journal too, or at the place of its first touch
 abbrev pub StandsAt : List Commit → Session → Option ℕ → ℕ → Type 0
-StandsAt journal s (Some place) m = m ≡ place
+StandsAt journal s (Some place) m = (m ≡ place) × (m ≤ length journal)
 StandsAt journal s None m = IsSeenPlace journal s m
 
 abbrev pub place_in : Option Transaction → KeyParts → Option ℕ
