@@ -1,9 +1,6 @@
-//! Tests of the formats: what encodings of bytes look like, what is none, the hash that tells shards apart, and what a query
-//! means. They stand above the libraries, so that these are proved without them. It has nothing to call.
-//! Tests of the formats: what a query means, and what is read of a line. They stand above the libraries, so that these are
-//! proved without them. It has nothing to call.
-//! Tests of the formats: what encodings of bytes look like, what is none, the hash that tells shards apart, what a query means,
-//! and what replies look like. They stand above the libraries, so that these are proved without them. It has nothing to call.
+//! Tests of the formats: what encodings of bytes look like, what is none, the hash that tells shards apart, what a query means, what is
+//! read of a line, and what replies look like. They stand above the libraries, so that these are proved without them. It has nothing
+//! to call.
 #![tactic(auto)]
 
 #[cfg(test)]

@@ -1,10 +1,10 @@
 -- A key is of a group where the group's root key is its own.
-use Rattle.std.proofs.Common.{◌≡◌, ℕ, subst, ◌≤◌, ◌↔◌, Bool, true, false, ◌&&◌, List, [], ◌∷◌, length, take, get_or, IsTrue, refl, sym, ap, ◌∙◌, arith}
+use Rattle.std.proofs.Common.{◌≡◌, ℕ, ◌≤◌, ◌↔◌, Bool, true, false, ◌&&◌, List, [], ◌∷◌, length, take, get_or, IsTrue, sym}
+use Rattle.std.proofs.Common.{ap, ◌∙◌, arith}
 use Rattle.std.proofs.lemmas.Bool.{and_parts, and_from}
 use Rattle.std.proofs.lemmas.Bool.Decides.{same_from_decides}
 use Rattle.std.proofs.lemmas.Slice.Eq.{bytes_eq-Decides}
 use Rattle.std.specs.Prelude.{bytes_eq}
-use Rattle.std.specs.Bool.{Decides}
 use Rattle.std.specs.Ordering.{eq_by_cmp}
 use Rattle.ds_base.specs.declared.key.Elem.{Elem}
 use Rattle.ds_base.specs.Keys.{KeyParts, root_of}
@@ -44,7 +44,8 @@ module _ (k g : KeyParts) (a : Bool) (namespaces : IsTrue a ↔ (k.namespace ≡
       from e = and_from a b (namespaces.1 (ap (λ (p : KeyParts). p.namespace) e)) (elems.1 (ap (λ (p : KeyParts). p.elems) e))
 
   pub other_group : a ≡ false → a ≡ same_key (root_of k) g
-  other_group off = same_from_decides {P = root_of k ≡ g} a (same_key (root_of k) g) (λ t. absurd (never t), λ e. namespaces.1 (ap (λ (p : KeyParts). p.namespace) e)) (same_key-decides (root_of k) g)
+  other_group off = same_from_decides {P = root_of k ≡ g} a (same_key (root_of k) g)
+      (λ t. absurd (never t), λ e. namespaces.1 (ap (λ (p : KeyParts). p.namespace) e)) (same_key-decides (root_of k) g)
     where
       never : a ≡ true → ⊥
       never t = cc

@@ -1,8 +1,11 @@
 pub mod After
 pub mod ConflictLaws
+pub mod ConflictSteps
 pub mod Conflicts
+pub mod GroupLaws
 pub mod Heads
 pub mod Ids
+pub mod JournalLaws
 pub mod Logs
 pub mod Shards
 pub mod Touches

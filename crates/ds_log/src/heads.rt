@@ -3,6 +3,7 @@ ghost use Rattle.std.specs.Prelude.{◌≡◌, ◌+◌, ◌<◌, ◌≤◌, [], 
 ghost use Rattle.ds_base.specs.Keys.{KeyParts};
 ghost use Rattle.ds_base.specs.KeyOrder.{same_key};
 ghost use Rattle.ds_base.specs.Limits.{most_commits};
+ghost use Rattle.ds_log.specs.Conflicts.{after_place};
 ghost use Rattle.ds_log.specs.Heads.{last_noted};
 
 use ds_base::{Key, NoMemory};
@@ -50,6 +51,17 @@ impl Heads {
         self.lasts.get(group).copied()
     }
 
+    /// The last commit that was noted for the group, where it comes after the place: `None` exactly where none after it
+    /// was. It takes no memory.
+    pub fn last_after(&self, group: &Key, place: u64) -> Option<u64>
+        ensures { result ≡ after_place place (last_noted self.now group.now) }
+    {
+        match self.last(group) {
+            Some(commit) if place < commit => Some(commit),
+            _ => None,
+        }
+    }
+
     /// How many commits were ended: the journal's length, at most 2^48. It takes no memory.
     pub fn length(&self) -> u64
         ensures value { result ≡ self.now.commits }
@@ -61,7 +73,8 @@ impl Heads {
     /// Makes `commit` the group's last one; the other groups keep theirs. It is refused for want of memory alone, which
     /// changes nothing and hands the group back, and never where there is room.
     pub fn note(&mut self, group: Key, commit: u64) -> Result<(), Key>
-        ensures noted { OnOk result ((g : KeyParts) → last_noted self.new g ≡ cond (same_key group g) (Some commit) (last_noted self.old g)) }
+        ensures noted { OnOk result
+            ((g : KeyParts) → last_noted self.new g ≡ cond (same_key group g) (Some commit) (last_noted self.old g)) }
         ensures commits { self.new.commits ≡ self.old.commits }
         ensures err { IfErr result (λ back. (back ≡ group) × (self.new.lasts ≡ self.old.lasts)) }
         ensures room { self.old.spare ≤ self.new.spare + 1 }

@@ -3,9 +3,11 @@
 //! A journal is a list of commits, numbered from 1. Each commit gives one log entry per entity group that it writes, to the
 //! shard of that group. The definitions stand in `specs/`: `Logs` (groups, shard lists), `Shards` (which shard a group
 //! belongs to), `After` (what a list of writes leaves), `Touches` (the groups that a transaction touched), `Conflicts` (when
-//! a commit conflicts, and what a serial journal is; `ConflictLaws` says it commit by commit), `Ids` (which ids a written
-//! key may have) and `Heads` (the last commit of each group). `hash` computes the hash that tells shards apart, `shard` the
-//! shard of a group, `projection` a shard's list, and `heads` keeps what a conflict is seen by.
+//! a commit conflicts, and what a serial journal is), `Ids` (which ids a written key may have) and `Heads` (the last commit
+//! of each group). What is proved of them stands apart, in the files whose names end in `Laws` or `Steps`.
+//!
+//! `hash` computes the hash that tells shards apart, `shard` the shard of a group, `projection` a shard's list, and `heads`
+//! keeps what a conflict is seen by.
 #![tactic(auto)]
 
 pub mod hash;

@@ -43,7 +43,8 @@ fn push_entries(
 ) -> Result<(), NoMemory>
     requires least { 1 ≤ shards }
     requires most { shards ≤ most_shards }
-    ensures { OnOk result (entries.new.items ≡ entries.old.items ++ filter (λ e. shard_of e.group shards == shard) (commit_entries number commit.now)) }
+    ensures { OnOk result (entries.new.items ≡ entries.old.items ++ filter (λ e. shard_of e.group shards == shard)
+        (commit_entries number commit.now)) }
 {
     for group in groups_of(alloc, &commit.writes)? {
         if shard_of(alloc, &group, shards)? == shard {

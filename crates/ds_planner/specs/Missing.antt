@@ -1,6 +1,6 @@
 -- What no index serves, and the definition that would serve it.
 use Rattle.std.specs.Prelude.{ℕ, Bool, true, false, ◌&&◌, not, bytes_eq, cond, List, [], ◌∷◌, ◌++◌, map, flat_map, filter, length}
-use Rattle.std.specs.Prelude.{Option, Some, None, is_some, option_map, unwrap_or}
+use Rattle.std.specs.Prelude.{Option, Some, is_some, option_map, unwrap_or}
 use Rattle.std.specs.List.{list_any, find, range_with_len}
 use Rattle.ds_base.specs.declared.column.Column.{Column}
 use Rattle.ds_indexdef.specs.declared.IndexDef.{IndexDef}

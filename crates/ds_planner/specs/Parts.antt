@@ -1,5 +1,5 @@
 -- The parts of what a branch asks for: its pairs and its ancestor.
-use Rattle.std.specs.Prelude.{Bool, true, false, List, [], ◌∷◌, ◌++◌, map, cond, Option, None, is_some}
+use Rattle.std.specs.Prelude.{Bool, true, false, List, [], ◌∷◌, ◌++◌, map, cond, None, is_some}
 use Rattle.ds_query.specs.declared.branch.Pair.{Pair}
 use Rattle.ds_query.specs.declared.branch.Branch.{Branch}
 

@@ -10,7 +10,7 @@ ghost use Rattle.ds_planner.specs.Lean.{binds};
 ghost use Rattle.ds_planner.specs.Missing.{candidates};
 ghost use Rattle.ds_planner.specs.Choices.{can_bind, agrees, with_choice, scan_for, sole_index, with_part, scans_of};
 
-use crate::indexes::{binds_ancestor, has_flag, leads};
+use crate::indexes::{binds_ancestor, has_flag, lead_all, leads};
 use crate::pairs::{are_among, chooses, has_pair, properties_differ};
 use crate::planned::{Index, PlannedScan, PlannedScans};
 use ds_base::{Key, TryCopy};
@@ -167,10 +167,7 @@ fn can_bind(branch: &Branch, defs: &Defs, equal: &[Pair], ancestor: bool, index:
     requires { IsTrue (ends_in_key branch.now.columns) }
     ensures { result ≡ can_bind branch.now defs.now (record { equal = equal.now; ancestor = ancestor }) index.now }
 {
-    equal
-        .iter()
-        .all(|pair| leads(branch, defs, index, &pair.property))
-        && (!ancestor || binds_ancestor(branch, defs, index))
+    lead_all(branch, defs, index, equal) && (!ancestor || binds_ancestor(branch, defs, index))
 }
 
 /// The scan of the index for these pairs, and for the ancestor if it is asked for.

@@ -4,7 +4,8 @@ ghost use Rattle.std.specs.Option.{option_copied};
 ghost use Rattle.std.specs.List.{list_all, slice_get};
 ghost use Rattle.ds_query.specs.ColumnLists.{has_column};
 ghost use Rattle.ds_query.specs.Lawful.{ends_in_key, has_pair};
-ghost use Rattle.ds_planner.specs.Indexes.{defined_columns, is_of_kind, is_usable, is_paired, are_paired, names_column, by_key, in_front_of, leading, leads, is_candidate, has_flag, is_by_key, binds_ancestor};
+ghost use Rattle.ds_planner.specs.Indexes.{by_key, defined_columns, in_front_of, is_by_key, is_by_property, is_of_kind, is_usable};
+ghost use Rattle.ds_planner.specs.Indexes.{are_paired, binds_ancestor, has_flag, is_candidate, is_paired, leading, leads};
 
 use crate::key_columns::{in_front_of, is_ascending_key, is_by_key};
 use crate::pairs::has_pair;
@@ -47,15 +48,26 @@ pub(crate) fn leads(branch: &Branch, defs: &Defs, index: &Index, wanted: &TextSt
     ensures { result ≡ leads branch.now defs.now index.now wanted.now }
 {
     match index {
-        Index::AllByKey | Index::KindByKey => false,
+        Index::AllByKey => false,
+        Index::KindByKey => false,
         Index::Property { name, .. } => {
-            has_kind(branch) && is_by_key(branch.columns.as_slice()) && *wanted == *name
+            has_kind(branch) && property_leads(name, branch.columns.as_slice(), wanted)
         }
         Index::Composite { position } => match leading(branch, defs, *position) {
             Some(columns) => has_column(columns, wanted),
             None => false,
         },
     }
+}
+
+/// Whether the index has the property of each pair in front of the branch's columns.
+pub(crate) fn lead_all(branch: &Branch, defs: &Defs, index: &Index, pairs: &[Pair]) -> bool
+    requires { IsTrue (ends_in_key branch.now.columns) }
+    ensures { result ≡ list_all (λ p. leads branch.now defs.now index.now p.property) pairs.now }
+{
+    pairs
+        .iter()
+        .all(|pair| leads(branch, defs, index, &pair.property))
 }
 
 /// Whether a scan of the index is bound to the branch's ancestor.
@@ -135,8 +147,15 @@ fn has_column(columns: &[Column], name: &TextString) -> bool
     columns.iter().any(|column| *name == column.name)
 }
 
-/// The same of the index of one property: the columns are `__key__` alone and the property has a pair, or it is the first of
-/// two columns.
+/// Whether the index of the property has it in front of the columns: these are `__key__` ascending alone.
+fn property_leads(name: &TextString, columns: &[Column], wanted: &TextString) -> bool
+    ensures { result ≡ (is_by_key columns.now && bytes_eq wanted.now name.now) }
+{
+    is_by_key(columns) && *wanted == *name
+}
+
+/// Whether the index of the property ends with the columns, with a pair on it where it stands in front of them: they are
+/// `__key__` ascending alone and the property has a pair, or the property and `__key__` ascending.
 fn is_property_paired(
     name: &TextString,
     descending: bool,
@@ -147,10 +166,17 @@ fn is_property_paired(
     ensures { result ≡ are_paired pairs.now
         (in_front_of columns.now (record { name = name.now; descending = descending } ∷ by_key)) }
 {
+    is_by_property(name, descending, columns) || (is_by_key(columns) && has_pair(pairs, name))
+}
+
+/// Whether the columns are the property in this direction, and then `__key__` ascending.
+fn is_by_property(name: &TextString, descending: bool, columns: &[Column]) -> bool
+    ensures { result ≡ is_by_property (record { name = name.now; descending = descending }) columns.now }
+{
     match columns {
         [first, last] => {
-            first.name == *name && first.descending == descending && is_ascending_key(last)
+            *name == first.name && descending == first.descending && is_ascending_key(last)
         }
-        _ => is_by_key(columns) && has_pair(pairs, name),
+        _ => false,
     }
 }

@@ -46,8 +46,14 @@ pub(crate) fn without_key(columns: &[Column]) -> &[Column]
     ensures { result.now ≡ without_key columns.now }
 {
     match columns {
-        [rest @ .., last] if is_ascending_key(last) => rest,
-        _ => columns,
+        [rest @ .., last] => {
+            if is_ascending_key(last) {
+                rest
+            } else {
+                columns
+            }
+        }
+        [] => columns,
     }
 }
 
@@ -61,7 +67,13 @@ pub(crate) fn in_front_of<'a>(last: &[Column], columns: &'a [Column]) -> Option<
         return columns.strip_suffix(last);
     }
     match last {
-        [rest @ .., key] if is_ascending_key(key) => columns.strip_suffix(rest),
-        _ => None,
+        [rest @ .., key] => {
+            if is_ascending_key(key) {
+                columns.strip_suffix(rest)
+            } else {
+                None
+            }
+        }
+        [] => None,
     }
 }

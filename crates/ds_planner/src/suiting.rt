@@ -2,10 +2,10 @@
 ghost use Rattle.std.specs.Prelude.{◌≡◌, ◌&&◌, ◌||◌, not, IsTrue, Option, is_none};
 ghost use Rattle.std.specs.List.{list_any, list_all};
 ghost use Rattle.ds_query.specs.Lawful.{ends_in_key, IsLawfulBranch};
-ghost use Rattle.ds_planner.specs.Indexes.{leads, binds_ancestor};
+ghost use Rattle.ds_planner.specs.Indexes.{binds_ancestor};
 ghost use Rattle.ds_planner.specs.Suits.{chooses, same_ancestor, bound_ancestor, is_choice, is_scan, are_some, suits};
 
-use crate::indexes::{binds_ancestor, has_flag, is_candidate, is_paired, leads};
+use crate::indexes::{binds_ancestor, has_flag, is_candidate, is_paired, lead_all};
 use crate::pairs::{are_among, chooses, properties_differ};
 use crate::planned::{Index, PlannedScan, ScanPlan};
 use ds_base::Key;
@@ -52,15 +52,6 @@ fn is_choice(branch: &Branch, defs: &Defs, index: &Index, pairs: &[Pair]) -> boo
         && lead_all(branch, defs, index, pairs)
         && is_paired(branch, defs, index, pairs)
         && properties_differ(pairs)
-}
-
-fn lead_all(branch: &Branch, defs: &Defs, index: &Index, pairs: &[Pair]) -> bool
-    requires { IsTrue (ends_in_key branch.now.columns) }
-    ensures { result ≡ list_all (λ p. leads branch.now defs.now index.now p.property) pairs.now }
-{
-    pairs
-        .iter()
-        .all(|pair| leads(branch, defs, index, &pair.property))
 }
 
 /// Whether the scan has the branch's ancestor where its index's definition has the ancestor flag, and else none.

@@ -74,8 +74,8 @@ pub enum Body {
         place: u64,
         applied: Counts,
     },
-    /// Whether an entry of the shard, counted from 0, was applied; how many of its entries are applied now, and the commit
-    /// of the last of them.
+    /// Whether an entry of the shard, counted from 0, was applied; how many of its entries are applied now, and the place that the
+    /// call looked at, the journal's length.
     Apply {
         applied: bool,
         count: u64,
@@ -118,7 +118,8 @@ pub enum Body {
     TooManyGroups,
     /// The transaction has 500 writes.
     TooManyWrites,
-    /// The commit, counted from 1, that another made to the group after `place`, where this transaction touched it.
+    /// The first group, in the order of touching, that a commit after its touch wrote; the last such commit, counted from 1; and
+    /// the place of the check, the journal's length.
     Conflict {
         commit: u64,
         group: Key,

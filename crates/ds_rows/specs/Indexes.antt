@@ -42,6 +42,11 @@ abbrev pub key_descends : Index → Bool
 key_descends (Composite n d) = last_key_descends d.columns
 key_descends _ = false
 
+-- has the index a row for each ancestor of an entity?
+abbrev pub has_ancestor : Index → Bool
+has_ancestor (Composite n d) = d.ancestor
+has_ancestor _ = false
+
 -- ---- the indexes of an entity
 
 -- each property has an ascending and a descending index

@@ -1,4 +1,11 @@
 pub mod Counts
+pub mod Indexable
 pub mod IndexedValues
 pub mod Indexes
+pub mod Laws
+pub mod OwnRowLaws
+pub mod RowLaws
 pub mod Rows
+pub mod Spans
+pub mod Versions
+pub mod Ways

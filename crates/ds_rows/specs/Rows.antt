@@ -8,7 +8,8 @@ use Rattle.ds_indexdef.specs.declared.IndexDef.{IndexDef}
 use Rattle.ds_bytes.specs.Encoding.{escaped, key_bytes}
 use Rattle.ds_bytes.specs.Rows.{RowParts, row_bytes}
 use Rattle.ds_rows.specs.IndexedValues.{kind_of, indexed_values, column_values, each_way}
-use Rattle.ds_rows.specs.Indexes.{Index, AllByKey, KindByKey, ByProperty, Composite, directions, key_descends, value_columns, indexes_of}
+use Rattle.ds_rows.specs.Indexes.{Index, AllByKey, KindByKey, ByProperty, Composite, directions, key_descends, has_ancestor}
+use Rattle.ds_rows.specs.Indexes.{value_columns, indexes_of}
 
 -- ---- rows as values and keys
 
@@ -28,8 +29,7 @@ ancestors k = map (λ path. record { namespace = k.namespace; elems = path }) (p
 
 -- an index with the ancestor flag has each row once for each ancestor of the entity
 abbrev pub row_ancestors : Index → KeyParts → List (Option KeyParts)
-row_ancestors (Composite n d) k = cond d.ancestor (map (λ a. Some a) (ancestors k)) (None ∷ [])
-row_ancestors _ k = None ∷ []
+row_ancestors i k = cond (has_ancestor i) (map (λ a. Some a) (ancestors k)) (None ∷ [])
 
 -- what the entity has in each column of an index
 abbrev pub index_lists : EntityParts → Index → List (List IndexValue)

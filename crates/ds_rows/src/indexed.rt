@@ -1,9 +1,12 @@
 //! What the indexes hold of an entity.
-ghost use Rattle.std.specs.Prelude.{◌≡◌, bytes_eq, map, length, IsTrue, IfOk};
+ghost use Rattle.std.specs.Prelude.{◌≡◌, ◌∷◌, [], map, fold, filter_map, IsTrue, IfOk, OnOk};
 ghost use Rattle.ds_base.specs.Entities.{EntityParts, names_ascend};
-ghost use Rattle.ds_rows.specs.IndexedValues.{kind_of, property_values, indexed_values, key_name, is_key_name};
+ghost use Rattle.ds_base.specs.IndexOrder.{index_value_cmp};
+ghost use Rattle.ds_base.specs.Values.{index_of};
+ghost use Rattle.std.specs.BTreeSet.{insert_key};
+ghost use Rattle.ds_rows.specs.IndexedValues.{kind_of, property_values, indexed_values, is_key_name};
 
-use ds_base::{Entity, IndexValue, IndexValues, Key, NoMemory, Property, TextString};
+use ds_base::{IndexValue, IndexValues, Key, NoMemory, Property, TextString, Value};
 use std::alloc::Global;
 use std::collections::BTreeSet;
 
@@ -48,15 +51,27 @@ fn property_values(alloc: Global, property: &Property) -> Result<IndexValues, No
     }
     let mut distinct = BTreeSet::new(alloc);
     for value in property.values.as_slice() {
-        if let Some(indexed) = value.index(alloc)? {
-            distinct.insert(indexed)?;
-        }
+        insert_indexed(alloc, value, &mut distinct)?;
     }
     let mut ascending = Vec::with_capacity(alloc, distinct.len())?;
     for value in distinct {
         ascending.push(value)?;
     }
     Ok(IndexValues::from(ascending))
+}
+
+/// Puts what an index holds of the value among the others, unless it is there.
+fn insert_indexed(
+    alloc: Global,
+    value: &Value,
+    distinct: &mut BTreeSet<IndexValue>,
+) -> Result<(), NoMemory>
+    ensures { OnOk result (distinct.new.keys ≡ fold (insert_key index_value_cmp) distinct.old.keys (filter_map index_of (value.now ∷ []))) }
+{
+    if let Some(indexed) = value.index(alloc)? {
+        distinct.insert(indexed)?;
+    }
+    Ok(())
 }
 
 /// The indexed values of the property of this name, out of those of all properties; none where there is no such property.

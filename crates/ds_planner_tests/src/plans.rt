@@ -1,0 +1,370 @@
+//! Queries over definitions, both written as text, and what is planned for them, shown as text.
+ghost use Rattle.ds_query.specs.Lawful.{IsLawfulBranch};
+
+use ds_base::{
+    Column, Columns, Elem, Elems, Ident, IndexValue, Key, NoMemory, Sequence, TextString, Value,
+    Values,
+};
+use ds_indexdef::{Defs, IndexDef};
+use ds_planner::{Index, PlanRefused, PlannedScan, ScanPlan, plan, suits};
+use ds_query::{Branch, Constraint, Filter, Filters, Op, Pair, Query, Select, normalize};
+use std::alloc::{AllocError, Global};
+use std::str::SplitWhitespace;
+use std::test::Fail;
+
+// ---- queries and definitions from text
+
+fn put<T: Drop>(list: &mut Sequence<T>, item: T) -> Result<(), NoMemory> {
+    match list.push(item) {
+        Ok(()) => Ok(()),
+        Err(_) => Err(AllocError),
+    }
+}
+
+/// A column as `a`, or `-a` where it descends.
+fn column(alloc: Global, word: &str) -> Result<Column, NoMemory> {
+    match word.strip_prefix('-') {
+        Some(name) => named(alloc, name, true),
+        None => named(alloc, word, false),
+    }
+}
+
+fn named(alloc: Global, name: &str, descending: bool) -> Result<Column, NoMemory> {
+    let name = TextString::of(alloc, name)?;
+    Ok(Column { name, descending })
+}
+
+fn columns(alloc: Global, words: SplitWhitespace) -> Result<Columns, NoMemory> {
+    let mut columns = Columns::new(alloc);
+    for word in words {
+        put(&mut columns, column(alloc, word)?)?;
+    }
+    Ok(columns)
+}
+
+/// An equality as `a 1`.
+fn equality(alloc: Global, words: SplitWhitespace) -> Result<Filter, NoMemory> {
+    let mut words = words;
+    let property = TextString::of(alloc, words.next().unwrap_or("?"))?;
+    let number = words.next().unwrap_or("?").parse::<i64>().unwrap_or(0);
+    Ok(Filter {
+        property,
+        op: Op::Equal,
+        values: Values::from(vec![in alloc; Value::Int(number)]?),
+    })
+}
+
+fn root(alloc: Global) -> Result<Key, Fail> {
+    let kind = TextString::of(alloc, "R")?;
+    let ident = Ident::Id(1);
+    Ok(Key::new(alloc, Elems::from(vec![in alloc; Elem { kind, ident }]?))?)
+}
+
+/// The query of clauses as `kind T`, `under`, `where a 1` and `order -c d`.
+fn query(alloc: Global, text: &str) -> Result<Query, Fail> {
+    let mut kind = None;
+    let mut ancestor = None;
+    let mut filters = Filters::new(alloc);
+    let mut orders = Columns::new(alloc);
+    for clause in text.split(';') {
+        let mut words = clause.split_whitespace();
+        match words.next().unwrap_or("") {
+            "kind" => kind = Some(TextString::of(alloc, "T")?),
+            "under" => ancestor = Some(root(alloc)?),
+            "where" => put(&mut filters, equality(alloc, words)?)?,
+            "order" => orders = columns(alloc, words)?,
+            _ => {}
+        }
+    }
+    Ok(Query {
+        namespace: TextString::new(alloc),
+        kind,
+        ancestor,
+        filters,
+        orders,
+        select: Select::Keys,
+        cursors: false,
+    })
+}
+
+/// A definition as `T a -c`, or `T/ a -c` where it has the ancestor flag.
+fn definition(alloc: Global, kind: &str, words: SplitWhitespace) -> Result<IndexDef, NoMemory> {
+    let ancestor = kind.ends_with('/');
+    let kind = TextString::of(alloc, if kind.starts_with('U') { "U" } else { "T" })?;
+    Ok(IndexDef {
+        kind,
+        ancestor,
+        columns: columns(alloc, words)?,
+    })
+}
+
+/// The definitions of a text as `T a c; T/ b c`.
+fn definitions(alloc: Global, text: &str) -> Result<Defs, NoMemory> {
+    let mut defs = Defs::new(alloc);
+    for entry in text.split(';') {
+        let mut words = entry.split_whitespace();
+        if let Some(kind) = words.next() {
+            add(&mut defs, definition(alloc, kind, words)?)?;
+        }
+    }
+    Ok(defs)
+}
+
+fn add(defs: &mut Defs, def: IndexDef) -> Result<(), NoMemory> {
+    match defs.push(def) {
+        Ok(()) => Ok(()),
+        Err(_) => Err(AllocError),
+    }
+}
+
+// ---- what is shown
+
+fn show_pair(alloc: Global, pair: &Pair, onto: &mut String) -> Result<(), NoMemory> {
+    onto.push_str(pair.property.text())?;
+    onto.push_str("=")?;
+    match &pair.value {
+        IndexValue::Num(n) => {
+            let text = n.to_string(alloc)?;
+            onto.push_str(text.as_str())
+        }
+        _ => onto.push_str("?"),
+    }
+}
+
+fn show_column(name: &TextString, descending: bool, onto: &mut String) -> Result<(), NoMemory> {
+    onto.push_str(if descending { " -" } else { " " })?;
+    onto.push_str(name.text())
+}
+
+fn show_index(alloc: Global, index: &Index, onto: &mut String) -> Result<(), NoMemory> {
+    match index {
+        Index::AllByKey => onto.push_str(" all"),
+        Index::KindByKey => onto.push_str(" kind"),
+        Index::Property { name, descending } => show_column(name, *descending, onto),
+        Index::Composite { position } => {
+            let text = position.to_string(alloc)?;
+            onto.push_str(" #")?;
+            onto.push_str(text.as_str())
+        }
+    }
+}
+
+/// A scan as `#1(a=1 b=2 under)`.
+fn show_scan(alloc: Global, scan: &PlannedScan, onto: &mut String) -> Result<(), NoMemory> {
+    show_index(alloc, &scan.index, onto)?;
+    onto.push_str("(")?;
+    for pair in scan.equal.as_slice() {
+        show_pair(alloc, pair, onto)?;
+        onto.push_str(" ")?;
+    }
+    onto.push_str(if scan.ancestor.is_some() {
+        "under)"
+    } else {
+        ")"
+    })
+}
+
+fn show_plan(alloc: Global, plan: &ScanPlan, onto: &mut String) -> Result<(), NoMemory> {
+    for scan in plan.scans.as_slice() {
+        show_scan(alloc, scan, onto)?;
+    }
+    Ok(())
+}
+
+fn show_constraint(
+    alloc: Global,
+    constraint: &Constraint,
+    onto: &mut String,
+) -> Result<(), NoMemory> {
+    match constraint {
+        Constraint::Columns => onto.push_str("columns:"),
+        Constraint::Ancestor => onto.push_str("ancestor:"),
+        Constraint::Equal(pair) => {
+            show_pair(alloc, pair, onto)?;
+            onto.push_str(":")
+        }
+    }
+}
+
+fn show_definition(def: &IndexDef, onto: &mut String) -> Result<(), NoMemory> {
+    onto.push_str(if def.ancestor { " T/" } else { " T" })?;
+    for column in def.columns.as_slice() {
+        show_column(&column.name, column.descending, onto)?;
+    }
+    onto.push_str(" then")
+}
+
+/// What is planned for the branch; where an index is missing, what is planned with the suggestion too.
+fn show_branch(
+    alloc: Global,
+    branch: &Branch,
+    defs: &mut Defs,
+    onto: &mut String,
+) -> Result<(), Fail>
+    requires { IsLawfulBranch branch.now }
+{
+    match plan(alloc, branch, defs) {
+        Ok(plan) => {
+            show_plan(alloc, &plan, onto)?;
+            if !suits(&plan, branch, defs) {
+                onto.push_str(" which doesn't suit")?;
+            }
+        }
+        Err(PlanRefused::NoMemory) => onto.push_str("no memory")?,
+        Err(
+            PlanRefused::MissingIndex {
+                constraint,
+                suggestion,
+            },
+        ) => {
+            show_constraint(alloc, &constraint, onto)?;
+            show_definition(&suggestion, onto)?;
+            add(defs, suggestion)?;
+            show_again(alloc, branch, defs, onto)?;
+        }
+    }
+    Ok(())
+}
+
+fn show_again(
+    alloc: Global,
+    branch: &Branch,
+    defs: &Defs,
+    onto: &mut String,
+) -> Result<(), NoMemory>
+    requires { IsLawfulBranch branch.now }
+{
+    match plan(alloc, branch, defs) {
+        Ok(plan) => show_plan(alloc, &plan, onto),
+        Err(_) => onto.push_str(" nothing"),
+    }
+}
+
+/// What is planned for a query over definitions.
+fn shown(alloc: Global, asked: &str, defined: &str) -> Result<String, Fail> {
+    let mut shown = String::new(alloc);
+    let mut defs = definitions(alloc, defined)?;
+    let query = query(alloc, asked)?;
+    if !query.is_lawful() {
+        return Ok(shown);
+    }
+    match normalize(alloc, &query) {
+        Ok(normal) => {
+            for branch in normal.branches.as_slice() {
+                show_branch(alloc, branch, &mut defs, &mut shown)?;
+            }
+        }
+        Err(_) => shown.push_str("no normal form")?,
+    }
+    Ok(shown)
+}
+
+// ---- the table
+
+/// Queries, definitions, and what is planned.
+const PLANS: [(&str, &str, &str); 24] = [
+    // two indexes joined, one of all, and what is missing
+    (
+        "kind T; where a 1; where b 2; order c",
+        "T a c; T b c",
+        " #0(a=1 ) #1(b=2 )",
+    ),
+    (
+        "kind T; where a 1; where b 2; order c",
+        "T a c; T b c; T b a c",
+        " #2(a=1 b=2 )",
+    ),
+    (
+        "kind T; where a 1; where b 2; order c",
+        "T a c",
+        "b=2: T a b c then #1(a=1 b=2 )",
+    ),
+    (
+        "kind T; where a 1; where a 2; where b 3; order c",
+        "T b -a c",
+        " #0(a=1 b=3 ) #0(a=2 b=3 )",
+    ),
+    // built-in indexes
+    ("kind T", "", " kind()"),
+    ("kind T; order -c", "", " -c()"),
+    ("kind T; where a 1; where b 2", "", " a(a=1 ) b(b=2 )"),
+    ("kind T; where a 1; where a 2", "", " a(a=1 ) a(a=2 )"),
+    ("kind T; under; where a 1", "", " a(a=1 )"),
+    // without a kind
+    ("", "T a", " all()"),
+    ("under", "T/", " all()"),
+    // the three constraints, without an ancestor and with one
+    ("kind T; order b c", "T b -c", "columns: T b c then #1()"),
+    (
+        "kind T; under; order b c",
+        "T b -c",
+        "columns: T/ b c then #1(under)",
+    ),
+    (
+        "kind T; under; order c",
+        "T/ c d",
+        "ancestor: T/ c then #1(under)",
+    ),
+    ("kind T; where a 1; order c", "", "a=1: T a c then #0(a=1 )"),
+    (
+        "kind T; under; where a 1; order c",
+        "T/ c",
+        "a=1: T/ a c then #1(a=1 under)",
+    ),
+    // ancestors
+    (
+        "kind T; under; where a 1; order c",
+        "T/ c; T a c",
+        " #1(a=1 ) #0(under)",
+    ),
+    (
+        "kind T; under; where a 1; order c",
+        "T a c; T/ -a c",
+        " #1(a=1 under)",
+    ),
+    (
+        "kind T; where a 1; order c",
+        "T/ a c",
+        "a=1: T a c then #1(a=1 )",
+    ),
+    // `__key__` in both directions
+    (
+        "kind T; order -__key__",
+        "",
+        "columns: T -__key__ then #0()",
+    ),
+    (
+        "kind T; where a 1; order -__key__",
+        "T a; T a -__key__",
+        " #1(a=1 )",
+    ),
+    (
+        "kind T; where a 1; order b __key__",
+        "T a b -__key__; T a b __key__",
+        " #1(a=1 )",
+    ),
+    // an index with a property that isn't asked for, and one of another kind
+    (
+        "kind T; where a 1; order c",
+        "T x a c; U a c; T a c",
+        " #2(a=1 )",
+    ),
+    (
+        "kind T; where a 1; order c",
+        "T a x c; U a c",
+        "a=1: T a c then #2(a=1 )",
+    ),
+];
+
+fn is_planned(alloc: Global, row: &(&str, &str, &str)) -> Result<bool, Fail> {
+    let text = shown(alloc, row.0, row.1)?;
+    Ok(text.as_str() == row.2)
+}
+
+#[test]
+fn plans_and_misses(rt: HostRuntime) -> Result<(), Fail> {
+    for row in &PLANS {
+        assert!(rt; is_planned(rt.alloc(), row)?, "{} over {}", row.0, row.1);
+    }
+    Ok(())
+}

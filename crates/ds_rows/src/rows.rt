@@ -1,0 +1,140 @@
+//! The rows of an entity.
+ghost use Rattle.std.specs.Prelude.{◌≡◌, [], ◌++◌, flat_map, map, All, IfOk, OnOk};
+ghost use Rattle.ds_bytes.specs.Encoding.{key_bytes};
+ghost use Rattle.ds_bytes.specs.Lawful.{IsLawfulValue};
+ghost use Rattle.ds_rows.specs.IndexedValues.{property_values, indexed_values};
+ghost use Rattle.ds_rows.specs.Indexes.{AllByKey, KindByKey, ByProperty, property_indexes};
+ghost use Rattle.ds_rows.specs.Rows.{rows_in, rows_of};
+ghost use Rattle.ds_rows.specs.Indexable.{IsIndexable};
+ghost use Rattle.ds_rows.specs.Laws.{IsOnce};
+
+use crate::composite::put_composite_rows;
+use crate::fronts::{put_all_front, put_kind_front, put_property_front};
+use crate::indexed::indexed_lists;
+use crate::row_set::{RowSet, RowWriter};
+use crate::ways::{ColumnValues, put_rows};
+use ds_base::{Buffer, Entity, IndexValue, IndexValues, NoMemory, Property, TextString};
+use ds_bytes::encode_key;
+use ds_indexdef::Defs;
+use std::alloc::Global;
+
+/// The rows of the entity in all indexes, with these definitions of composite indexes: in the index of all entities, in that of
+/// its kind, in an ascending and a descending index for each property, and in the composite indexes of its kind. Each row is
+/// there once, however many there are.
+///
+/// A row begins with what tells its index, so that the rows of an index stand together, and goes on with the values of the
+/// index's columns, each in its column's direction, and the key: so they have the order of the index. `specs/Rows` says what
+/// they are. It takes time and memory in proportion to the bytes of the rows and of the entity.
+pub fn rows_of(alloc: Global, defs: &Defs, entity: &Entity) -> Result<RowSet, NoMemory>
+    ensures rows { IfOk result (λ rows. rows ≡ rows_of defs.now entity.now) }
+    ensures once { IfOk result (λ rows. IsOnce rows) }
+    ensures lawful { OnOk result (IsIndexable entity.now) }
+{
+    let properties = entity.properties().as_slice();
+    let lists = indexed_lists(alloc, properties)?;
+    let mut key = Buffer::new(alloc);
+    encode_key(entity.key(), false, &mut key)?;
+    let mut front = Buffer::new(alloc);
+    let mut rows = RowWriter::new(alloc);
+    put_key_rows(entity, key.bytes(), &mut front, &mut rows)?;
+    put_property_rows(entity, lists.as_slice(), key.bytes(), &mut front, &mut rows)?;
+    put_composite_rows(alloc, defs, entity, lists.as_slice(), &mut front, &mut rows)?;
+    Ok(rows.finish())
+}
+
+/// Puts the rows in the index of all entities and in that of the entity's kind. `key` is the ascending encoding of its key.
+fn put_key_rows(
+    entity: &Entity,
+    key: &[u8],
+    front: &mut Buffer,
+    rows: &mut RowWriter,
+) -> Result<(), NoMemory>
+    requires encoded { key.now ≡ key_bytes entity.now.key }
+    requires begun { rows.old.begun ≡ [] }
+    ensures { OnOk result (rows.new ≡ record {
+      rows = rows.old.rows
+          ++ (rows_in entity.now AllByKey ++ rows_in entity.now KindByKey);
+      begun = [];
+    }) }
+{
+    put_all_front(entity.key(), front)?;
+    put_rows(front.bytes(), &[], key, rows)?;
+    put_kind_front(entity.key(), front)?;
+    put_rows(front.bytes(), &[], key, rows)
+}
+
+/// Puts the rows in the indexes of the properties, whose indexed values are given.
+fn put_property_rows(
+    entity: &Entity,
+    lists: &[IndexValues],
+    key: &[u8],
+    front: &mut Buffer,
+    rows: &mut RowWriter,
+) -> Result<(), NoMemory>
+    requires theirs { lists.now ≡ map property_values entity.now.properties }
+    requires encoded { key.now ≡ key_bytes entity.now.key }
+    requires begun { rows.old.begun ≡ [] }
+    ensures put { OnOk result (rows.new ≡ record {
+      rows = rows.old.rows
+          ++ flat_map (rows_in entity.now) (flat_map property_indexes entity.now.properties);
+      begun = [];
+    }) }
+    ensures lawful { OnOk result (All (λ p. All IsLawfulValue (property_values p)) entity.now.properties) }
+{
+    for (place, property) in entity.properties().as_slice().iter().enumerate() {
+        put_both(entity, property, lists[place].as_slice(), key, front, rows)?;
+    }
+    Ok(())
+}
+
+/// Puts the rows in the ascending and the descending index of one of the entity's properties, whose indexed values are given.
+fn put_both(
+    entity: &Entity,
+    property: &Property,
+    values: &[IndexValue],
+    key: &[u8],
+    front: &mut Buffer,
+    rows: &mut RowWriter,
+) -> Result<(), NoMemory>
+    requires theirs { values.now ≡ indexed_values entity.now property.now.name }
+    requires encoded { key.now ≡ key_bytes entity.now.key }
+    requires begun { rows.old.begun ≡ [] }
+    ensures put { OnOk result (rows.new ≡ record {
+      rows = rows.old.rows
+          ++ flat_map (rows_in entity.now) (property_indexes property.now);
+      begun = [];
+    }) }
+    ensures lawful { OnOk result (All IsLawfulValue values.now) }
+{
+    put_property(entity, &property.name, false, values, key, front, rows)?;
+    put_property(entity, &property.name, true, values, key, front, rows)
+}
+
+/// Puts the rows in one index of the property of this name.
+fn put_property(
+    entity: &Entity,
+    name: &TextString,
+    descending: bool,
+    values: &[IndexValue],
+    key: &[u8],
+    front: &mut Buffer,
+    rows: &mut RowWriter,
+) -> Result<(), NoMemory>
+    requires theirs { values.now ≡ indexed_values entity.now name.now }
+    requires encoded { key.now ≡ key_bytes entity.now.key }
+    requires begun { rows.old.begun ≡ [] }
+    ensures put { OnOk result (rows.new ≡ record {
+      rows = rows.old.rows
+          ++ rows_in entity.now (ByProperty name.now descending);
+      begun = [];
+    }) }
+    ensures lawful { OnOk result (All IsLawfulValue values.now) }
+{
+    put_property_front(name, descending, entity.key(), front)?;
+    put_rows(
+        front.bytes(),
+        &[ColumnValues { values, descending }],
+        key,
+        rows,
+    )
+}

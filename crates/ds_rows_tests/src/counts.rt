@@ -1,0 +1,99 @@
+//! How many rows an entity has, at the limit and far beyond it.
+use crate::make::{column, definition, key, numbers};
+use ds_base::{Entity, Properties, TextString};
+use ds_indexdef::Defs;
+use ds_rows::{RowsRefused, count_rows};
+use std::alloc::Global;
+use std::test::Fail;
+
+/// The names of the properties, ascending.
+const NAMES: [&str; 5] = ["a", "b", "c", "d", "e"];
+
+/// A definition over the first properties, so many.
+fn composite(alloc: Global, ancestor: bool, width: usize) -> Result<Defs, Fail> {
+    let mut columns = Vec::new(alloc);
+    for name in NAMES.iter().take(width) {
+        columns.push(column(alloc, name, false)?)?;
+    }
+    let mut defs = Defs::new(alloc);
+    let _ = defs.push(definition(alloc, ancestor, columns)?);
+    Ok(defs)
+}
+
+fn one_of(alloc: Global, a: i64) -> Result<Entity, Fail> {
+    let a = numbers(alloc, TextString::of(alloc, "a")?, a)?;
+    let properties = Properties::from(vec![in alloc; a]?);
+    Ok(Entity::new(key(alloc)?, properties)?)
+}
+
+fn two_of(alloc: Global, a: i64, b: i64) -> Result<Entity, Fail> {
+    let a = numbers(alloc, TextString::of(alloc, "a")?, a)?;
+    let b = numbers(alloc, TextString::of(alloc, "b")?, b)?;
+    let properties = Properties::from(vec![in alloc; a, b]?);
+    Ok(Entity::new(key(alloc)?, properties)?)
+}
+
+/// Five properties with as many numbers each.
+fn five_of(alloc: Global, count: i64) -> Result<Entity, Fail> {
+    let a = numbers(alloc, TextString::of(alloc, "a")?, count)?;
+    let b = numbers(alloc, TextString::of(alloc, "b")?, count)?;
+    let c = numbers(alloc, TextString::of(alloc, "c")?, count)?;
+    let d = numbers(alloc, TextString::of(alloc, "d")?, count)?;
+    let e = numbers(alloc, TextString::of(alloc, "e")?, count)?;
+    let properties = Properties::from(vec![in alloc; a, b, c, d, e]?);
+    Ok(Entity::new(key(alloc)?, properties)?)
+}
+
+/// Whether the entity has so many rows, and is taken just where they are no more than 20,000.
+fn has_rows(alloc: Global, defs: &Defs, entity: &Entity, rows: u64) -> bool {
+    match count_rows(alloc, defs, entity) {
+        Ok(count) => count == rows && rows <= 20_000,
+        Err(RowsRefused::TooManyRows { count }) => count == rows && rows > 20_000,
+        Err(RowsRefused::NoMemory) => false,
+    }
+}
+
+/// The entity of a hundred and two hundred numbers: 1 + 600 + 20,000 rows, and with the definition gone 601. With 81 and 239
+/// numbers it has 1 + 640 + 19,359, which is the limit, and with 10 and 1,665 one more.
+fn counts_up_to_the_limit(alloc: Global) -> Result<bool, Fail> {
+    let defs = composite(alloc, false, 2)?;
+    let none = Defs::new(alloc);
+    let many = two_of(alloc, 100, 200)?;
+    let most = two_of(alloc, 81, 239)?;
+    let over = two_of(alloc, 10, 1_665)?;
+    Ok(
+        has_rows(alloc, &defs, &many, 20_601)
+            && has_rows(alloc, &none, &many, 601)
+            && has_rows(alloc, &defs, &most, 20_000)
+            && has_rows(alloc, &defs, &over, 20_001),
+    )
+}
+
+/// Five columns of three numbers have 243 combinations; of 10,000 numbers there are more than 64 bits tell.
+fn counts_far_beyond(alloc: Global) -> Result<bool, Fail> {
+    let defs = composite(alloc, false, 5)?;
+    let three = composite(alloc, false, 3)?;
+    let few = five_of(alloc, 3)?;
+    let hundred = five_of(alloc, 100)?;
+    let many = five_of(alloc, 10_000)?;
+    Ok(
+        has_rows(alloc, &defs, &few, 1 + 30 + 243)
+            && has_rows(alloc, &three, &hundred, 1 + 1_000 + 1_000_000)
+            && has_rows(alloc, &defs, &many, 9_223_372_036_854_775_807),
+    )
+}
+
+/// A definition with a property that the entity hasn't gives no row.
+fn counts_none_where_a_property_is_missing(alloc: Global) -> Result<bool, Fail> {
+    let defs = composite(alloc, true, 5)?;
+    let one = one_of(alloc, 7)?;
+    Ok(has_rows(alloc, &defs, &one, 15))
+}
+
+#[test]
+fn counts_rows(rt: HostRuntime) -> Result<(), Fail> {
+    assert!(rt; counts_up_to_the_limit(rt.alloc())?);
+    assert!(rt; counts_far_beyond(rt.alloc())?);
+    assert!(rt; counts_none_where_a_property_is_missing(rt.alloc())?);
+    Ok(())
+}

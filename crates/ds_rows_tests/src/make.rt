@@ -1,0 +1,54 @@
+//! Keys, properties and definitions for the tests.
+ghost use Rattle.std.specs.Prelude.{◌≡◌, IfOk};
+
+use ds_base::{Column, Columns, Elem, Elems, Ident, Key, Property, TextString, Value, Values};
+use ds_indexdef::IndexDef;
+use std::alloc::{AllocError, Global};
+use std::test::Fail;
+
+pub(crate) fn named(alloc: Global, kind: &str, name: &str) -> Result<Elem, AllocError> {
+    Ok(Elem {
+        kind: TextString::of(alloc, kind)?,
+        ident: Ident::Name(TextString::of(alloc, name)?),
+    })
+}
+
+/// The key `[["T", "a"]]`.
+pub(crate) fn key(alloc: Global) -> Result<Key, Fail> {
+    Ok(Key::new(alloc, Elems::from(vec![in alloc; named(alloc, "T", "a")?]?))?)
+}
+
+/// The property of this name with so many numbers, from 0 on.
+pub(crate) fn numbers(alloc: Global, name: TextString, count: i64) -> Result<Property, AllocError>
+    ensures { IfOk result (λ p. p.name ≡ name) }
+{
+    let mut values = Vec::new(alloc);
+    for number in 0..count {
+        values.push(Value::Int(number))?;
+    }
+    Ok(Property {
+        name,
+        indexed: true,
+        values: Values::from(values),
+    })
+}
+
+pub(crate) fn column(alloc: Global, name: &str, descending: bool) -> Result<Column, AllocError> {
+    Ok(Column {
+        name: TextString::of(alloc, name)?,
+        descending,
+    })
+}
+
+/// A definition of the kind T.
+pub(crate) fn definition(
+    alloc: Global,
+    ancestor: bool,
+    columns: Vec<Column>,
+) -> Result<IndexDef, AllocError> {
+    Ok(IndexDef {
+        kind: TextString::of(alloc, "T")?,
+        ancestor,
+        columns: Columns::from(columns),
+    })
+}
