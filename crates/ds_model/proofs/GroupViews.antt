@@ -34,7 +34,7 @@ in_group g e = same_key (root_of e.key) g
 abbrev pub cut : KeyParts → List EntityParts → List EntityParts
 cut g es = filter (in_group g) es
 
-same_key-equal : (k l : KeyParts) → same_key k l ≡ true → k ≡ l
+pub same_key-equal : (k l : KeyParts) → same_key k l ≡ true → k ≡ l
 same_key-equal k l same = key_cmp-same k l (equal (key_cmp k l) same) where
   equal : (r : Ordering) → is_eq r ≡ true → r ≡ Equal
   equal Less is = cc
@@ -89,7 +89,7 @@ group_log-append g xs ys =
 
 -- ---- commits that leave a group alone
 
-unwritten : (g : KeyParts) (ws : List Write) → writes_group g ws ≡ false → group_writes g ws ≡ []
+pub unwritten : (g : KeyParts) (ws : List Write) → writes_group g ws ≡ false → group_writes g ws ≡ []
 unwritten g [] none = refl
 unwritten g (w ∷ ws) none = by (unwritten g ws) (same_key (group_of w) g) none where
   by : (writes_group g ws ≡ false → group_writes g ws ≡ []) → (b : Bool) → (b || writes_group g ws) ≡ false → cond b (w ∷ group_writes g ws) (group_writes g ws) ≡ []
@@ -168,7 +168,7 @@ transaction_reads journal i c j t serial at is =
     let committed = serial i c at in
     let within : t.place ≤ length before = touch_within (length before) c.touched j t committed.touched_before is in
     let first : take t.place journal ≡ take t.place before =
-      ap (take t.place) (sym (take-append-drop i journal)) ∙ take-append-le {A = Commit} t.place before (drop i journal) within in
+    ap (take t.place) (sym (take-append-drop i journal)) ∙ take-append-le {A = Commit} t.place before (drop i journal) within in
     cut_view t.group (writes_of (take t.place journal))
     ∙ ap after (ap (λ cs. group_log cs t.group) first
     ∙ sym (append-nil (group_log (take t.place before) t.group))

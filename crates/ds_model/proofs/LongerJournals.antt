@@ -92,7 +92,7 @@ saw-grown : (lists longer : List (List Entry)) (shard count : ℕ) (s : Session)
 saw-grown lists longer shard count s h within =
     let more = list-grown lists longer shard h in
     let same : take count (list_of longer shard) ≡ take count (list_of lists shard) =
-      ap (λ (es : List Entry). take count es) more.1 ∙ take-append-le {A = Entry} count (list_of lists shard) more.0 within in
+    ap (λ (es : List Entry). take count es) more.1 ∙ take-append-le {A = Entry} count (list_of lists shard) more.0 within in
     ap (λ (es : List Entry). record s { place = max s.place (last_commit es); counts = raised_at shard count s.counts }) same
 
 counts-grown : (least : ℕ → ℕ) (shard : ℕ) (lists longer : List (List Entry)) (cs counts : List ℕ) → AreLonger lists longer → CountsWithin least shard cs lists counts → CountsWithin least shard cs longer counts

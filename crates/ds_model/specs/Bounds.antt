@@ -36,7 +36,8 @@ least_of (n ∷ m ∷ ns) = min n (least_of (m ∷ ns))
 abbrev pub least : Branch → Option Place → Option Place → Option ℕ → List EntityParts → ℕ
 least q start end (Some zero) entities = 0
 least q start end most entities =
-    least_of (map (λ part. length (part_rows q start end (stop_at q.columns most (given q start end most entities)) entities part)) (parts q))
+    least_of
+    (map (λ part. length (part_rows q start end (stop_at q.columns most (given q start end most entities)) entities part)) (parts q))
 
 -- the entities of the versions that aren't seen at the stamp
 abbrev pub unseen_at : ℕ → List Version → List EntityParts
