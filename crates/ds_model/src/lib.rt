@@ -8,5 +8,6 @@
 //! shard lists, plans and cursors.
 //!
 //! `proofs/` has their laws: `LongerJournals` (an answer holds over every longer journal), `GroupViews` (a transaction reads what
-//! stood just before its commit), `GroupPrefixes` (a global view shows each group at a prefix of its log), `SeenGrows` (what a client has seen never shrinks), and examples computed by the definitions.
+//! stood just before its commit), `GroupPrefixes` (a global view shows each group at a prefix of its log), `SeenGrows` (what a
+//! client has seen never shrinks), and examples computed by the definitions.
 #![tactic(auto)]
