@@ -1,10 +1,14 @@
 -- What a legal run is.
-use Rattle.std.specs.Prelude.{◌≡◌, ℕ, ◌+◌, ◌-◌, ◌<◌, ◌≤◌, List, [], ◌∷◌, ◌++◌, Bool, ◌==◌, Option, Some, None, length, filter, map, flat_map, nat_le, All, IsPermutation, cond}
+use Rattle.std.specs.Prelude.{◌≡◌, ℕ, ◌+◌, ◌-◌, ◌<◌, ◌≤◌, List, [], ◌∷◌, ◌++◌, true, ◌==◌, Option, Result, Ok, Err}
+use Rattle.std.specs.Prelude.{length, filter, flat_map, nat_le, All, IsPermutation, cond}
 use Rattle.std.specs.List.{range_with_len}
 use Rattle.ds_base.specs.declared.key.Ident.{Ident}
 use Rattle.ds_base.specs.declared.key.Ident.TheVariants.{Id, Name}
 use Rattle.ds_base.specs.declared.key.Elem.{Elem}
-use Rattle.ds_base.specs.Keys.{KeyParts}
+use Rattle.ds_base.specs.Limits.{greatest_client}
+use Rattle.ds_request.specs.declared.call.Call.{Call}
+use Rattle.ds_request.specs.declared.call.Call.TheVariants as call
+use Rattle.ds_request.specs.declared.call.Request.{Request}
 use Rattle.ds_indexdef.specs.declared.IndexDef.{IndexDef}
 use Rattle.ds_reply.specs.declared.reply.WriteAt.{WriteAt}
 use Rattle.ds_reply.specs.declared.reply.WriteAt.TheVariants as at
@@ -13,9 +17,9 @@ use Rattle.ds_reply.specs.declared.reply.Body.TheVariants as body
 use Rattle.ds_reply.specs.declared.reply.Reply.{Reply}
 use Rattle.ds_rounds.specs.Rounds.{NumberedLine}
 use Rattle.ds_log.specs.declared.Commit.{Commit}
-use Rattle.ds_log.specs.declared.Entry.{Entry}
-use Rattle.ds_log.specs.Logs.{shard_list}
-use Rattle.ds_model.specs.Answers.{World, Answers, client_of}
+use Rattle.ds_model.specs.Asked.{asked, client_of}
+use Rattle.ds_model.specs.Answers.{Answers}
+use Rattle.ds_model.specs.Worlds.{World, world_of}
 use Rattle.ds_model.specs.Sessions.{Session, first_id, first_sessions, met}
 
 -- one client's replies, in the order of its lines
@@ -29,13 +33,17 @@ abbrev pub RoundSteps : World → List NumberedLine → ℕ → List Session →
 RoundSteps w round client [] replies after = (replies ≡ []) × (after ≡ [])
 RoundSteps w round client (s ∷ sessions) replies [] = ⊥
 RoundSteps w round client (s ∷ sessions) replies (t ∷ after) =
-    (own : List Reply) × (others : List Reply) × (replies ≡ own ++ others) × Steps w s (filter (λ line. client_of line.content == client) round) own t × RoundSteps w round (client + 1) sessions others after
+    (own : List Reply) × (others : List Reply) × (replies ≡ own ++ others)
+    × Steps w s (filter (λ line. client_of w.shards line.content == client) round) own t
+    × RoundSteps w round (client + 1) sessions others after
 
 -- the replies of rounds: the sessions meet at the start of each
 abbrev pub RoundsSteps : World → List (List NumberedLine) → List Session → List Reply → List Session → Type 0
 RoundsSteps w [] sessions replies after = (replies ≡ []) × (after ≡ sessions)
 RoundsSteps w (round ∷ rounds) sessions replies after =
-    (own : List Reply) × (others : List Reply) × (between : List Session) × (replies ≡ own ++ others) × RoundSteps w round 0 (met sessions) own between × RoundsSteps w rounds between others after
+    (own : List Reply) × (others : List Reply) × (between : List Session) × (replies ≡ own ++ others)
+    × RoundSteps w round 0 (met sessions) own between
+    × RoundsSteps w rounds between others after
 
 -- ---- the numbers in replies
 
@@ -53,9 +61,32 @@ acknowledged_in _ = []
 abbrev pub acknowledged : Reply → List ℕ
 acknowledged r = acknowledged_in r.body
 
--- the ids that a reply tells as drawn; no operation draws yet
-abbrev pub drawn : Reply → List ℕ
-drawn r = []
+-- the ids of an automatic key's last element
+abbrev pub last_id : List Elem → List ℕ
+last_id [] = []
+last_id (e ∷ []) = id_in e.ident where
+  id_in : Ident → List ℕ
+  id_in (Id n) = n ∷ []
+  id_in (Name x) = []
+last_id (e ∷ f ∷ es) = last_id (f ∷ es)
+
+abbrev pub drawn_by_call : Call → Body → List ℕ
+drawn_by_call (call.Put key true properties) (body.Put printed place) = last_id printed.elems
+drawn_by_call (call.AllocateIds count) (body.AllocateIds first printed) = range_with_len first printed
+drawn_by_call _ _ = []
+
+abbrev pub drawn_by : Result Request (ℕ × Body) → Body → List ℕ
+drawn_by (Ok r) said = drawn_by_call r.call said
+drawn_by (Err e) said = []
+
+-- the ids that the reply to a line tells as drawn: an automatic one, or a range
+abbrev pub drawn : ℕ → NumberedLine → Reply → List ℕ
+drawn shards line reply = drawn_by (asked shards line.content) reply.body
+
+-- those of the replies to these lines; there is one reply for each line
+abbrev pub drawn_in : ℕ → List NumberedLine → List Reply → List ℕ
+drawn_in shards (line ∷ lines) (reply ∷ replies) = drawn shards line reply ++ drawn_in shards lines replies
+drawn_in shards _ _ = []
 
 abbrev pub counter_id : Ident → List ℕ
 counter_id (Id n) = cond (nat_le first_id n) (n ∷ []) []
@@ -82,26 +113,27 @@ printed_next_in _ = []
 abbrev pub printed_next : Reply → List ℕ
 printed_next r = printed_next_in r.body
 
+-- the lines that are answered, in the order of the replies: by round, then by client, and then by line
+abbrev pub by_client : ℕ → List NumberedLine → List NumberedLine
+by_client shards round =
+    flat_map (λ client. filter (λ line. client_of shards line.content == client) round) (range_with_len 0 (greatest_client + 1))
+
+abbrev pub answered_lines : ℕ → List (List NumberedLine) → List NumberedLine
+answered_lines shards = flat_map (by_client shards)
+
 -- the drawn ids are those from the first one up to a bound, each once; accepted ids are below it, printed counters not above
-pub record IdsDrawn (replies : List Reply) : Type 0 where
+pub record IdsDrawn (shards : ℕ) (rounds : List (List NumberedLine)) (replies : List Reply) : Type 0 where
   pub bound : ℕ
   pub from_first : first_id ≤ bound
-  pub each_once : IsPermutation (flat_map drawn replies) (range_with_len first_id (bound - first_id))
+  pub each_once : IsPermutation (drawn_in shards (answered_lines shards rounds) replies) (range_with_len first_id (bound - first_id))
   pub accepted_below : All (λ id. id < bound) (flat_map accepted replies)
   pub printed_within : All (λ next. next ≤ bound) (flat_map printed_next replies)
 
--- one list of entries per shard
-abbrev pub shard_lists : ℕ → List Commit → List (List Entry)
-shard_lists shards journal = map (λ shard. shard_list journal shard shards) (range_with_len 0 shards)
-
-abbrev pub world_of : List IndexDef → ℕ → Option ℕ → List Commit → World
-world_of definitions shards window journal =
-    record { journal = journal; lists = shard_lists shards journal; definitions = definitions; shards = shards; window = window }
-
 -- one legal run: the replies of the rounds are steps of the sessions over one journal, from the first sessions to those after the
 -- run; the journal holds the acknowledged commits, each once, and no other; and ids are drawn each once
-pub record Legal (definitions : List IndexDef) (shards : ℕ) (window : Option ℕ) (rounds : List (List NumberedLine)) (journal : List Commit) (replies : List Reply) : Type 0 where
+pub record Legal (definitions : List IndexDef) (shards : ℕ) (window : Option ℕ) (rounds : List (List NumberedLine))
+    (journal : List Commit) (replies : List Reply) : Type 0 where
   pub after : List Session
   pub steps : RoundsSteps (world_of definitions shards window journal) rounds (first_sessions shards) replies after
   pub commits : IsPermutation (flat_map acknowledged replies) (range_with_len 1 (length journal))
-  pub ids : IdsDrawn replies
+  pub ids : IdsDrawn shards rounds replies

@@ -1,6 +1,12 @@
 pub mod Answers
+pub mod Asked
+pub mod Bounds
 pub mod Built
+pub mod Groups
 pub mod Legal
+pub mod Refusals
 pub mod Results
+pub mod Rows
 pub mod Sessions
 pub mod Views
+pub mod Worlds

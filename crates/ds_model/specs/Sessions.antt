@@ -1,5 +1,6 @@
 -- What a client has seen: its replies so far raise it, and nothing lowers it.
-use Rattle.std.specs.Prelude.{ℕ, ◌+◌, max, List, [], ◌∷◌, Bool, nat_le, cond, Option, Some, None, replicate, take, fold}
+use Rattle.std.specs.Prelude.{ℕ, zero, suc, ◌+◌, max, List, [], ◌∷◌, Bool, nat_le, cond, Option, None, unwrap_or}
+use Rattle.std.specs.Prelude.{replicate, slice_get, take, fold}
 use Rattle.ds_base.specs.Limits.{first_drawn_id, greatest_client}
 use Rattle.ds_base.specs.declared.key.Ident.{Ident}
 use Rattle.ds_base.specs.declared.key.Ident.TheVariants.{Id, Name}
@@ -54,6 +55,33 @@ greater_counts (c ∷ cs) (a ∷ counts) = max c a ∷ greater_counts cs counts
 -- a printed count raises the shard's count, and the place to the commit of the last counted entry
 abbrev pub saw_counts : List (List Entry) → List ℕ → Session → Session
 saw_counts lists counts s = record s { place = max s.place (counted_place lists counts); counts = greater_counts s.counts counts }
+
+-- ---- one shard
+
+abbrev pub count_of : List ℕ → ℕ → ℕ
+count_of counts shard = unwrap_or (slice_get counts shard) 0
+
+abbrev pub list_of : List (List Entry) → ℕ → List Entry
+list_of lists shard = unwrap_or (slice_get lists shard) []
+
+abbrev pub raised_at : ℕ → ℕ → List ℕ → List ℕ
+raised_at shard count [] = []
+raised_at zero count (c ∷ cs) = max c count ∷ cs
+raised_at (suc shard) count (c ∷ cs) = c ∷ raised_at shard count cs
+
+-- a printed count of one shard raises that shard's count, and the place to the commit of its last counted entry
+abbrev pub saw_count : List (List Entry) → ℕ → ℕ → Session → Session
+saw_count lists shard count s = record s {
+  place = max s.place (last_commit (take count (list_of lists shard)));
+  counts = raised_at shard count s.counts;
+}
+
+-- A strong read raises a shard's count to the number of its entries up to the read's place. The place itself is printed, and the
+-- commit of the last of these entries isn't above it.
+abbrev pub saw_entries : ℕ → ℕ → Session → Session
+saw_entries shard entries s = record s { counts = raised_at shard entries s.counts }
+
+-- ---- ids
 
 -- a printed id counter raises the shown one
 abbrev pub saw_next : ℕ → Session → Session

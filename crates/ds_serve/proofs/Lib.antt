@@ -1,3 +1,4 @@
+pub mod Drawn
 pub mod Ends
 pub mod Meetings
 pub mod RoundRuns

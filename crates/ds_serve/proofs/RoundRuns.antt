@@ -10,7 +10,9 @@ use Rattle.ds_rounds.specs.Rounds.{NumberedLine, numbered}
 use Rattle.ds_reply.specs.declared.reply.Reply.{Reply}
 use Rattle.ds_reply.specs.Replies.{reply_text, replies_text}
 use Rattle.ds_log.specs.declared.Commit.{Commit}
-use Rattle.ds_model.specs.Answers.{World, Answers, client_of}
+use Rattle.ds_model.specs.Answers.{Answers}
+use Rattle.ds_model.specs.Asked.{client_of}
+use Rattle.ds_model.specs.Worlds.{World}
 use Rattle.ds_model.specs.Legal.{Steps, acknowledged, accepted, printed_next}
 use Rattle.ds_model.specs.Sessions.{Session, first_id}
 use Rattle.ds_single.specs.State.{SingleParts}
@@ -54,7 +56,7 @@ ran-none s = record {
   acknowledges = refl;
   accepts = refl;
   prints = All-nil (λ next. next ≤ first_id);
-  own = All-nil (λ (line : NumberedLine). client_of line.content ≡ 0);
+  own = All-nil (λ (line : NumberedLine). client_of 1 line.content ≡ 0);
   later_place = omega arith;
   later_count = omega arith;
 }
@@ -77,7 +79,7 @@ ran-push s t u lines line text reply ran answered = record {
       ∙ ap (range_with_len (length s.journal + 1)) (sym (length-append ran.added answered.told.added));
   accepts = collected-push accepted ran.replies reply ∙ ap (λ ns. ns ++ accepted reply) ran.accepts ∙ answered.told.accepts;
   prints = subst (All (λ next. next ≤ first_id)) (sym (collected-push printed_next ran.replies reply)) (All-append (λ next. next ≤ first_id) (flat_map printed_next ran.replies) (printed_next reply) ran.prints answered.told.prints);
-  own = All-push (λ (l : NumberedLine). client_of l.content ≡ 0) lines line ran.own answered.own;
+  own = All-push (λ (l : NumberedLine). client_of 1 l.content ≡ 0) lines line ran.own answered.own;
   later_place = omega (arith, ran.later_place, answered.told.later_place);
   later_count = omega (arith, ran.later_count, answered.told.later_count);
 } where

@@ -16,11 +16,12 @@ use Rattle.ds_rounds.specs.declared.round.Round.{Round}
 use Rattle.ds_reply.specs.declared.reply.Reply.{Reply}
 use Rattle.ds_reply.specs.Replies.{reply_text, replies_text}
 use Rattle.ds_log.specs.declared.Commit.{Commit}
-use Rattle.ds_model.specs.Answers.{World}
-use Rattle.ds_model.specs.Legal.{RoundSteps, RoundsSteps, Legal, acknowledged, accepted, printed_next, drawn}
+use Rattle.ds_model.specs.Worlds.{World}
+use Rattle.ds_model.specs.Legal.{RoundSteps, RoundsSteps, Legal, acknowledged, accepted, printed_next, answered_lines, drawn_in}
 use Rattle.ds_model.specs.Sessions.{Session, first_id, first_sessions, met}
 use Rattle.ds_single.specs.State.{SingleParts}
 use Rattle.ds_single.specs.ReplySteps.{session_of, world}
+use Rattle.ds_serve.proofs.Drawn.{nothing_drawn}
 use Rattle.ds_serve.specs.RunSteps.{HasRun, HasServed, Ran, first_state, onlooker}
 use Rattle.ds_serve.proofs.Meetings.{round_of_one}
 use Rattle.ds_serve.proofs.RoundRuns.{numbers-append}
@@ -83,9 +84,10 @@ run_more rounds round s t text more so_far ran = record {
 
 -- ---- the legal run
 
-none_drawn : (rs : List Reply) → flat_map drawn rs ≡ []
-none_drawn [] = refl
-none_drawn (r ∷ rs) = none_drawn rs
+none_drawn : (lines : List NumberedLine) (replies : List Reply) → drawn_in 1 lines replies ≡ []
+none_drawn [] replies = refl
+none_drawn (l ∷ lines) [] = refl
+none_drawn (l ∷ lines) (r ∷ replies) = ap (λ ids. ids ++ drawn_in 1 lines replies) (nothing_drawn l.content r.body) ∙ none_drawn lines replies
 
 pub legal_run : {rounds : List (List NumberedLine)} {now : SingleParts} {text : List ℕ} → (so_far : HasRun rounds now text) → Legal [] 1 (Some greatest_window) rounds now.journal so_far.replies
 legal_run {rounds} {now} {text} so_far = record {
@@ -95,7 +97,7 @@ legal_run {rounds} {now} {text} so_far = record {
   ids = record {
     bound = first_id;
     from_first = omega arith;
-    each_once = subst (λ ns. IsPermutation ns []) (sym (none_drawn so_far.replies)) (IsPermutation-refl []);
+    each_once = subst (λ ns. IsPermutation ns []) (sym (none_drawn (answered_lines 1 rounds) so_far.replies)) (IsPermutation-refl []);
     accepted_below = subst (All (λ id. id < first_id)) (sym so_far.accepts) (All-nil (λ id. id < first_id));
     printed_within = so_far.prints;
   };

@@ -11,7 +11,7 @@ use Rattle.ds_rounds.specs.declared.stage.RoundRefused.TheVariants as refused
 use Rattle.ds_reply.specs.declared.reply.Reply.{Reply}
 use Rattle.ds_reply.specs.Replies.{reply_text, replies_text}
 use Rattle.ds_log.specs.declared.Commit.{Commit}
-use Rattle.ds_model.specs.Answers.{client_of}
+use Rattle.ds_model.specs.Asked.{client_of}
 use Rattle.ds_model.specs.Legal.{Steps, RoundsSteps, acknowledged, accepted, printed_next}
 use Rattle.ds_model.specs.Sessions.{Session, first_id, first_sessions}
 use Rattle.ds_single.specs.State.{SingleParts}
@@ -46,7 +46,7 @@ pub record Ran (old new : SingleParts) (lines : List NumberedLine) (text : List 
   pub acknowledges : flat_map acknowledged replies ≡ range_with_len (length old.journal + 1) (length added)
   pub accepts : flat_map accepted replies ≡ []
   pub prints : All (λ next. next ≤ first_id) (flat_map printed_next replies)
-  pub own : All (λ line. client_of line.content ≡ 0) lines
+  pub own : All (λ line. client_of 1 line.content ≡ 0) lines
   pub later_place : old.place ≤ new.place
   pub later_count : old.count ≤ new.count
 

@@ -26,13 +26,18 @@ use Rattle.ds_reply.specs.declared.reply.Body.TheVariants as body
 use Rattle.ds_reply.specs.declared.reply.Reply.{Reply}
 use Rattle.ds_log.specs.declared.Commit.{Commit}
 use Rattle.ds_log.specs.After.{after}
-use Rattle.ds_model.specs.Answers.{World, BodyAnswers, AskedAnswers, RequestAnswers, refusal_of, put_refusal, first_unissued}
+use Rattle.ds_log.specs.Ids.{first_unissued}
+use Rattle.ds_model.specs.Answers.{BodyAnswers, AskedAnswers, CallAnswers, UnlessRefused, RequestAnswers}
+use Rattle.ds_model.specs.Asked.{search_of}
+use Rattle.ds_model.specs.Refusals.{refusal_of, entity_body, row_refusal, first_refusal}
+use Rattle.ds_model.specs.Worlds.{World}
 use Rattle.ds_model.specs.Built.{unbuilt_member, unless, is_empty, is_entities}
-use Rattle.ds_model.specs.Results.{kind_results}
-use Rattle.ds_model.specs.Sessions.{Session, first_id}
+use Rattle.ds_single.specs.KindResults.{kind_results}
+use Rattle.ds_model.specs.Sessions.{Session, first_id, saw_next}
 use Rattle.ds_single.specs.State.{SingleParts, IsSingle, applied_writes, put_into}
 use Rattle.ds_single.specs.ReplySteps.{session_of, world}
 use Rattle.ds_single.specs.ReplySteps.{Says, Tells, CallAnswered, IsQuiet, no_memory_reply, kind_query}
+use Rattle.ds_single.proofs.KindQueries.{no_places}
 use Rattle.ds_single.proofs.Steps.{put_answers, kind_answers, settle_answers, counter_ids-none}
 
 -- what is said of a request is said of its line, and where nothing was seen it may be that there was no memory
@@ -78,15 +83,16 @@ unsaid s t number c reply is same seen = subst (λ r. CallAnswered s t number c 
   }
 
 -- a refusal that the session before decides
-refused : (s : SingleParts) (number : ℕ) (c : Call) (b : Body) (reply : Reply) → Says number b reply → refusal_of (session_of s) c ≡ Some b → IsQuiet b → CallAnswered s s number c reply
-refused s number c b reply (inr is) decided quiet = unsaid s s number c reply is refl refl
-refused s number c b reply (inl is) decided quiet = subst (λ r. CallAnswered s s number c r) (sym is) answered where
+refused : (s : SingleParts) (number : ℕ) (c : Call) (b : Body) (reply : Reply) → Says number b reply → search_of c ≡ None → refusal_of [] (session_of s) c ≡ Some b → IsQuiet b → CallAnswered s s number c reply
+refused s number c b reply (inr is) plain decided quiet = unsaid s s number c reply is refl refl
+refused s number c b reply (inl is) plain decided quiet = subst (λ r. CallAnswered s s number c r) (sym is) answered where
   answered : CallAnswered s s number c (record { client = 0; line = number; body = b })
   answered = record {
     numbered = refl;
     addressed = refl;
     said = λ more. said (world (s.journal ++ more)) (session_of s) (session_of s) (Ok (record { client = 0; call = c })) b
-        (subst (λ o. RequestAnswers (world (s.journal ++ more)) (record { client = 0; call = c }) (session_of s) o b (session_of s)) (sym decided) (refl, refl)) refl;
+        (subst (λ o. RequestAnswers (world (s.journal ++ more)) 0 (session_of s) c o b (session_of s)) (sym plain)
+        (subst (λ o. UnlessRefused o (session_of s) b (session_of s) (CallAnswers (world (s.journal ++ more)) 0 (session_of s) c b (session_of s))) (sym decided) (refl, refl))) refl;
     told = quiet_tells s s (record { client = 0; line = number; body = b }) refl (omega arith) (omega arith) quiet;
   }
 
@@ -95,31 +101,47 @@ body_of None = body.BadJson
 body_of (Some b) = b
 
 -- an entity that is refused by its rules, or for want of memory
-pub refused_entity : (s : SingleParts) (number : ℕ) (key : KeyParts) (properties : List Property) (why : EntityRefused) (b : Body) (reply : Reply) → Says number b reply → put_refusal (Some why) ≡ Some b → IsQuiet b →
+pub refused_entity : (s : SingleParts) (number : ℕ) (key : KeyParts) (properties : List Property) (why : EntityRefused) (b : Body) (reply : Reply) → Says number b reply → entity_body (Some why) ≡ Some b → IsQuiet b →
     (Some why ≡ entity_refusal key properties) ⊎ ((Some why ≡ Some entity.NoMemory) × (entity_refusal key properties ≡ None)) → CallAnswered s s number (call.Put key false properties) reply
-refused_entity s number key properties why b reply says is quiet (inl decided) = refused s number (call.Put key false properties) b reply says (ap put_refusal (sym decided) ∙ is) quiet
+refused_entity s number key properties why b reply says is quiet (inl decided) = refused s number (call.Put key false properties) b reply says refl (ap (λ o. first_refusal (entity_body o ∷ row_refusal [] (record { key = key; properties = properties }) ∷ None ∷ None ∷ [])) (sym decided) ∙ ap (λ o. first_refusal (o ∷ row_refusal [] (record { key = key; properties = properties }) ∷ None ∷ None ∷ [])) is) quiet
 refused_entity s number key properties why b reply says is quiet (inr (none, fine)) = unsaid s s number (call.Put key false properties) reply (either says) refl refl where
   no_memory : b ≡ body.NoMemory
-  no_memory = ap body_of (sym is ∙ ap put_refusal none)
+  no_memory = ap body_of (sym is ∙ ap entity_body none)
 
   either : Says number b reply → reply ≡ no_memory_reply number
   either (inl same) = same ∙ ap (λ b. record { client = 0; line = number; body = b }) no_memory
   either (inr same) = same
 
-put_unrefused : (s : SingleParts) (e : EntityParts) → entity_refusal e.key e.properties ≡ None → refusal_of (session_of s) (call.Put e.key false e.properties) ≡ None
-put_unrefused s e fine = ap put_refusal fine
+-- the first refusal of a put is that of its entity, and then that of its index rows
+put_decided : (s : SingleParts) (e : EntityParts) (rows : Option Body) → entity_refusal e.key e.properties ≡ None → row_refusal [] e ≡ rows →
+    refusal_of [] (session_of s) (call.Put e.key false e.properties) ≡ first_refusal (rows ∷ None ∷ None ∷ [])
+put_decided s e rows fine is =
+    ap (λ o. first_refusal (entity_body o ∷ row_refusal [] e ∷ None ∷ None ∷ [])) fine ∙ ap (λ o. first_refusal (o ∷ None ∷ None ∷ [])) is
+
+-- a put that isn't refused by what was before
+put_answered : (s after : SingleParts) (e : EntityParts) (b : Body) (more : List Commit) → entity_refusal e.key e.properties ≡ None → row_refusal [] e ≡ None →
+    CallAnswers (world more) 0 (session_of s) (call.Put e.key false e.properties) b (session_of after) →
+    RequestAnswers (world more) 0 (session_of s) (call.Put e.key false e.properties) None b (session_of after)
+put_answered s after e b more fine rows answers =
+    subst (λ o. UnlessRefused o (session_of s) b (session_of after) (CallAnswers (world more) 0 (session_of s) (call.Put e.key false e.properties) b (session_of after)))
+    (sym (put_decided s e None fine rows)) answers
 
 -- an id that only the server gives, and none was ever given
-pub not_issued : (s : SingleParts) (number id : ℕ) (e : EntityParts) (reply : Reply) → Says number (body.IdNotIssued id first_id) reply → entity_refusal e.key e.properties ≡ None → first_unissued first_id e.key.elems ≡ Some id → CallAnswered s s number (call.Put e.key false e.properties) reply
-not_issued s number id e reply (inr is) fine first = unsaid s s number (call.Put e.key false e.properties) reply is refl refl
-not_issued s number id e reply (inl is) fine first = subst (λ r. CallAnswered s s number (call.Put e.key false e.properties) r) (sym is) answered where
+pub not_issued : (s : SingleParts) (number id : ℕ) (e : EntityParts) (reply : Reply) → Says number (body.IdNotIssued id first_id) reply → entity_refusal e.key e.properties ≡ None → row_refusal [] e ≡ None → first_unissued first_id e.key.elems ≡ Some id → CallAnswered s s number (call.Put e.key false e.properties) reply
+not_issued s number id e reply (inr is) fine rows first = unsaid s s number (call.Put e.key false e.properties) reply is refl refl
+not_issued s number id e reply (inl is) fine rows first = subst (λ r. CallAnswered s s number (call.Put e.key false e.properties) r) (sym is) answered where
+  greater : first_id ≡ max first_id first_id
+  greater = omega arith
+
+  same : session_of s ≡ saw_next first_id (session_of s)
+  same = λ i. record { place = s.place; counts = s.count ∷ []; next_id = greater i; transaction = None }
+
   answered : CallAnswered s s number (call.Put e.key false e.properties) (record { client = 0; line = number; body = body.IdNotIssued id first_id })
   answered = record {
     numbered = refl;
     addressed = refl;
     said = λ more.
-        subst (λ o. RequestAnswers (world (s.journal ++ more)) (record { client = 0; call = call.Put e.key false e.properties }) (session_of s) o (body.IdNotIssued id first_id) (session_of s)) (sym (put_unrefused s e fine))
-        (record { shown = omega arith; first = first }, refl);
+        put_answered s s e (body.IdNotIssued id first_id) (s.journal ++ more) fine rows (record { shown = omega arith; first = first; raised = same });
     told = record {
       later_place = omega arith;
       later_count = omega arith;
@@ -132,9 +154,9 @@ not_issued s number id e reply (inl is) fine first = subst (λ r. CallAnswered s
   }
 
 -- a put that was committed
-pub put_said : (s t : SingleParts) (entries : List (KeyParts × EntityParts)) (number n : ℕ) (e : EntityParts) (key : KeyParts) → IsSingle s.journal entries s.applied s.place s.count → key ≡ e.key → n ≡ length s.journal + 1 → entity_refusal e.key e.properties ≡ None → first_unissued first_id e.key.elems ≡ None → t ≡ put_into s e →
+pub put_said : (s t : SingleParts) (entries : List (KeyParts × EntityParts)) (number n : ℕ) (e : EntityParts) (key : KeyParts) → IsSingle s.journal entries s.applied s.place s.count → key ≡ e.key → n ≡ length s.journal + 1 → entity_refusal e.key e.properties ≡ None → row_refusal [] e ≡ None → first_unissued first_id e.key.elems ≡ None → t ≡ put_into s e →
     CallAnswered s t number (call.Put e.key false e.properties) (record { client = 0; line = number; body = body.Put key (at.Commit n) })
-put_said s t entries number n e key kept same_key same_n fine none same_t =
+put_said s t entries number n e key kept same_key same_n fine rows none same_t =
     subst (λ u. CallAnswered s u number (call.Put e.key false e.properties) (record { client = 0; line = number; body = body.Put key (at.Commit n) })) (sym same_t)
     (subst (λ r. CallAnswered s (put_into s e) number (call.Put e.key false e.properties) r)
     (sym (λ i. record { client = 0; line = number; body = body.Put (same_key i) (at.Commit (same_n i)) })) answered) where
@@ -143,9 +165,8 @@ put_said s t entries number n e key kept same_key same_n fine none same_t =
         numbered = refl;
         addressed = refl;
         said = λ more.
-            let answers = put_answers s e.key e.properties more kept.place_within none in
-            subst (λ o. RequestAnswers (world ((put_into s e).journal ++ more)) (record { client = 0; call = call.Put e.key false e.properties }) (session_of s) o (body.Put e.key (at.Commit (length s.journal + 1))) (session_of (put_into s e))) (sym (put_unrefused s e fine))
-            (refl, refl, answers.0, answers.1);
+            put_answered s (put_into s e) e (body.Put e.key (at.Commit (length s.journal + 1))) ((put_into s e).journal ++ more) fine rows
+            (put_answers s e.key e.properties more kept.place_within none);
         told = record { later_place = omega (arith, kept.place_within); later_count = omega arith; added = _; journal = refl; acknowledges = refl; accepts = counter_ids-none e.key.elems none; prints = All-nil (λ next. next ≤ first_id) };
       }
 
@@ -195,7 +216,11 @@ query_said s t entries number kind results counts place count kept same_counts s
       answered = record {
         numbered = refl;
         addressed = refl;
-        said = λ more. let answers = kind_answers s kind more results place kept.one_write_each kept.count_within kept.applied_within (same_place ∙ ap (λ n. max s.place n) same_count) exact in (refl, refl, answers.0, answers.1);
+        said = λ more. record {
+          places = no_places;
+          read = (tt, tt);
+          answered = kind_answers s kind more results place kept.one_write_each kept.count_within kept.applied_within (same_place ∙ ap (λ n. max s.place n) same_count) exact;
+        };
         told = quiet_tells s shown (record { client = 0; line = number; body = body.Query select.Entities results (seen.Counts (s.applied ∷ [])) None }) refl (omega (arith, same_place)) kept.count_within (record { acknowledges = refl; accepts = refl; prints = refl });
       }
 

@@ -7,7 +7,7 @@ use Rattle.ds_base.specs.Entities.{EntityParts}
 use Rattle.ds_log.specs.After.{after}
 use Rattle.ds_log.specs.Logs.{writes_of}
 use Rattle.ds_log.specs.declared.Commit.{Commit}
-use Rattle.ds_model.specs.Results.{sorted_by_key}
+use Rattle.ds_single.specs.KindResults.{sorted_by_key}
 use Rattle.ds_single.specs.State.{IsSingle, HasOneWrite, keyed}
 
 pub one_more : (journal : List Commit) (entries : List (KeyParts × EntityParts)) (applied place count : ℕ) (c : Commit) → HasOneWrite c → IsSingle journal entries applied place count → IsSingle (journal ++ c ∷ []) entries applied (length (journal ++ c ∷ [])) count

@@ -11,7 +11,8 @@ use Rattle.std.specs.Prelude.{bytes_eq}
 use Rattle.ds_base.specs.Entities.{EntityParts}
 use Rattle.ds_base.specs.declared.key.Elem.{Elem}
 use Rattle.ds_base.specs.declared.results.Item.{Item}
-use Rattle.ds_model.specs.Results.{kind_of, is_of_kind, whole_item, kind_results, sorted_by_key}
+use Rattle.ds_rows.specs.IndexedValues.{last_kind}
+use Rattle.ds_single.specs.KindResults.{is_of_kind, whole_item, kind_results, sorted_by_key}
 use Rattle.ds_single.specs.State.{keyed}
 use Rattle.ds_single.proofs.Sorted.{sorted_by_key-filter}
 
@@ -44,23 +45,23 @@ items_of-all kind es entries xs is all =
     ∙ ap (map whole_item) (sym (sorted_by_key-filter (is_of_kind [] kind) es))
 
 -- the kind of a path is that of its last element
-pub kind_of-last : (es : List Elem) (e : Elem) → slice_get es (length es - 1) ≡ Some e → kind_of es ≡ e.kind
-kind_of-last [] e is = cc
-kind_of-last (f ∷ []) e is = kind_same is where
+pub last_kind-last : (es : List Elem) (e : Elem) → slice_get es (length es - 1) ≡ Some e → last_kind es ≡ e.kind
+last_kind-last [] e is = cc
+last_kind-last (f ∷ []) e is = kind_same is where
   kind_same : Some f ≡ Some e → f.kind ≡ e.kind
   kind_same is = let same : f ≡ e = cc in ap (λ (x : Elem). x.kind) same
-kind_of-last (f ∷ g ∷ es) e is =
+last_kind-last (f ∷ g ∷ es) e is =
     let further : length (f ∷ g ∷ es) - 1 ≡ suc (length (g ∷ es) - 1) = omega arith in
-    kind_of-last (g ∷ es) e (subst (λ i. slice_get (f ∷ g ∷ es) i ≡ Some e) further is)
+    last_kind-last (g ∷ es) e (subst (λ i. slice_get (f ∷ g ∷ es) i ≡ Some e) further is)
 
-pub kind_of-none : (es : List Elem) → slice_get es (length es - 1) ≡ None → kind_of es ≡ []
-kind_of-none [] is = refl
-kind_of-none (f ∷ []) is = cc
-kind_of-none (f ∷ g ∷ es) is =
+pub last_kind-none : (es : List Elem) → slice_get es (length es - 1) ≡ None → last_kind es ≡ []
+last_kind-none [] is = refl
+last_kind-none (f ∷ []) is = cc
+last_kind-none (f ∷ g ∷ es) is =
     let further : length (f ∷ g ∷ es) - 1 ≡ suc (length (g ∷ es) - 1) = omega arith in
-    kind_of-none (g ∷ es) (subst (λ i. slice_get (f ∷ g ∷ es) i ≡ None) further is)
+    last_kind-none (g ∷ es) (subst (λ i. slice_get (f ∷ g ∷ es) i ≡ None) further is)
 
 -- the empty text is the same as a text of no bytes alone
-pub empty_same : (k : List ℕ) → (length k == 0) ≡ bytes_eq [] k
+pub empty_same : (k : List ℕ) → (length k == 0) ≡ bytes_eq k []
 empty_same [] = refl
 empty_same (b ∷ bs) = ne_eqb (length (b ∷ bs)) 0 (λ e. absurd (omega arith))

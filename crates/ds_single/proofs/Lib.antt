@@ -1,5 +1,7 @@
 pub mod CallReplies
 pub mod Commits
+pub mod DistinctKeys
+pub mod KindQueries
 pub mod KindResults
 pub mod LineReplies
 pub mod OneShard

@@ -14,8 +14,18 @@ use Rattle.ds_log.specs.declared.Entry.{Entry}
 use Rattle.ds_log.specs.declared.Write.TheVariants.{Put}
 use Rattle.ds_log.specs.After.{after}
 use Rattle.ds_log.specs.Logs.{shard_list, writes_of, entry_writes}
-use Rattle.ds_model.specs.Answers.{PutAnswers, SettleAnswers, KindAnswers, first_unissued, unissued, or_else}
-use Rattle.ds_model.specs.Results.{kind_results}
+use Rattle.ds_base.specs.Entities.{EntityParts}
+use Rattle.ds_request.specs.declared.call.Call.TheVariants as call
+use Rattle.ds_reply.specs.declared.reply.WriteAt.TheVariants as at
+use Rattle.ds_query.specs.declared.query.Select.TheVariants as select
+use Rattle.ds_base.specs.declared.results.Seen.TheVariants as seen
+use Rattle.std.specs.Option.{option_or}
+use Rattle.ds_log.specs.Ids.{first_unissued, unissued}
+use Rattle.ds_query.specs.Normals.{normal_form}
+use Rattle.ds_model.specs.Answers.{PutAnswers, SettleAnswers, FoundOver, page_over}
+use Rattle.ds_model.specs.Results.{items_of}
+use Rattle.ds_single.proofs.KindQueries.{kind_search, no_places, kind_found}
+use Rattle.ds_single.specs.KindResults.{kind_results}
 use Rattle.ds_model.specs.Sessions.{first_id, saw_place, saw_counts, saw_next, next_above}
 use Rattle.ds_model.specs.Legal.{counter_id, counter_ids}
 use Rattle.ds_single.specs.State.{SingleParts, HasOneWrite, applied_writes}
@@ -35,7 +45,7 @@ written (Id n) none = below (nat_le first_id n) none where
   below false none = refl
 written (Name x) none = refl
 
-first_none : (a b : Option ℕ) → or_else a b ≡ None → (a ≡ None) × (b ≡ None)
+first_none : (a b : Option ℕ) → option_or a b ≡ None → (a ≡ None) × (b ≡ None)
 first_none None b none = (refl, none)
 first_none (Some n) b none = cc
 
@@ -65,12 +75,15 @@ counter_ids-none (e ∷ es) none =
 pub put_answers : (s : SingleParts) (key : KeyParts) (ps : List Property) (more : List Commit) → s.place ≤ length s.journal → first_unissued first_id key.elems ≡ None →
     let commit : Commit = record { client = 0; touched = []; writes = Put (record { key = key; properties = ps }) ∷ [] } in
     let n = length s.journal + 1 in
-    PutAnswers (world ((s.journal ++ commit ∷ []) ++ more)) 0 (session_of s) key ps n
-    × (session_of (record { journal = s.journal ++ commit ∷ []; applied = s.applied; place = n; count = s.count }) ≡ saw_next (next_above key.elems) (saw_place n (session_of s)))
-put_answers s key ps more within none = (
-  record { outside = refl; later = omega arith; committed = at_end s.journal },
-  λ i. record { place = placed i; counts = s.count ∷ []; next_id = shown i; transaction = None },
-) where
+    PutAnswers (world ((s.journal ++ commit ∷ []) ++ more)) 0 (session_of s) false key ps key (at.Commit n)
+    (session_of (record { journal = s.journal ++ commit ∷ []; applied = s.applied; place = n; count = s.count }))
+put_answers s key ps more within none = record {
+  completed = refl;
+  written = (
+    record { later = omega arith; committed = at_end s.journal },
+    λ i. record { place = placed i; counts = s.count ∷ []; next_id = shown i; transaction = None },
+  );
+} where
   commit : Commit
   commit = record { client = 0; touched = []; writes = Put (record { key = key; properties = ps }) ∷ [] }
 
@@ -106,13 +119,18 @@ saw_all s a place ds ones seen within is =
 -- ---- a query
 
 pub kind_answers : (s : SingleParts) (kind : List ℕ) (more : List Commit) (results : List Item) (place : ℕ) → All HasOneWrite s.journal → s.count ≤ s.applied → s.applied ≤ length s.journal → place ≡ max s.place s.applied → results ≡ kind_results [] kind (after (applied_writes s)) →
-    KindAnswers (world (s.journal ++ more)) (session_of s) [] kind results (s.applied ∷ [])
-    × (session_of (record s { place = place; count = s.applied }) ≡ saw_counts (shard_list (s.journal ++ more) 0 1 ∷ []) (s.applied ∷ []) (session_of s))
+    FoundOver (world (s.journal ++ more)) (session_of s) (kind_search kind) no_places None select.Entities results
+    (seen.Counts (s.applied ∷ [])) None (session_of (record s { place = place; count = s.applied }))
 kind_answers s kind more results place all seen within is exact =
     let ones = OneWriteEach-All s.journal all in (
+      (seen, omega arith, omega (arith, length-shard_list s.journal more ones), tt),
       record {
-        applied = (seen, omega arith, omega (arith, length-shard_list s.journal more ones), tt);
-        exact = exact ∙ ap (kind_results [] kind) (sym (counted s.applied s.journal more ones within));
+        select = refl;
+        exact =
+            exact ∙ kind_found kind (applied_writes s)
+            ∙ ap (λ es. items_of (normal_form (kind_search kind).query).merged select.Entities es (page_over (kind_search kind) no_places es).rows)
+            (sym (counted s.applied s.journal more ones within));
+        next = refl;
       },
       saw_all s s.applied place more ones seen within is,
     )
@@ -126,17 +144,15 @@ saw_place-all s within = λ i. record { place = placed i; counts = s.count ∷ [
 
 pub settle_answers : (s : SingleParts) (more : List Commit) → All HasOneWrite s.journal → s.place ≤ length s.journal → s.count ≤ s.applied → s.applied ≤ length s.journal →
     SettleAnswers (world (s.journal ++ more)) (session_of s) (length s.journal) (length s.journal ∷ [])
-    × (session_of (record { journal = s.journal; applied = length s.journal; place = length s.journal; count = length s.journal }) ≡ saw_counts (shard_list (s.journal ++ more) 0 1 ∷ []) (length s.journal ∷ []) (saw_place (length s.journal) (session_of s)))
+    (session_of (record { journal = s.journal; applied = length s.journal; place = length s.journal; count = length s.journal }))
 settle_answers s more all place_within seen within =
-    let ones = OneWriteEach-All s.journal all in (
-      record {
-        seen = place_within;
-        within = omega (arith, length-append s.journal more);
-        applied = (omega arith, least ones, omega (arith, length-shard_list s.journal more ones), tt);
-      },
-      saw_all (record s { place = length s.journal }) (length s.journal) (length s.journal) more ones (omega arith) (omega arith) (omega arith)
-          ∙ ap (saw_counts (shard_list (s.journal ++ more) 0 1 ∷ []) (length s.journal ∷ [])) (sym (saw_place-all s place_within)),
-    ) where
+    let ones = OneWriteEach-All s.journal all in record {
+      place = record { seen = place_within; within = omega (arith, length-append s.journal more) };
+      applied = (omega arith, least ones, omega (arith, length-shard_list s.journal more ones), tt);
+      seen =
+          saw_all (record s { place = length s.journal }) (length s.journal) (length s.journal) more ones (omega arith) (omega arith) (omega arith)
+          ∙ ap (saw_counts (shard_list (s.journal ++ more) 0 1 ∷ []) (length s.journal ∷ [])) (sym (saw_place-all s place_within));
+    } where
       least : OneWriteEach s.journal → length (shard_list (take (length s.journal) (s.journal ++ more)) 0 1) ≤ length s.journal
       least ones =
           let same : take (length s.journal) (s.journal ++ more) ≡ s.journal = take-append-le {A = Commit} (length s.journal) s.journal more (omega arith) ∙ take-length s.journal in

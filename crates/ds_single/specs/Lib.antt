@@ -1,2 +1,3 @@
+pub mod KindResults
 pub mod ReplySteps
 pub mod State

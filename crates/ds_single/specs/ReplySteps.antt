@@ -12,8 +12,10 @@ use Rattle.ds_reply.specs.declared.reply.Reply.{Reply}
 use Rattle.ds_reply.specs.Replies.{reply_text}
 use Rattle.ds_log.specs.declared.Commit.{Commit}
 use Rattle.ds_rounds.specs.Rounds.{NumberedLine}
-use Rattle.ds_model.specs.Answers.{World, Answers, BodyAnswers, client_of}
-use Rattle.ds_model.specs.Legal.{world_of, acknowledged, accepted, printed_next, acknowledged_in, accepted_in, printed_next_in}
+use Rattle.ds_model.specs.Answers.{Answers, BodyAnswers}
+use Rattle.ds_model.specs.Asked.{client_of}
+use Rattle.ds_model.specs.Worlds.{World, world_of}
+use Rattle.ds_model.specs.Legal.{acknowledged, accepted, printed_next, acknowledged_in, accepted_in, printed_next_in}
 use Rattle.ds_model.specs.Sessions.{Session, first_id}
 use Rattle.ds_single.specs.State.{SingleParts}
 
@@ -53,7 +55,7 @@ pub record CallAnswered (old new : SingleParts) (number : ℕ) (c : Call) (reply
 
 -- the reply to a line, over every journal that begins with the new one; while client 0 alone is served, each line is its
 pub record Answered (old new : SingleParts) (line : NumberedLine) (reply : Reply) : Type 0 where
-  pub own : client_of line.content ≡ 0
+  pub own : client_of 1 line.content ≡ 0
   pub answers : (more : List Commit) → Answers (world (new.journal ++ more)) (session_of old) line reply (session_of new)
   pub told : Tells old new reply
 

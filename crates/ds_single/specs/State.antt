@@ -7,7 +7,7 @@ use Rattle.ds_log.specs.declared.Write.{Write}
 use Rattle.ds_log.specs.declared.Write.TheVariants.{Put}
 use Rattle.ds_log.specs.After.{after}
 use Rattle.ds_log.specs.Logs.{writes_of}
-use Rattle.ds_model.specs.Results.{sorted_by_key}
+use Rattle.ds_single.specs.KindResults.{sorted_by_key}
 
 pub record SingleParts : Type 0 where
   pub journal : List Commit

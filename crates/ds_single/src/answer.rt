@@ -1,10 +1,12 @@
 //! The reply to one line.
 ghost use Rattle.std.specs.Prelude.{◌≡◌, ◌+◌, ◌<◌, ◌≤◌, ◌^◌, ◌++◌, ◌∷◌, [], length, false, None, Some, IsTrue, IsFalse, IfSome};
+ghost use Rattle.ds_base.specs.Entities.{EntityParts};
 ghost use Rattle.ds_base.specs.Entities.{names_ascend};
 ghost use Rattle.ds_rounds.specs.Lines.{IsWithinLimit, handed};
 ghost use Rattle.ds_reply.specs.Replies.{reply_text};
 ghost use Rattle.ds_request.specs.Lawful.{IsLawfulCall};
-ghost use Rattle.ds_model.specs.Answers.{put_refusal, first_unissued, unissued};
+ghost use Rattle.ds_log.specs.Ids.{first_unissued, unissued};
+ghost use Rattle.ds_model.specs.Refusals.{entity_body, row_refusal};
 ghost use Rattle.ds_model.specs.Built.{unbuilt_member};
 ghost use Rattle.ds_model.specs.Sessions.{first_id};
 ghost use Rattle.ds_single.specs.ReplySteps.{Answered, CallAnswered, HasAnswered, IsQuiet, no_memory_reply, kind_query};
@@ -16,10 +18,12 @@ use ds_base::limits::FIRST_DRAWN_ID;
 use ds_base::{
     Buffer, Counts, Elem, Entity, EntityRefused, Ident, Key, Properties, Seen, TextString, TryCopy,
 };
+use ds_indexdef::Defs;
 use ds_query::{Field, Select};
 use ds_reply::{Body, Reply, WriteAt};
 use ds_request::Call;
 use ds_rounds::Line;
+use ds_rows::{RowsRefused, count_rows};
 use std::alloc::Global;
 
 impl Single {
@@ -129,6 +133,29 @@ impl Single {
         ensures text { out.new.bytes ≡ out.old.bytes ++ reply_text result }
         ensures kept { keep ≤ out.new.spare }
     {
+        match count_rows(alloc, &Defs::new(alloc), &entity) {
+            Ok(_) => self.put_counted(alloc, number, entity, keep, out),
+            Err(RowsRefused::TooManyRows { count }) => {
+                say(number, Body::TooManyRows { count }, keep, out)
+            }
+            Err(RowsRefused::NoMemory) => say_no_memory(number, keep, out),
+        }
+    }
+
+    fn put_counted(
+        &mut self,
+        alloc: Global,
+        number: u64,
+        entity: Entity,
+        keep: usize,
+        out: &mut Buffer,
+    ) -> Reply
+        requires room { keep + length (reply_text (no_memory_reply number)) ≤ out.old.spare }
+        requires few_rows { row_refusal [] entity ≡ None }
+        ensures answered { CallAnswered self.old self.new number (Call.Put entity.key false entity.properties) result }
+        ensures text { out.new.bytes ≡ out.old.bytes ++ reply_text result }
+        ensures kept { keep ≤ out.new.spare }
+    {
         match first_unissued(entity.key().elems().as_slice()) {
             Some(id) => {
                 let body = Body::IdNotIssued {
@@ -151,6 +178,7 @@ impl Single {
         out: &mut Buffer,
     ) -> Reply
         requires room { keep + length (reply_text (no_memory_reply number)) ≤ out.old.spare }
+        requires few_rows { row_refusal [] entity ≡ None }
         requires written { first_unissued first_id entity.key.elems ≡ None }
         ensures answered { CallAnswered self.old self.new number (Call.Put entity.key false entity.properties) result }
         ensures text { out.new.bytes ≡ out.old.bytes ++ reply_text result }
@@ -285,7 +313,7 @@ fn one_count(alloc: Global, count: u64) -> Option<Counts>
 
 /// What the reply to a put says whose entity is refused.
 fn refused_entity(refused: EntityRefused) -> Body
-    ensures body { put_refusal (Some refused) ≡ Some result }
+    ensures body { entity_body (Some refused) ≡ Some result }
     ensures quiet { IsQuiet result }
 {
     match refused {

@@ -2,7 +2,7 @@
 ghost use Rattle.std.specs.Prelude.{◌≡◌, ◌⊎◌, Ok, Err, None, is_none, IfOk, IfErr};
 ghost use Rattle.ds_rounds.specs.Lines.{IsWithinLimit, handed};
 ghost use Rattle.ds_request.specs.Lawful.{IsLawfulCall};
-ghost use Rattle.ds_model.specs.Answers.{asked, asked_of};
+ghost use Rattle.ds_model.specs.Asked.{asked, request_within};
 ghost use Rattle.ds_model.specs.Built.{unbuilt_member, served, unless, is_empty, is_entities};
 
 use ds_query::{Field, Select};
@@ -14,10 +14,10 @@ use std::alloc::Global;
 /// The request of a line that is served, or what the reply says instead. Each is client 0's.
 pub(crate) fn ask(alloc: Global, line: Line<'_>) -> Result<Call, Body>
     requires { IsWithinLimit line }
-    ensures ok { IfOk result (λ c. asked (handed line.entry) ≡ Ok (record { client = 0; call = c })) }
+    ensures ok { IfOk result (λ c. asked 1 (handed line.entry) ≡ Ok (record { client = 0; call = c })) }
     ensures lawful { IfOk result IsLawfulCall }
     ensures built { IfOk result (λ c. unbuilt_member c ≡ None) }
-    ensures refused { IfErr result (λ b. (b ≡ Body.NoMemory) ⊎ (asked (handed line.entry) ≡ Err (0, b))) }
+    ensures refused { IfErr result (λ b. (b ≡ Body.NoMemory) ⊎ (asked 1 (handed line.entry) ≡ Err (0, b))) }
 {
     match line {
         Line::Kept(bytes) => match read_request(alloc, bytes) {
@@ -30,10 +30,10 @@ pub(crate) fn ask(alloc: Global, line: Line<'_>) -> Result<Call, Body>
 
 /// The request, where it is served.
 fn served(request: Request) -> Result<Call, Body>
-    ensures ok { IfOk result (λ c. asked_of (served (Ok request)) ≡ Ok (record { client = 0; call = c })) }
+    ensures ok { IfOk result (λ c. request_within 1 (served (Ok request)) ≡ Ok (record { client = 0; call = c })) }
     ensures same { IfOk result (λ c. c ≡ request.call) }
     ensures built { IfOk result (λ c. unbuilt_member c ≡ None) }
-    ensures refused { IfErr result (λ b. asked_of (served (Ok request)) ≡ Err (0, b)) }
+    ensures refused { IfErr result (λ b. request_within 1 (served (Ok request)) ≡ Err (0, b)) }
 {
     if request.client != 0 {
         return Err(Body::BadRequest {
@@ -48,7 +48,7 @@ fn served(request: Request) -> Result<Call, Body>
 
 /// What the reply to a line says that is no request.
 fn refused_body(refused: RequestRefused) -> Body
-    ensures { asked_of (served (Err refused)) ≡ Err (0, result) }
+    ensures { request_within 1 (served (Err refused)) ≡ Err (0, result) }
 {
     match refused {
         RequestRefused::BadJson => Body::BadJson,

@@ -6,7 +6,7 @@
 //! stays legal. `specs/State` says what contracts see of the state, `specs/ReplySteps` what a reply is as a step of the model:
 //! the words of the proof of the main theorem, which doesn't speak of them. In `proofs/`: with one
 //! shard and one write per commit the shard's list is the journal's (`OneShard`); what a put, a settle and a query are in the
-//! model (`Steps`), in a reply (`CallReplies`), and of a line (`LineReplies`).
+//! model (`Steps`, and `KindQueries` by the definitions of every query), in a reply (`CallReplies`), and of a line (`LineReplies`).
 #![tactic(auto)]
 
 mod answer;

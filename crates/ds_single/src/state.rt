@@ -34,7 +34,7 @@ impl Single {
     ghost use Rattle.std.specs.Prelude.{map, filter};
     ghost use Rattle.ds_log.specs.After.{after};
     ghost use Rattle.ds_log.specs.Logs.{writes_of};
-    ghost use Rattle.ds_model.specs.Results.{kind_results};
+    ghost use Rattle.ds_single.specs.KindResults.{kind_results};
     ghost use Rattle.ds_single.specs.State.{SingleParts, applied_writes, put_into};
 
     /// Nothing committed, nothing applied, nothing seen. It takes no memory.
@@ -124,7 +124,8 @@ ghost use Rattle.std.specs.Prelude.{bytes_eq};
 ghost use Rattle.ds_base.specs.KeyOrder.{key_cmp};
 ghost use Rattle.ds_base.specs.Entities.{EntityParts};
 ghost use Rattle.ds_log.specs.After.{apply_write};
-ghost use Rattle.ds_model.specs.Results.{is_of_kind, kind_of, whole_item, sorted_by_key};
+ghost use Rattle.ds_rows.specs.IndexedValues.{last_kind};
+ghost use Rattle.ds_single.specs.KindResults.{is_of_kind, whole_item, sorted_by_key};
 ghost use Rattle.ds_single.specs.State.{keyed};
 ghost use Rattle.ds_log.specs.declared.Write.TheVariants.{Put};
 
@@ -195,10 +196,10 @@ fn is_of_kind(entity: &Entity, kind: &TextString) -> bool
 }
 
 fn ends_in_kind(path: &[Elem], kind: &TextString) -> bool
-    ensures { result ≡ bytes_eq (kind_of path.now) kind.now }
+    ensures { result ≡ bytes_eq kind.now (last_kind path.now) }
 {
     match path.last() {
-        Some(elem) => elem.kind == *kind,
+        Some(elem) => *kind == elem.kind,
         None => kind.bytes().is_empty(),
     }
 }

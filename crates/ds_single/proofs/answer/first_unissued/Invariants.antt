@@ -1,5 +1,5 @@
 use Rattle.std.proofs.Common.{◌≡◌, drop}
-use Rattle.ds_model.specs.Answers.{first_unissued}
+use Rattle.ds_log.specs.Ids.{first_unissued}
 use Rattle.ds_model.specs.Sessions.{first_id}
 use Rattle.ds_single.proofs.answer.first_unissued.Given as goal
 

@@ -9,7 +9,7 @@ use Rattle.ds_base.specs.Entities.{EntityParts}
 use Rattle.ds_log.specs.After.{apply_write}
 use Rattle.ds_log.specs.declared.Write.{Write}
 use Rattle.ds_log.specs.declared.Write.TheVariants.{Put}
-use Rattle.ds_model.specs.Results.{sorted_by_key}
+use Rattle.ds_single.specs.KindResults.{sorted_by_key}
 use Rattle.ds_single.specs.State.{keyed}
 use Rattle.ds_single.proofs.Sorted.{put-keyed, delete-keyed}
 use Rattle.ds_single.proofs.state.apply_write.Goals as goal

@@ -4,7 +4,7 @@ use Rattle.std.specs.Map.Iter.{deref}
 use Rattle.ds_base.specs.Keys.{KeyParts}
 use Rattle.ds_base.specs.Entities.{EntityParts}
 use Rattle.ds_log.specs.After.{after}
-use Rattle.ds_model.specs.Results.{is_of_kind, sorted_by_key}
+use Rattle.ds_single.specs.KindResults.{is_of_kind, sorted_by_key}
 use Rattle.ds_single.specs.State.{SingleParts, applied_writes, keyed}
 use Rattle.ds_single.proofs.KindResults.{items_of-kept, items_of-passed, items_of-all}
 use Rattle.ds_single.proofs.state.Single.of_kind.Goals as goal

@@ -1,5 +1,5 @@
 use Rattle.std.proofs.Common.{◌≡◌, []}
-use Rattle.ds_model.specs.Results.{is_of_kind}
+use Rattle.ds_single.specs.KindResults.{is_of_kind}
 use Rattle.ds_single.proofs.KindResults.{items_of}
 use Rattle.ds_single.proofs.state.Single.of_kind.Given as goal
 

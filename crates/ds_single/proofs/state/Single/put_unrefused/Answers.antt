@@ -13,7 +13,7 @@ returns-in-Ok-commit-clause-answered c =
     (subst (λ (s : SingleParts). IsSingle s.journal c.self.inside.entities.entries s.applied s.place s.count) c.self.view_is c.self.invariant)
     (c.in-Ok.ensures.copied ∙ c.key.ensures.value) next
     (subst (λ (e : EntityParts). entity_refusal e.key e.properties ≡ None) c.entity.view_is c.entity.invariant.not_refused)
-    c.requires.written c.in-Ok-commit.ensures.ok
+    c.requires.few_rows c.requires.written c.in-Ok-commit.ensures.ok
 
 pub returns-in-Err-clause-answered : goal.returns-in-Err-clause-answered
 returns-in-Err-clause-answered c =
