@@ -10,6 +10,8 @@ use Rattle.ds_request.specs.declared.call.RequestRefused.TheVariants as refused
 use Rattle.ds_request.specs.Requests.{request_of}
 use Rattle.ds_reply.specs.declared.reply.Body.{Body}
 use Rattle.ds_reply.specs.declared.reply.Body.TheVariants as body
+use Rattle.ds_gql.specs.declared.statement.Statement.{Statement}
+use Rattle.ds_gql.specs.Statements.{statement_of}
 use Rattle.ds_rounds.specs.Lines.{Content, Kept, TooLong}
 use Rattle.ds_model.specs.Built.{served}
 
@@ -60,8 +62,22 @@ pub record Search : Type 0 where
 abbrev pub has_cursors : Option (List ℕ) → Option (List ℕ) → Bool → Bool
 has_cursors start end cursor = is_some start || is_some end || cursor
 
--- What a query searches for; nothing for other requests. A statement's query is added when statements are read: until then no
--- statement is served, so none comes here.
+-- a statement stands for its query in the namespace of the request, and its cursors work as a query's
+abbrev pub statement_search : List ℕ → Option (List ℕ) → Option (List ℕ) → Bool → Statement → Search
+statement_search namespace start end cursor s = record {
+  query = record (s.query) { namespace = namespace; cursors = has_cursors start end cursor };
+  offset = s.offset;
+  limit = s.limit;
+  start = start;
+  end = end;
+  cursor = cursor;
+}
+
+abbrev pub gql_search : (Statement → Search) → Result Statement ℕ → Result Search Body
+gql_search search (Ok s) = Ok (search s)
+gql_search search (Err place) = Err (body.BadGql place)
+
+-- what a query or a statement searches for; nothing for other requests
 abbrev pub search_of : Call → Option (Result Search Body)
 search_of (call.Query namespace kind ancestor filters orders select offset limit start end cursor) = Some (Ok (record {
   query = record {
@@ -79,4 +95,6 @@ search_of (call.Query namespace kind ancestor filters orders select offset limit
   end = end;
   cursor = cursor;
 }))
+search_of (call.Gql namespace text args names start end cursor) =
+    Some (gql_search (statement_search namespace start end cursor) (statement_of text (record { args = args; names = names })))
 search_of _ = None
