@@ -6,19 +6,6 @@ use ds_query::{Branch, Place, Select};
 use std::alloc::Global;
 use std::test::Fail;
 
-const BEFORE_TASKS: &str = "AQAAABcBVGFzawABAAAAAV9fa2V5X18AAQAAAAA=";
-
-const AT_A: &str = "AQAAABcBVGFzawABAAAAAV9fa2V5X18AAQAAAAECVGFzawABIGEAAQE=";
-
-const AT_A_IN_X: &str = "AgAAABp4AAEBVGFzawABAAAAAV9fa2V5X18AAQAAAAEDeAABAlRhc2sAASBhAAEB";
-
-const KEYS_AT_A_IN_X: &str = "AgAAABp4AAEBVGFzawABAAAAAV9fa2V5X18AAQAAAQEDeAABAlRhc2sAASBhAAEB";
-
-const AT_ONE: &str = "AQAAABkBVAABAAAAAXYAAQABX19rZXlfXwABAAAAASCAAAAAAAAAAQJUAAEgYQABAQ==";
-
-const AT_BOB: &str =
-    "AQAAADoBR3JlZXRpbmcAAQECR3Vlc3Rib29rAAEgZGVmYXVsdAABAQAAAWRhdGUAAQEBX19rZXlfXwABAAAAAd9////////4LwJHdWVzdGJvb2sAASBkZWZhdWx0AAECR3JlZXRpbmcAARAAEAAAAAAAAQE=";
-
 /// Whether the cursor of the place is this text, and the text is read as the place.
 fn agrees(
     alloc: Global,
@@ -42,8 +29,22 @@ fn of_one_kind(rt: HostRuntime) -> Result<(), Fail> {
     let alloc = rt.alloc();
     let task = branch(alloc, "", "Task", None)?;
     let at_a = place(alloc, None, &key(alloc, "", "Task", "a")?)?;
-    assert!(rt; agrees(alloc, &task, None, BEFORE_TASKS)?);
-    assert!(rt; agrees(alloc, &task, Some(&at_a), AT_A)?);
+    assert!(rt;
+        agrees(
+            alloc,
+            &task,
+            None,
+            "AQAAABcBVGFzawABAAAAAV9fa2V5X18AAQAAAAA="
+        )?
+    );
+    assert!(rt;
+        agrees(
+            alloc,
+            &task,
+            Some(&at_a),
+            "AQAAABcBVGFzawABAAAAAV9fa2V5X18AAQAAAAECVGFzawABIGEAAQE="
+        )?
+    );
     Ok(())
 }
 
@@ -52,9 +53,23 @@ fn of_a_namespace(rt: HostRuntime) -> Result<(), Fail> {
     let alloc = rt.alloc();
     let at_a = place(alloc, None, &key(alloc, "x", "Task", "a")?)?;
     let mut task = branch(alloc, "x", "Task", None)?;
-    assert!(rt; agrees(alloc, &task, Some(&at_a), AT_A_IN_X)?);
+    assert!(rt;
+        agrees(
+            alloc,
+            &task,
+            Some(&at_a),
+            "AgAAABp4AAEBVGFzawABAAAAAV9fa2V5X18AAQAAAAEDeAABAlRhc2sAASBhAAEB"
+        )?
+    );
     task.select = Select::Keys;
-    assert!(rt; agrees(alloc, &task, Some(&at_a), KEYS_AT_A_IN_X)?);
+    assert!(rt;
+        agrees(
+            alloc,
+            &task,
+            Some(&at_a),
+            "AgAAABp4AAEBVGFzawABAAAAAV9fa2V5X18AAQAAAQEDeAABAlRhc2sAASBhAAEB"
+        )?
+    );
     Ok(())
 }
 
@@ -64,7 +79,14 @@ fn of_a_column(rt: HostRuntime) -> Result<(), Fail> {
     let alloc = rt.alloc();
     let by_value = branch(alloc, "", "T", Some(("v", false)))?;
     let at_one = place(alloc, Some((1, false)), &key(alloc, "", "T", "a")?)?;
-    assert!(rt; agrees(alloc, &by_value, Some(&at_one), AT_ONE)?);
+    assert!(rt;
+        agrees(
+            alloc,
+            &by_value,
+            Some(&at_one),
+            "AQAAABkBVAABAAAAAXYAAQABX19rZXlfXwABAAAAASCAAAAAAAAAAQJUAAEgYQABAQ=="
+        )?
+    );
     Ok(())
 }
 
@@ -84,6 +106,13 @@ fn under_an_ancestor(rt: HostRuntime) -> Result<(), Fail> {
     };
     let path = Elems::from(vec![in alloc; guestbook, greeting]?);
     let at_bob = place(alloc, Some((2000, true)), &Key::new(alloc, path)?)?;
-    assert!(rt; agrees(alloc, &newest, Some(&at_bob), AT_BOB)?);
+    assert!(rt;
+        agrees(
+            alloc,
+            &newest,
+            Some(&at_bob),
+            "AQAAADoBR3JlZXRpbmcAAQECR3Vlc3Rib29rAAEgZGVmYXVsdAABAQAAAWRhdGUAAQEBX19rZXlfXwABAAAAAd9////////4LwJHdWVzdGJvb2sAASBkZWZhdWx0AAECR3JlZXRpbmcAARAAEAAAAAAAAQE="
+        )?
+    );
     Ok(())
 }
