@@ -112,8 +112,8 @@ added_ordered row stamp last xs ys h o g a t f =
     let n = all_left (λ w. is_alive row w ≡ false) xs ys (not_alive row (xs ++ ys) a) in
     let both = all_both (IsGiven last) (λ w. is_alive row w ≡ false) (λ w. IsGiven last w × (is_alive row w ≡ false)) (λ w x y. (x, y)) xs (all_left (IsGiven last) xs ys g) n in
     inserted_ordered v xs ys o
-      (all_both (λ w. IsGiven last w × (is_alive row w ≡ false)) (λ w. comes_before row true w ≡ true) (λ w. Precedes w v) (λ w x y. new_behind row stamp last w h x.0 x.1 y) xs both t)
-      (all_then (λ w. comes_before row true w ≡ false) (Precedes v) (λ w y. new_before row stamp w y) ys f)
+    (all_both (λ w. IsGiven last w × (is_alive row w ≡ false)) (λ w. comes_before row true w ≡ true) (λ w. Precedes w v) (λ w x y. new_behind row stamp last w h x.0 x.1 y) xs both t)
+    (all_then (λ w. comes_before row true w ≡ false) (Precedes v) (λ w y. new_before row stamp w y) ys f)
 
 -- ---- closing
 
@@ -121,8 +121,8 @@ pub later_not_alive : (row : List ℕ) (w : Version) → comes_before row true w
 later_not_alive row w f =
     let t : is_below row w.row ≡ true = was_true (is_below row w.row) f in
     let n : bytes_eq w.row row ≡ false = false_unless (bytes_eq w.row row) (λ e.
-          let s : w.row ≡ row = (bytes_eq-Decides w.row row).0 e in
-          not_both (is_below row w.row) t (subst (λ r. is_below row r ≡ false) (sym s) (not_below_itself row))) in
+    let s : w.row ≡ row = (bytes_eq-Decides w.row row).0 e in
+    not_both (is_below row w.row) t (subst (λ r. is_below row r ≡ false) (sym s) (not_below_itself row))) in
     rw n refl
 
 -- a version that stands before another one that doesn't come behind the row isn't the row's open one
@@ -214,9 +214,9 @@ undo_precedes stamp last l v x w y g k h p m =
     record {
       not_above = rw (a.row, b.row) p.not_above;
       apart = λ e.
-        let q = p.apart (sym a.row ∙ e ∙ b.row) in
-        let n : v.to ≡ stamp → ⊥ = λ z. b.other (omega (arith, z, q, h.from_given, l)) in
-        omega (arith, a.to n, b.from, q);
+          let q = p.apart (sym a.row ∙ e ∙ b.row) in
+          let n : v.to ≡ stamp → ⊥ = λ z. b.other (omega (arith, z, q, h.from_given, l)) in
+          omega (arith, a.to n, b.from, q);
     }
 
 undo_given : (stamp last : ℕ) → last ≤ stamp → (v x : Version) → IsGiven last v → kept (Undo stamp) v ≡ Some x → IsGiven stamp x
@@ -225,10 +225,10 @@ undo_given stamp last l v x g k =
     record {
       from_given = omega (arith, a.from, g.from_given, l);
       to_given = λ n.
-        let m : v.to ≡ stamp → ⊥ = λ z. n (a.reopened z) in
-        let t = a.to m in
-        let q = g.to_given (λ z. n (t ∙ z)) in
-        omega (arith, t, q, l);
+          let m : v.to ≡ stamp → ⊥ = λ z. n (a.reopened z) in
+          let t = a.to m in
+          let q = g.to_given (λ z. n (t ∙ z)) in
+          omega (arith, t, q, l);
     }
 
 trim_same : (floor : ℕ) (v x : Version) → kept (Trim floor) v ≡ Some x → v ≡ x
@@ -254,7 +254,7 @@ undo_all_given stamp last vs l g = map_each (kept (Undo stamp)) (IsGiven last) (
 
 pub trim_ordered : (floor last : ℕ) (vs : List Version) → Each (IsGiven last) vs → IsOrdered vs → IsOrdered (changed (Trim floor) vs)
 trim_ordered floor last vs g o = map_ordered (kept (Trim floor)) (IsGiven last)
-  (λ v x w y a k b p m. subst (λ z. Precedes z y) (trim_same floor v x k) (subst (λ z. Precedes v z) (trim_same floor w y m) p)) vs g o
+    (λ v x w y a k b p m. subst (λ z. Precedes z y) (trim_same floor v x k) (subst (λ z. Precedes v z) (trim_same floor w y m) p)) vs g o
 
 pub trim_all_given : (floor last : ℕ) (vs : List Version) → Each (IsGiven last) vs → Each (IsGiven last) (changed (Trim floor) vs)
 trim_all_given floor last vs g = map_each (kept (Trim floor)) (IsGiven last) (IsGiven last) (λ v x a k. subst (IsGiven last) (trim_same floor v x k) a) vs g

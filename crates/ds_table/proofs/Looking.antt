@@ -128,6 +128,7 @@ out_above a (Some b) v vs h f =
   where
     later : (w : Version) → Precedes v w → is_below w.row b ≡ false
     later w p = false_unless (is_below w.row b) (λ t. not_both (is_below v.row b) (upto_below v.row w.row b p.not_above t) f)
+
     at_one : (w : Version) → is_below w.row b ≡ false → in_range a (Some b) w.row ≡ false
     at_one w e = by (is_below w.row a) refl
       where

@@ -77,10 +77,10 @@ blocks_before o s (b ∷ bs) (suc m) d r f l t =
     let k : m < length bs = omega (arith, l) in
     let w = get_or (get_or bs m []) 0 d in
     let each : (v : Version) → Each (Precedes v) (joined bs) → comes_before o s v ≡ true =
-          λ v h. keeps o s v.row w.row (first_among (Precedes v) bs m d f.1 k h).not_above t in
+    λ v h. keeps o s v.row w.row (first_among (Precedes v) bs m d f.1 k h).not_above t in
     each_append (λ v. comes_before o s v ≡ true) b (joined (take m bs))
-      (all_then (λ v. Each (Precedes v) (joined bs)) (λ v. comes_before o s v ≡ true) each b (ordered_across b (joined bs) r))
-      (blocks_before o s bs m d (ordered_right b (joined bs) r) f.1 k t)
+    (all_then (λ v. Each (Precedes v) (joined bs)) (λ v. comes_before o s v ≡ true) each b (ordered_across b (joined bs) r))
+    (blocks_before o s bs m d (ordered_right b (joined bs) r) f.1 k t)
 
 -- where it doesn't, no version of the block and those behind it does
 pub blocks_after : (o : List ℕ) (s : Bool) (bs : List (List Version)) (m : ℕ) (d : Version) → IsOrdered (joined bs) → Each (λ b. 0 < length b) bs → m < length bs

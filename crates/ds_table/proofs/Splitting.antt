@@ -11,7 +11,6 @@ use Rattle.ds_table.proofs.Lists.{each_append, each_at, all_left, all_right, all
 use Rattle.ds_table.proofs.Spacing.{joined_at, joined_set, set_parts}
 use Rattle.ds_table.proofs.Lives.{with_version_is, added_ordered, inserted_each, given_new, given_more, closed_is, closed_ordered, closed_given, none_alive, later_not_alive}
 
-
 take_split : (bs : List (List Version)) (i : ℕ) (b c : List Version) → i < length bs → take i (take i bs ++ b ∷ c ∷ drop (suc i) bs) ≡ take i bs
 take_split bs zero b c h = refl
 take_split [] (suc i) b c h = absurd (omega (arith, h))
@@ -68,16 +67,16 @@ module _ (test : Version → Bool) (bs : List (List Version)) (i p : ℕ) (l : i
 
   pub placed_second : 128 < p → IsPlaced test split (suc i)
   placed_second h =
-    let t : Each (λ v. test v ≡ true) half = take_fewer (λ v. test v ≡ true) 128 p (get_or bs i []) (omega (arith, h)) r.before in
-    record {
-      within = λ _. omega (arith, long_split bs i half rest l, l);
-      before = rw (joined_take_split bs i half rest l) (each_append (λ v. test v ≡ true) (joined (take i bs)) half q.before t);
-      after = rw (add-one, drop_split_next bs i half rest l) (rw add-one at q.after);
-      begun = λ n d.
-        let k : 128 < length (take p (get_or bs i [])) = simp length-take (omega (arith, h, full)) in
-        let e = each_at (λ v. test v ≡ true) (take p (get_or bs i [])) 128 d k r.before in
-        rw (at_split_next bs i half rest l, get_or-drop 128 (get_or bs i []) 0 d) (rw (get_or-take p (get_or bs i []) 128 d h) at e);
-    }
+      let t : Each (λ v. test v ≡ true) half = take_fewer (λ v. test v ≡ true) 128 p (get_or bs i []) (omega (arith, h)) r.before in
+      record {
+        within = λ _. omega (arith, long_split bs i half rest l, l);
+        before = rw (joined_take_split bs i half rest l) (each_append (λ v. test v ≡ true) (joined (take i bs)) half q.before t);
+        after = rw (add-one, drop_split_next bs i half rest l) (rw add-one at q.after);
+        begun = λ n d.
+            let k : 128 < length (take p (get_or bs i [])) = simp length-take (omega (arith, h, full)) in
+            let e = each_at (λ v. test v ≡ true) (take p (get_or bs i [])) 128 d k r.before in
+            rw (at_split_next bs i half rest l, get_or-drop 128 (get_or bs i []) 0 d) (rw (get_or-take p (get_or bs i []) 128 d h) at e);
+      }
 
   pub room_first : length (get_or split i []) < 256
   room_first = rw (at_split bs i half rest l, length-take) (omega arith)
@@ -101,26 +100,26 @@ module _ (row : List ℕ) (bs : List (List Version)) (i p : ℕ) (l : i < length
 
   all_parts : joined bs ≡ front ++ back
   all_parts = joined_at bs i l ∙ (ap (λ b. joined (take i bs) ++ (b ++ joined (drop (suc i) bs))) (sym (take-append-drop p (get_or bs i [])))
-    ∙ simp append_assoc)
+      ∙ simp append_assoc)
 
   new_parts : (v : Version) → joined (set bs i (insert (get_or bs i []) p v)) ≡ front ++ (v ∷ back)
   new_parts v = joined_set bs i (insert (get_or bs i []) p v) l ∙ simp append_assoc
 
   pub added_joined : (stamp : ℕ) → joined (set bs i (insert (get_or bs i []) p (record { row = row; from = stamp; to = never }))) ≡ added row stamp (joined bs)
   added_joined stamp =
-    let v : Version = record { row = row; from = stamp; to = never } in
-    new_parts v ∙ (sym (with_version_is v front back front_before back_after) ∙ ap (with_version v) (sym all_parts))
+      let v : Version = record { row = row; from = stamp; to = never } in
+      new_parts v ∙ (sym (with_version_is v front back front_before back_after) ∙ ap (with_version v) (sym all_parts))
 
   pub added_in_order : (stamp last : ℕ) → last ≤ stamp → IsOrdered (joined bs) → Each (IsGiven last) (joined bs) → has_alive row (joined bs) ≡ false
       → IsOrdered (joined (set bs i (insert (get_or bs i []) p (record { row = row; from = stamp; to = never }))))
   added_in_order stamp last h o g a =
-    let v : Version = record { row = row; from = stamp; to = never } in
-    subst IsOrdered (sym (new_parts v)) (added_ordered row stamp last front back h (subst IsOrdered all_parts o) (subst (Each (IsGiven last)) all_parts g) (subst (λ l. has_alive row l ≡ false) all_parts a) front_before back_after)
+      let v : Version = record { row = row; from = stamp; to = never } in
+      subst IsOrdered (sym (new_parts v)) (added_ordered row stamp last front back h (subst IsOrdered all_parts o) (subst (Each (IsGiven last)) all_parts g) (subst (λ l. has_alive row l ≡ false) all_parts a) front_before back_after)
 
   pub added_given : (stamp last : ℕ) → last ≤ stamp → Each (IsGiven last) (joined bs) → Each (IsGiven stamp) (joined (set bs i (insert (get_or bs i []) p (record { row = row; from = stamp; to = never }))))
   added_given stamp last h g =
-    let v : Version = record { row = row; from = stamp; to = never } in
-    subst (Each (IsGiven stamp)) (sym (new_parts v)) (inserted_each (IsGiven stamp) v front back (given_new row stamp)
+      let v : Version = record { row = row; from = stamp; to = never } in
+      subst (Each (IsGiven stamp)) (sym (new_parts v)) (inserted_each (IsGiven stamp) v front back (given_new row stamp)
       (subst (Each (IsGiven stamp)) all_parts (all_then (IsGiven last) (IsGiven stamp) (λ w. given_more last stamp w h) (joined bs) g)))
 
   pub added_long : (v : Version) → length (joined (set bs i (insert (get_or bs i []) p v))) ≡ suc (length (joined bs))
@@ -142,9 +141,9 @@ module _ (row : List ℕ) (bs : List (List Version)) (i p : ℕ) (l : i < length
 
   one_before : comes_before row true one ≡ true
   one_before =
-    let d : Version = record { row = []; from = 0; to = 0 } in
-    let k : p < length (take (suc p) (get_or bs i [])) = simp length-take (omega (arith, r.within)) in
-    rw (get_or-take (suc p) (get_or bs i []) p d (omega arith)) at (each_at (λ w. comes_before row true w ≡ true) (take (suc p) (get_or bs i [])) p d k r.before)
+      let d : Version = record { row = []; from = 0; to = 0 } in
+      let k : p < length (take (suc p) (get_or bs i [])) = simp length-take (omega (arith, r.within)) in
+      rw (get_or-take (suc p) (get_or bs i []) p d (omega arith)) at (each_at (λ w. comes_before row true w ≡ true) (take (suc p) (get_or bs i [])) p d k r.before)
 
   behind_after : Each (λ w. comes_before row true w ≡ false) behind_it
   behind_after = each_append (λ w. comes_before row true w ≡ false) (drop (suc p) (get_or bs i [])) (joined (drop (suc i) bs)) r.after (rw add-one at q.after)
@@ -156,17 +155,17 @@ module _ (row : List ℕ) (bs : List (List Version)) (i p : ℕ) (l : i < length
 
   old_parts : joined bs ≡ before_it ++ (one ∷ behind_it)
   old_parts = joined_at bs i l ∙ (ap (λ b. joined (take i bs) ++ (b ++ joined (drop (suc i) bs))) (block_parts (get_or bs i []) p (record { row = []; from = 0; to = 0 }) inside)
-    ∙ simp append_assoc)
+      ∙ simp append_assoc)
 
   closed_parts : (stamp : ℕ) → joined (set bs i (set (get_or bs i []) p (ended_at stamp one))) ≡ before_it ++ (ended_at stamp one ∷ behind_it)
   closed_parts stamp = joined_set bs i (set (get_or bs i []) p (ended_at stamp one)) l
-    ∙ (ap (λ b. joined (take i bs) ++ (b ++ joined (drop (suc i) bs))) (set_parts (get_or bs i []) p (ended_at stamp one) inside) ∙ simp append_assoc)
+      ∙ (ap (λ b. joined (take i bs) ++ (b ++ joined (drop (suc i) bs))) (set_parts (get_or bs i []) p (ended_at stamp one) inside) ∙ simp append_assoc)
 
   pub closed_joined : (stamp last : ℕ) → last < never → IsOrdered (joined bs) → Each (IsGiven last) (joined bs) → has_alive row (joined bs) ≡ true
       → joined (set bs i (set (get_or bs i []) p (ended_at stamp one))) ≡ closed row stamp (joined bs)
   closed_joined stamp last n o g a =
-    let gs = subst (Each (IsGiven last)) old_parts g in
-    closed_parts stamp ∙ (sym (closed_is row stamp last before_it one behind_it (subst IsOrdered old_parts o) (all_right (IsGiven last) before_it (one ∷ behind_it) gs).0 n one_before behind_after (subst (λ l. has_alive row l ≡ true) old_parts a))
+      let gs = subst (Each (IsGiven last)) old_parts g in
+      closed_parts stamp ∙ (sym (closed_is row stamp last before_it one behind_it (subst IsOrdered old_parts o) (all_right (IsGiven last) before_it (one ∷ behind_it) gs).0 n one_before behind_after (subst (λ l. has_alive row l ≡ true) old_parts a))
       ∙ ap (closed row stamp) (sym old_parts))
 
   pub closed_in_order : (stamp : ℕ) → IsOrdered (joined bs) → IsOrdered (joined (set bs i (set (get_or bs i []) p (ended_at stamp one))))
@@ -184,7 +183,7 @@ pub some_before : (row : List ℕ) (bs : List (List Version)) (i p : ℕ) → Ea
 some_before row bs i (suc p) f q l r a = omega arith
 some_before row bs zero zero f q l r a =
     let k = all_then (λ w. comes_before row true w ≡ false) (λ w. is_alive row w ≡ false) (later_not_alive row) (joined bs)
-          (subst (Each (λ w. comes_before row true w ≡ false)) (sym (joined_at bs zero l)) (each_append (λ w. comes_before row true w ≡ false) (get_or bs zero []) (joined (drop 1 bs)) r.after q.after)) in
+    (subst (Each (λ w. comes_before row true w ≡ false)) (sym (joined_at bs zero l)) (each_append (λ w. comes_before row true w ≡ false) (get_or bs zero []) (joined (drop 1 bs)) r.after q.after)) in
     absurd (not_both (has_alive row (joined bs)) a (none_alive row (joined bs) k))
 some_before row bs (suc i) zero f q l r a =
     let d : Version = record { row = []; from = 0; to = 0 } in

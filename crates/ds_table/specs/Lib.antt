@@ -4,3 +4,5 @@ pub mod Blocks
 pub mod Changes
 pub mod Places
 pub mod Seen
+pub mod UndoLaws
+pub mod AliveLaws

@@ -89,7 +89,7 @@ impl Block {
         ensures found { MatchOption result.place
             (find (is_seen at) (versions_within at_least.now (option_copied below.entry) self.now) ≡ None)
             (λ i. (i < length self.now) × ((d : Version) →
-                find (is_seen at) (versions_within at_least.now (option_copied below.entry) self.now) ≡ Some (slice_index_or self.now i d))) }
+            find (is_seen at) (versions_within at_least.now (option_copied below.entry) self.now) ≡ Some (slice_index_or self.now i d))) }
     {
         let low = place_of(self.rows.as_slice(), at_least, false);
         let high = place_of_bound(self.rows.as_slice(), below);

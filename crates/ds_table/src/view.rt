@@ -16,6 +16,7 @@ use std::marker::Model;
 use std::sync::ledger::Ledger;
 
 /// The rows of a table as they are seen at a stamp. Contracts see the versions of the table, and the stamp.
+#[derive(Drop)]
 pub struct TableView<'a> {
     table: &'a Table,
     at: u64,
@@ -44,7 +45,12 @@ impl<'a> TableView<'a> {
     /// stands before the one found, or in the whole range where none is.
     ///
     /// The rows seen ascend, and those of the versions that aren't seen don't fall.
-    pub fn seek<L: Ledger>(&self, at_least: &[u8], below: Option<&[u8]>, steps: &mut Steps<L>) -> Option<&[u8]>
+    pub fn seek<L: Ledger>(
+        &self,
+        at_least: &[u8],
+        below: Option<&[u8]>,
+        steps: &mut Steps<L>,
+    ) -> Option<&[u8]>
         ensures least { option_copied result ≡ find (in_range at_least.now (option_copied below.entry)) (seen_rows self.now.stamp self.now.versions) }
         ensures steps { steps.new ≡ steps.old + 1 + unseen_before self.now.stamp (versions_within at_least.now (option_copied below.entry) self.now.versions) }
         ensures rows_ascend { IsStrictlySortedBy bytes_cmp (seen_rows self.now.stamp self.now.versions) }

@@ -1,9 +1,5 @@
-use Rattle.std.proofs.Common.{◌≡◌, ◌+◌, ◌<◌, ◌≤◌, true, List, [], ◌∷◌, ◌++◌, suc, length, take, drop, get_or, ap, sym, ◌∙◌, arith, add-one, subst}
-use Rattle.std.proofs.Math.ListN.{set}
+use Rattle.std.proofs.Common.{◌≡◌, ◌<◌, ◌≤◌, true, [], ◌∷◌, ◌++◌, suc, length, take, drop, get_or, ap, arith, add-one, subst}
 use Rattle.std.proofs.lemmas.List.{get_or_read, length-take, length-drop, take-append-drop}
-use Rattle.ds_table.specs.Each.{Each}
-use Rattle.ds_table.specs.Versions.{Version}
-use Rattle.ds_table.specs.Blocks.{joined, IsOrdered, IsSpaced}
 use Rattle.ds_table.specs.Places.{comes_before, IsPlace, IsPlaced}
 use Rattle.ds_table.proofs.Placing.{block_ordered}
 use Rattle.ds_table.proofs.Spacing.{spaced_split, joined_split, filled_split, filled_set}

@@ -1,4 +1,4 @@
-use Rattle.std.proofs.Common.{◌≡◌, ◌+◌, ◌<◌, ◌≤◌, [], suc, length, take, drop, get_or, ap, sym, ◌∙◌, arith, add-one}
+use Rattle.std.proofs.Common.{[], suc, length, take, drop, get_or, ap, sym, ◌∙◌, arith, add-one}
 use Rattle.std.proofs.lemmas.List.{get_or_read, length-append}
 use Rattle.ds_table.specs.Blocks.{joined}
 use Rattle.ds_table.proofs.Spacing.{joined_take_next, joined_parts}

@@ -1,4 +1,4 @@
-use Rattle.std.proofs.Common.{◌≡◌, ◌<◌, length, arith}
+use Rattle.std.proofs.Common.{arith}
 use Rattle.ds_table.proofs.Spacing.{one_filled, filled_unless_one}
 use Rattle.ds_table.proofs.joining.drop_empty.Goals as goal
 use Rattle.ds_table.proofs.joining.drop_empty.Goals.{else-len-eq1-via-then-len-eq1+else-len-eq0, else-len-eq1-via-else-len-eq1}

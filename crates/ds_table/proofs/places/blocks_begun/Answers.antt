@@ -1,4 +1,4 @@
-use Rattle.std.proofs.Common.{◌≡◌, ℕ, ◌+◌, ◌-◌, ◌/◌, ◌<◌, true, false, [], length, take, get_or, arith, subst, sym}
+use Rattle.std.proofs.Common.{◌≡◌, ◌+◌, ◌-◌, ◌/◌, ◌<◌, true, false, [], length, take, get_or, arith, subst}
 use Rattle.std.proofs.lemmas.List.{get_or_read}
 use Rattle.ds_table.specs.Each.{Each}
 use Rattle.ds_table.specs.Versions.{Version}
@@ -20,7 +20,7 @@ loop-low-preserved-then-is_before_row c =
       ordered = omega (arith, c.loop-low-test.true);
       within = c.loop-low.invariant.within;
       before = λ k e. let q : m ≡ k = omega (arith, e) in
-        subst (λ x. Each (λ v. comes_before o s v ≡ true) (joined (take x bs))) q (blocks_before o s bs m d c.requires.ordered c.requires.filled l (t d));
+          subst (λ x. Each (λ v. comes_before o s v ≡ true) (joined (take x bs))) q (blocks_before o s bs m d c.requires.ordered c.requires.filled l (t d));
       begun = λ k e d. let q : m ≡ k = omega (arith, e) in subst (λ x. comes_before o s (get_or (get_or bs x []) 0 d) ≡ true) q (t d);
       after = c.loop-low.invariant.after;
     }

@@ -1,4 +1,4 @@
-use Rattle.std.proofs.Common.{◌≡◌, true, false, [], length, get_or, arith}
+use Rattle.std.proofs.Common.{◌≡◌, true, false, [], get_or}
 use Rattle.std.proofs.lemmas.List.{get_or_read}
 use Rattle.ds_table.specs.Versions.{Version}
 use Rattle.ds_table.specs.Places.{comes_before}

@@ -1,4 +1,4 @@
-use Rattle.std.proofs.Common.{◌≡◌, ◌+◌, ◌-◌, ◌/◌, ◌<◌, true, false, length, get_or, arith, add-one}
+use Rattle.std.proofs.Common.{◌≡◌, ◌+◌, ◌-◌, ◌/◌, true, false, get_or, arith, add-one}
 use Rattle.ds_table.specs.Places.{row_before}
 use Rattle.ds_table.proofs.Placing.{rising_before, rising_after}
 use Rattle.ds_table.proofs.places.place_of.Goals as goal

@@ -1,4 +1,4 @@
-use Rattle.std.proofs.Common.{◌≡◌, ◌+◌, ◌<◌, false, ℕ, List, [], ◌++◌, suc, length, take, drop, get_or, find, option_copied, refl, ap, sym, ◌∙◌, arith, add-one}
+use Rattle.std.proofs.Common.{◌≡◌, false, ℕ, [], ◌++◌, suc, take, drop, get_or, find, option_copied, refl, ap, sym, ◌∙◌, arith, add-one}
 use Rattle.std.specs.Prelude.{Option, Some, None, option_map, MatchOption}
 use Rattle.std.proofs.lemmas.List.{get_or_read}
 use Rattle.ds_table.specs.Versions.{Version, is_before, is_seen, in_range, seen_rows, unseen_before, versions_within}

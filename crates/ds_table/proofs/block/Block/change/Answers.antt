@@ -1,4 +1,4 @@
-use Rattle.std.proofs.Common.{◌≡◌, ◌+◌, ◌-◌, ◌≤◌, ◌<◌, ◌++◌, ℕ, suc, [], length, take, drop, refl, ap, sym, ◌∙◌, arith, add-one, subst}
+use Rattle.std.proofs.Common.{◌≡◌, ◌-◌, ◌≤◌, ◌++◌, suc, [], length, take, drop, sym, ◌∙◌, arith, add-one, subst}
 use Rattle.std.proofs.lemmas.List.{take_all, drop_all, append-nil}
 use Rattle.ds_table.specs.Versions.{Version}
 use Rattle.ds_table.specs.Changes.{changed}

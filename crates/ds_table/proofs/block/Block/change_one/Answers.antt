@@ -1,7 +1,5 @@
-use Rattle.std.proofs.Common.{◌≡◌, ◌+◌, length, take, drop, get_or, refl, ap, sym, ◌∙◌, arith, add-one}
-use Rattle.std.specs.Prelude.{option_to_list, option_map}
-use Rattle.ds_table.specs.Versions.{Version, ended_at}
-use Rattle.ds_table.specs.Changes.{kept_end, kept}
+use Rattle.std.proofs.Common.{get_or, refl, ◌∙◌, add-one}
+use Rattle.ds_table.specs.Versions.{ended_at}
 use Rattle.ds_table.proofs.Spacing.{set_parts}
 use Rattle.ds_table.proofs.block.Block.change_one.Goals as goal
 

@@ -1,4 +1,4 @@
-use Rattle.std.proofs.Common.{◌≡◌, length, ap, sym, ◌∙◌, arith}
+use Rattle.std.proofs.Common.{length, ap, arith}
 use Rattle.ds_table.proofs.Columns.{as_many, after_close}
 use Rattle.ds_table.proofs.block.Block.close.Goals as goal
 

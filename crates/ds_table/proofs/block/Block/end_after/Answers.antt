@@ -1,7 +1,4 @@
-use Rattle.std.proofs.Common.{◌≡◌, length, get_or, ap, sym, ◌∙◌, arith}
-use Rattle.ds_table.specs.Versions.{Version}
-use Rattle.ds_table.specs.Blocks.{versions_of}
-use Rattle.ds_table.specs.Changes.{kept_end}
+use Rattle.std.proofs.Common.{length, ap, arith}
 use Rattle.ds_table.proofs.Columns.{as_many, version_at}
 use Rattle.ds_table.proofs.block.Block.end_after.Goals as goal
 

@@ -1,5 +1,4 @@
-use Rattle.std.proofs.Common.{◌≡◌, ◌+◌, ◌<◌, ◌≤◌, length, ap, sym, ◌∙◌, arith, subst}
-use Rattle.std.specs.Vec.{vec_len, vec_capacity}
+use Rattle.std.proofs.Common.{◌<◌, length, ap, arith}
 use Rattle.ds_table.proofs.Columns.{as_many, after_insert}
 use Rattle.ds_table.proofs.block.Block.insert.Goals as goal
 

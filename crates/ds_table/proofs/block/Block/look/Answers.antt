@@ -1,5 +1,5 @@
-use Rattle.std.proofs.Common.{◌≡◌, ◌+◌, ◌-◌, ◌<◌, ◌≤◌, false, List, ℕ, length, take, drop, find, option_copied, refl, ap, sym, ◌∙◌, subst, arith}
-use Rattle.ds_table.specs.Versions.{Version, is_before, is_seen, unseen_before, versions_within}
+use Rattle.std.proofs.Common.{◌≡◌, ◌+◌, ◌-◌, ◌≤◌, false, List, ℕ, length, take, drop, option_copied, refl, sym, ◌∙◌, subst, arith}
+use Rattle.ds_table.specs.Versions.{is_before, unseen_before}
 use Rattle.ds_table.specs.Blocks.{IsOrdered, versions_of}
 use Rattle.ds_table.specs.Places.{IsPlace, IsRising, row_before}
 use Rattle.ds_table.proofs.Columns.{as_many, rows_of}

@@ -1,4 +1,4 @@
-use Rattle.std.proofs.Common.{◌≡◌, List, ℕ, sym, ◌∙◌, subst}
+use Rattle.std.proofs.Common.{List, ℕ, sym, ◌∙◌, subst}
 use Rattle.ds_table.specs.Blocks.{IsOrdered, versions_of}
 use Rattle.ds_table.specs.Places.{IsPlace, IsRising, row_before, comes_before}
 use Rattle.ds_table.proofs.Columns.{as_many, rows_of}
@@ -20,4 +20,4 @@ returns c =
     let n = as_many b.rows.items b.froms.items b.tos.items c.self.invariant.froms_long c.self.invariant.tos_long in
     let p = subst (λ (l : List (List ℕ)). IsPlace (row_before c.args.row.now c.args.same_too) l c.place_of.result) c.as_slice.ensures.value c.place_of.ensures in
     subst (λ v. IsPlace (comes_before c.args.row.now c.args.same_too) v c.place_of.result) c.self.view_is
-      (place_by_rows (row_before c.args.row.now c.args.same_too) vs b.rows.items c.place_of.result e n p)
+    (place_by_rows (row_before c.args.row.now c.args.same_too) vs b.rows.items c.place_of.result e n p)

@@ -1,5 +1,4 @@
-use Rattle.std.proofs.Common.{◌≡◌, length, ap, sym, ◌∙◌, arith}
-use Rattle.std.proofs.lemmas.List.{get_or_read}
+use Rattle.std.proofs.Common.{length, ap, sym, ◌∙◌, arith}
 use Rattle.ds_table.specs.Versions.{Version}
 use Rattle.ds_table.proofs.Columns.{as_many, version_at}
 use Rattle.ds_table.proofs.block.Block.row.Goals as goal

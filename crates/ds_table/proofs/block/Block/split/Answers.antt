@@ -1,4 +1,4 @@
-use Rattle.std.proofs.Common.{◌≡◌, ◌+◌, ◌-◌, ◌<◌, ◌≤◌, ℕ, List, [], ◌∷◌, ◌++◌, suc, length, take, drop, refl, ap, sym, ◌∙◌, arith, subst}
+use Rattle.std.proofs.Common.{◌≡◌, ◌-◌, ℕ, List, [], ◌∷◌, length, take, drop, refl, ap, sym, ◌∙◌, arith}
 use Rattle.std.proofs.lemmas.List.{length-drop, take_all}
 use Rattle.ds_table.proofs.Columns.{as_many, after_take, after_drop}
 use Rattle.ds_table.proofs.block.Block.split.Goals as goal
@@ -61,6 +61,7 @@ returns-clause-parts c =
     let t = rw (c.extend_from_slice-2.ensures.succeeds (omega (arith, z, nt, inv.within, inv.tos_long, jnv.tos_long, r.tos.ok.0, jnv.tos_fit))) at c.extend_from_slice-2.ensures.items in
     let a₂ : c.append.new.self.items ≡ drop i b.rows.items = a ∙ rw (nil r.rows.items z) tail in
     let f₂ : c.extend_from_slice.new.self.items ≡ drop i b.froms.items = f ∙ rw (nil r.froms.items (jnv.froms_long ∙ z)) (rest_all c.deref.result.now i ∙ ap (drop i) c.deref.ensures.value) in
-    let t₂ : c.extend_from_slice-2.new.self.items ≡ drop i b.tos.items = t ∙ rw (nil r.tos.items (jnv.tos_long ∙ z)) (rest_all c.deref-2.result.now i ∙ ap (drop i) c.deref-2.ensures.value) in
-    (rw (← c.self.view_is, c.in_ok-rows.ensures.items, c.truncate.ensures.items, c.truncate-2.ensures.items) (after_take i b.rows.items b.froms.items b.tos.items inv.froms_long inv.tos_long),
-     rw (← c.self.view_is, a₂, f₂, t₂) (after_drop i b.rows.items b.froms.items b.tos.items inv.froms_long inv.tos_long))
+    let t₂ : c.extend_from_slice-2.new.self.items ≡ drop i b.tos.items = t ∙ rw (nil r.tos.items (jnv.tos_long ∙ z)) (rest_all c.deref-2.result.now i ∙ ap (drop i) c.deref-2.ensures.value) in (
+      rw (← c.self.view_is, c.in_ok-rows.ensures.items, c.truncate.ensures.items, c.truncate-2.ensures.items) (after_take i b.rows.items b.froms.items b.tos.items inv.froms_long inv.tos_long),
+      rw (← c.self.view_is, a₂, f₂, t₂) (after_drop i b.rows.items b.froms.items b.tos.items inv.froms_long inv.tos_long),
+    )

@@ -1,13 +1,11 @@
-use Rattle.std.proofs.Common.{◌≡◌, ◌+◌, ◌-◌, ◌<◌, ◌≤◌, true, false, ℕ, List, [], suc, length, take, drop, get_or, refl, ap, sym, ◌∙◌, arith, subst}
+use Rattle.std.proofs.Common.{◌≡◌, ◌-◌, ◌<◌, ◌≤◌, true, [], suc, length, get_or, ap, sym, ◌∙◌, arith, subst}
 use Rattle.std.proofs.Math.ListN.{set, length-set}
-use Rattle.std.specs.List.{insert}
 use Rattle.std.proofs.lemmas.List.{get_or_read}
-use Rattle.ds_table.specs.Each.{Each}
-use Rattle.ds_table.specs.Versions.{Version, never, has_alive, added, closed, ended_at}
-use Rattle.ds_table.specs.Blocks.{Tabled, joined, IsOrdered, IsGiven}
+use Rattle.ds_table.specs.Versions.{Version, has_alive, ended_at}
+use Rattle.ds_table.specs.Blocks.{Tabled, joined}
 use Rattle.ds_table.specs.Places.{comes_before, IsPlace, IsPlaced}
 use Rattle.ds_table.proofs.Placing.{block_ordered}
-use Rattle.ds_table.proofs.Spacing.{spaced_longer, filled_set, long_insert}
+use Rattle.ds_table.proofs.Spacing.{spaced_longer, filled_set}
 use Rattle.ds_table.proofs.Splitting.{closed_joined, closed_in_order, closed_all_given, closed_long, some_before, some_blocks}
 use Rattle.ds_table.proofs.table.Table.close.Goals as goal
 

@@ -1,8 +1,8 @@
-use Rattle.std.proofs.Common.{◌≡◌, ◌≤◌, ◌<◌, length, ap, sym, ◌∙◌, arith, subst}
-use Rattle.ds_table.specs.declared.change.Change.TheVariants.{Undo, Trim}
-use Rattle.ds_table.specs.Blocks.{Tabled, joined}
-use Rattle.ds_table.specs.Changes.{kept, changed}
-use Rattle.ds_table.proofs.Lives.{map_fewer, trim_ordered, trim_all_given, trimmed_is, undo_ordered, undo_all_given}
+use Rattle.std.proofs.Common.{length, ap, ◌∙◌, arith}
+use Rattle.ds_table.specs.declared.change.Change.TheVariants.{Trim}
+use Rattle.ds_table.specs.Blocks.{joined}
+use Rattle.ds_table.specs.Changes.{kept}
+use Rattle.ds_table.proofs.Lives.{map_fewer, trim_ordered, trim_all_given, trimmed_is}
 use Rattle.ds_table.proofs.table.Table.trim.Goals as goal
 
 pub count-self-inside-requires : goal.count-self-inside-requires

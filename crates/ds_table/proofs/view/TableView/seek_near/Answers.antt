@@ -1,4 +1,3 @@
-use Rattle.std.proofs.Common.{◌≡◌}
 use Rattle.ds_table.proofs.Sorted.{seen_ascend, unseen_rises}
 use Rattle.ds_table.specs.Blocks.{joined}
 use Rattle.ds_table.proofs.view.TableView.seek_near.Goals as goal
