@@ -68,7 +68,7 @@ others_closed r row stamp (v ∷ vs) h n = by (bytes_eq v.row row) (v.to == neve
   where
     by : (b c : Bool) → b ≡ bytes_eq v.row row → c ≡ (v.to == never) → has_alive r (closed row stamp vs) ≡ has_alive r vs → has_alive r (closed row stamp (v ∷ vs)) ≡ has_alive r (v ∷ vs)
     by false c e f i = rw (← e) (ap (λ b. is_alive r v || b) i)
-    by true false e f i = rw (← e, ← f) (ap (λ b. (bytes_eq v.row r && false) || b) i)
+    by true false e f i = rw (and_false (bytes_eq v.row row) (v.to == never) (sym f)) (ap (λ b. is_alive r v || b) i)
     by true true e f i =
         let s : v.row ≡ row = (bytes_eq-Decides v.row row).0 (sym e) in
         let o : bytes_eq v.row r ≡ false = other_row v.row r (λ q. n (sym s ∙ q)) in
