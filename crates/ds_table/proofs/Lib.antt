@@ -1,0 +1,9 @@
+pub mod Columns
+pub mod Lists
+pub mod Order
+pub mod Placing
+pub mod Spacing
+pub mod Looking
+pub mod Lives
+pub mod Sorted
+pub mod Splitting

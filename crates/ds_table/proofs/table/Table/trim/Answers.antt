@@ -1,0 +1,27 @@
+use Rattle.std.proofs.Common.{length, ap, ◌∙◌, arith}
+use Rattle.ds_table.specs.declared.change.Change.TheVariants.{Trim}
+use Rattle.ds_table.specs.Blocks.{joined}
+use Rattle.ds_table.specs.Changes.{kept}
+use Rattle.ds_table.proofs.Lives.{map_fewer, trim_ordered, trim_all_given, trimmed_is}
+use Rattle.ds_table.proofs.table.Table.trim.Goals as goal
+
+pub count-self-inside-requires : goal.count-self-inside-requires
+count-self-inside-requires c =
+    let vs = joined c.self.inside.blocks.items in
+    rw (c.as_slice.ensures.value, c.change_all.ensures.changed) (omega (arith, map_fewer (kept (Trim c.args.floor)) vs, c.self.invariant.counted))
+
+pub invariant_of-self : goal.invariant_of-self
+invariant_of-self c =
+    let vs = joined c.self.inside.blocks.items in
+    let inv = c.self.invariant in
+    record {
+      ordered = rw c.change_all.ensures.changed (trim_ordered c.args.floor c.self.inside.last vs inv.given inv.ordered);
+      given = rw c.change_all.ensures.changed (trim_all_given c.args.floor c.self.inside.last vs inv.given);
+      below_never = inv.below_never;
+      spaced = c.change_all.ensures.spaced;
+      filled = c.change_all.ensures.filled;
+      counted = c.count-self-inside.ensures ∙ ap (λ l. length (joined l)) c.as_slice.ensures.value;
+    }
+
+pub returns-clause-trimmed : goal.returns-clause-trimmed
+returns-clause-trimmed c = rw (← c.self.view_is) (c.change_all.ensures.changed ∙ trimmed_is c.args.floor (joined c.self.inside.blocks.items))

@@ -1,0 +1,25 @@
+use Rattle.std.proofs.Common.{◌≤◌, length, ap, sym, ◌∙◌, arith, subst}
+use Rattle.ds_table.specs.declared.change.Change.TheVariants.{Undo}
+use Rattle.ds_table.specs.Blocks.{Tabled, joined}
+use Rattle.ds_table.specs.Changes.{kept}
+use Rattle.ds_table.proofs.Lives.{map_fewer, undo_ordered, undo_all_given}
+use Rattle.ds_table.proofs.table.Table.undo.Goals as goal
+
+pub count-self-inside-requires : goal.count-self-inside-requires
+count-self-inside-requires c =
+    let vs = joined c.self.inside.blocks.items in
+    rw (c.as_slice.ensures.value, c.change_all.ensures.changed) (omega (arith, map_fewer (kept (Undo c.args.stamp)) vs, c.self.invariant.counted))
+
+pub invariant_of-self : goal.invariant_of-self
+invariant_of-self c =
+    let vs = joined c.self.inside.blocks.items in
+    let inv = c.self.invariant in
+    let h : c.self.inside.last ≤ c.args.stamp = subst (λ (t : Tabled). t.last ≤ c.args.stamp) (sym c.self.view_is) c.requires.not_before in
+    record {
+      ordered = rw c.change_all.ensures.changed (undo_ordered c.args.stamp c.self.inside.last vs h inv.given inv.ordered);
+      given = rw c.change_all.ensures.changed (undo_all_given c.args.stamp c.self.inside.last vs h inv.given);
+      below_never = c.requires.a_stamp;
+      spaced = c.change_all.ensures.spaced;
+      filled = c.change_all.ensures.filled;
+      counted = c.count-self-inside.ensures ∙ ap (λ l. length (joined l)) c.as_slice.ensures.value;
+    }

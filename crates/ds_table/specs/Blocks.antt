@@ -1,0 +1,72 @@
+-- How a table keeps its versions: in blocks, each with its rows and two columns of stamps.
+use Rattle.std.specs.Prelude.{◌≡◌, ℕ, ◌+◌, ◌<◌, ◌≤◌, false, List, [], ◌∷◌, ◌++◌, length}
+use Rattle.ds_table.specs.Each.{Each}
+use Rattle.ds_table.specs.Versions.{Version, is_below, never}
+
+-- what a table is seen as
+pub record Tabled : Type 0 where
+  -- the versions, block by block
+  pub blocks : List (List Version)
+  -- the floor of the last trim, 0 before the first one
+  pub floor : ℕ
+  -- the greatest stamp given to `add`, `close` or `undo`, 0 before the first one
+  pub last : ℕ
+  -- the least stamp that may be given to `add` or `close` as far as trims say: above the floor of the last one
+  pub least : ℕ
+  -- the least stamp that may be given to `undo` as far as trims say: above each one given before the last trim, too
+  pub least_undone : ℕ
+
+-- the versions of all blocks, in their order
+abbrev pub joined : List (List Version) → List Version
+joined [] = []
+joined (b ∷ bs) = b ++ joined bs
+
+-- the versions of a table
+abbrev pub versions : Tabled → List Version
+versions t = joined t.blocks
+
+-- the versions of a block's three columns
+abbrev pub versions_of : List (List ℕ) → List ℕ → List ℕ → List Version
+versions_of [] froms tos = []
+versions_of (row ∷ rows) [] tos = []
+versions_of (row ∷ rows) (from ∷ froms) [] = []
+versions_of (row ∷ rows) (from ∷ froms) (to ∷ tos) = record { row = row; from = from; to = to } ∷ versions_of rows froms tos
+
+-- the columns of a block are equally long, at most 256, and have room for that many
+pub record IsBlock (rows : List (List ℕ)) (froms tos : List ℕ) (rows_room froms_room tos_room : ℕ) : Type 0 where
+  pub froms_long : length froms ≡ length rows
+  pub tos_long : length tos ≡ length rows
+  pub within : length rows ≤ 256
+  pub rows_fit : 256 ≤ rows_room
+  pub froms_fit : 256 ≤ froms_room
+  pub tos_fit : 256 ≤ tos_room
+
+-- the one stands before the other: its row isn't above the other's, and of one row its life ends before the other's begins
+pub record Precedes (v w : Version) : Type 0 where
+  pub not_above : is_below w.row v.row ≡ false
+  pub apart : v.row ≡ w.row → v.to ≤ w.from
+
+-- each version stands before each one behind it
+abbrev pub IsOrdered : List Version → Type 0
+IsOrdered [] = Unit {0}
+IsOrdered (v ∷ vs) = Each (Precedes v) vs × IsOrdered vs
+
+-- no stamp of the version is above the last one given
+pub record IsGiven (last : ℕ) (v : Version) : Type 0 where
+  pub from_given : v.from ≤ last
+  pub to_given : (v.to ≡ never → ⊥) → v.to ≤ last
+
+-- two blocks side by side have 128 versions together, and neither is empty
+abbrev pub IsSpaced : List (List Version) → Type 0
+IsSpaced [] = Unit {0}
+IsSpaced (a ∷ []) = Unit {0}
+IsSpaced (a ∷ b ∷ bs) = ((0 < length a) × (0 < length b) × (128 ≤ length a + length b)) × IsSpaced (b ∷ bs)
+
+-- what holds of the blocks of a table to which no stamp above `last` was given, and that counts its versions
+pub record IsTable (blocks : List (List Version)) (last count : ℕ) : Type 0 where
+  pub ordered : IsOrdered (joined blocks)
+  pub given : Each (IsGiven last) (joined blocks)
+  pub spaced : IsSpaced blocks
+  pub filled : Each (λ b. 0 < length b) blocks
+  pub below_never : last < never
+  pub counted : count ≡ length (joined blocks)

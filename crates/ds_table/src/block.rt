@@ -1,0 +1,200 @@
+//! A block of versions, in columns.
+ghost use Rattle.std.specs.Prelude.{◌≡◌, ℕ, ◌+◌, ◌<◌, ◌≤◌, Bool, true, false, List, [], ◌++◌, length, take, drop, find, Some, None, option_copied, option_to_list, slice_index_or, slice_set, IfOk, OnErr, MatchOption};
+ghost use Rattle.std.specs.List.{insert};
+ghost use Rattle.ds_table.specs.Versions.{Version, never, is_before, is_seen, ended_at, unseen_before, versions_within};
+ghost use Rattle.ds_table.specs.Blocks.{IsOrdered};
+ghost use Rattle.ds_table.specs.Changes.{kept_end, kept, changed};
+ghost use Rattle.ds_table.specs.Places.{comes_before, IsPlace};
+
+use crate::change::{Change, kept_end};
+use crate::places::{place_of, place_of_bound};
+use ds_base::ByteString;
+use ds_lanes::first_visible;
+use std::alloc::{AllocError, Global};
+use std::marker::Model;
+
+/// How many versions a block has at most.
+pub const MOST_VERSIONS: usize = 256;
+
+/// Some versions in their order: their rows, and two columns of stamps, from which and up to which each is seen. The room for
+/// all that it may have is taken when it is made.
+#[derive(Drop)]
+pub struct Block {
+    rows: Vec<ByteString>,
+    froms: Vec<u64>,
+    tos: Vec<u64>,
+}
+
+impl Model for Block {
+    ghost use Rattle.std.specs.Prelude.{List};
+    ghost use Rattle.std.specs.Vec.{vec_capacity};
+    ghost use Rattle.ds_table.specs.Versions.{Version};
+    ghost use Rattle.ds_table.specs.Blocks.{versions_of, IsBlock};
+
+    ghost Value = { List Version };
+
+    ghost view = { λ b. versions_of b.rows.items b.froms.items b.tos.items };
+
+    ghost invariant = { λ b. IsBlock b.rows.items b.froms.items b.tos.items (vec_capacity b.rows) (vec_capacity b.froms) (vec_capacity b.tos) };
+}
+
+/// What a seek finds in one block.
+#[derive(Drop)]
+pub struct Found {
+    /// How many versions of the range aren't seen and come before the one found, or before the block's end.
+    pub passed: usize,
+    /// The place of the first version of the range that is seen.
+    pub place: Option<usize>,
+}
+
+impl Block {
+    /// A block without versions, with room for all that it may have. Refused: want of memory.
+    pub fn new(alloc: Global) -> Result<Block, AllocError>
+        ensures { IfOk result (λ b. b ≡ []) }
+    {
+        let rows = Vec::with_capacity(alloc, MOST_VERSIONS)?;
+        let froms = Vec::with_capacity(alloc, MOST_VERSIONS)?;
+        let tos = Vec::with_capacity(alloc, MOST_VERSIONS)?;
+        Ok(Block { rows, froms, tos })
+    }
+
+    /// How many versions it has.
+    pub fn len(&self) -> usize
+        ensures value { result ≡ length self.now }
+        ensures within { result ≤ 256 }
+    {
+        self.rows.len()
+    }
+
+    /// The row of the version at this place.
+    pub fn row(&self, i: usize) -> &[u8]
+        requires { i < length self.now }
+        ensures { (d : Version) → result.now ≡ (slice_index_or self.now i d).row }
+    {
+        self.rows[i].bytes()
+    }
+
+    /// The place behind all versions that come before the row, or aren't above it where `same_too`.
+    pub fn place(&self, row: &[u8], same_too: bool) -> usize
+        requires { IsOrdered self.now }
+        ensures { IsPlace (comes_before row.now same_too) self.now result }
+    {
+        place_of(self.rows.as_slice(), row, same_too)
+    }
+
+    /// What a seek finds in it.
+    pub fn look(&self, at_least: &[u8], below: Option<&[u8]>, at: u64) -> Found
+        requires { IsOrdered self.now }
+        ensures passed { result.passed ≡ unseen_before at (versions_within at_least.now (option_copied below.entry) self.now) }
+        ensures found { MatchOption result.place
+            (find (is_seen at) (versions_within at_least.now (option_copied below.entry) self.now) ≡ None)
+            (λ i. (i < length self.now) × ((d : Version) →
+            find (is_seen at) (versions_within at_least.now (option_copied below.entry) self.now) ≡ Some (slice_index_or self.now i d))) }
+    {
+        let low = place_of(self.rows.as_slice(), at_least, false);
+        let high = place_of_bound(self.rows.as_slice(), below);
+        if high <= low {
+            return Found {
+                passed: 0,
+                place: None,
+            };
+        }
+        let passed = first_visible(&self.froms[low..high], &self.tos[low..high], at);
+        let wide = high - low;
+        if passed < wide {
+            return Found {
+                passed,
+                place: Some(low + passed),
+            };
+        }
+        Found {
+            passed,
+            place: None,
+        }
+    }
+
+    /// Puts an open version at this place. It takes no memory.
+    pub fn insert(&mut self, i: usize, row: ByteString, stamp: u64)
+        requires place { i ≤ length self.old }
+        requires room { length self.old < 256 }
+        ensures { self.new ≡ insert self.old i (record { row = row; from = stamp; to = never }) }
+    {
+        let _ = self.rows.insert(i, row);
+        let _ = self.froms.insert(i, stamp);
+        let _ = self.tos.insert(i, u64::MAX);
+    }
+
+    /// Ends the version at this place at the stamp.
+    pub fn close(&mut self, i: usize, stamp: u64)
+        requires { i < length self.old }
+        ensures { (d : Version) → self.new ≡ slice_set self.old i (ended_at stamp (slice_index_or self.old i d)) }
+    {
+        self.tos[i] = stamp;
+    }
+
+    /// Changes all versions, and takes out those that go. It takes no memory.
+    pub fn change(&mut self, change: Change)
+        ensures { self.new ≡ changed change self.old }
+    {
+        let mut i = self.len();
+        while i > 0 {
+            i -= 1;
+            self.change_one(change, i);
+        }
+    }
+
+    /// Changes the version at this place, or takes it out.
+    fn change_one(&mut self, change: Change, i: usize)
+        requires { i < length self.old }
+        ensures { (d : Version) → self.new ≡ take i self.old ++ (option_to_list (kept change (slice_index_or self.old i d)) ++ drop (i + 1) self.old) }
+    {
+        match self.end_after(change, i) {
+            Some(to) => self.close(i, to),
+            None => self.take_out(i),
+        }
+    }
+
+    /// The end that the version at this place has after the change; `None` where it goes.
+    fn end_after(&self, change: Change, i: usize) -> Option<u64>
+        requires { i < length self.now }
+        ensures { (d : Version) → result ≡ kept_end change (slice_index_or self.now i d).from (slice_index_or self.now i d).to }
+    {
+        kept_end(change, self.froms[i], self.tos[i])
+    }
+
+    fn take_out(&mut self, i: usize)
+        requires { i < length self.old }
+        ensures { self.new ≡ take i self.old ++ drop (i + 1) self.old }
+    {
+        let _row = self.rows.remove(i);
+        let _from = self.froms.remove(i);
+        let _to = self.tos.remove(i);
+    }
+
+    /// Moves the versions from this place on into a block of their own. A refusal, which is want of memory, changes nothing.
+    pub fn split(&mut self, alloc: Global, i: usize) -> Result<Block, AllocError>
+        requires { i ≤ length self.old }
+        ensures parts { IfOk result (λ rest. (self.new ≡ take i self.old) × (rest ≡ drop i self.old)) }
+        ensures unchanged { OnErr result (self.new ≡ self.old) }
+    {
+        let mut rest = Block::new(alloc)?;
+        let mut rows = self.rows.split_off(i)?;
+        let _ = rest.rows.append(&mut rows);
+        let _ = rest.froms.extend_from_slice(&self.froms[i..]);
+        let _ = rest.tos.extend_from_slice(&self.tos[i..]);
+        self.froms.truncate(i);
+        self.tos.truncate(i);
+        Ok(rest)
+    }
+
+    /// Puts the versions of another block behind its own. It takes no memory.
+    pub fn append(&mut self, other: Block)
+        requires { length self.old + length other ≤ 256 }
+        ensures { self.new ≡ self.old ++ other }
+    {
+        let mut other = other;
+        let _ = self.rows.append(&mut other.rows);
+        let _ = self.froms.append(&mut other.froms);
+        let _ = self.tos.append(&mut other.tos);
+    }
+}

@@ -1,0 +1,237 @@
+//! Tables of numbered rows, each seek against what a filter of the rows gives.
+ghost use Rattle.std.specs.Prelude.{◌≡◌, ◌<◌};
+
+use crate::numbered::{Numbered, row_of};
+use ds_io::Steps;
+use ds_table::Table;
+use std::alloc::AllocError;
+use std::marker::Brand;
+use std::sync::ledger::{Blank, Ledger};
+use std::test::Fail;
+
+/// The number of a row of two bytes.
+fn number_of(row: &[u8]) -> Option<usize> {
+    if row.len() != 2 {
+        return None;
+    }
+    Some(row[0] as usize * 256 + row[1] as usize)
+}
+
+/// The least number from `from` on and below `below` whose row is seen at the stamp, sought with the hint `near`.
+fn found_near<L: Ledger>(
+    table: &Table,
+    at: u64,
+    from: usize,
+    below: usize,
+    near: u64,
+    steps: &mut Steps<L>,
+) -> Option<usize> {
+    if at < table.floor() || at == u64::MAX || from >= 65536 || below >= 65536 {
+        return None;
+    }
+    let mut near = near;
+    let first = row_of(from);
+    let end = row_of(below);
+    let view = table.view(at);
+    let found = view.seek_near(first.as_slice(), Some(end.as_slice()), &mut near, steps)?;
+    number_of(found)
+}
+
+/// The same without a hint and without an end.
+fn found<L: Ledger>(table: &Table, at: u64, from: usize, steps: &mut Steps<L>) -> Option<usize> {
+    if at < table.floor() || at == u64::MAX || from >= 65536 {
+        return None;
+    }
+    let first = row_of(from);
+    let view = table.view(at);
+    let found = view.seek(first.as_slice(), None, steps)?;
+    number_of(found)
+}
+
+/// What is seen from a number on of 1,000 rows that were added at 1, and of which the even ones were closed at 2.
+fn first_seen(at: u64, from: usize) -> Option<usize> {
+    match at {
+        0 => None,
+        1 => Some(from),
+        _ => Some(from | 1),
+    }
+}
+
+/// Each seek among these rows at the stamp finds the first one seen, with any hint, and none in an empty range.
+fn finds_each<L: Ledger>(table: &Table, at: u64, steps: &mut Steps<L>) -> bool {
+    for from in 0..1000usize {
+        let want = first_seen(at, from);
+        if found(table, at, from, steps) != want
+            || found_near(table, at, from, 1000, from as u64 % 20, steps) != want
+            || found_near(table, at, from, from, 0, steps).is_some()
+        {
+            return false;
+        }
+    }
+    true
+}
+
+fn finds_each_at_three<L: Ledger>(blank: Blank, table: &Table) -> bool
+    requires name { blank.name ≡ L.name }
+    requires parts { blank.parts ≡ L.parts }
+    requires some { 0 < blank.parts }
+{
+    let mut steps = Steps::<L>::new(blank);
+    finds_each(table, 0, &mut steps)
+        && finds_each(table, 1, &mut steps)
+        && finds_each(table, 2, &mut steps)
+}
+
+/// Adds the rows from `from` on and below `end` at the stamp.
+fn add_each(rows: &mut Numbered, from: usize, end: usize, stamp: u64) -> Result<bool, AllocError> {
+    for number in from..end {
+        if !rows.add(number, stamp)? {
+            return Ok(false);
+        }
+    }
+    Ok(true)
+}
+
+/// Adds 1,000 rows at 1, not in their order.
+fn add_scattered(rows: &mut Numbered) -> Result<bool, AllocError> {
+    for k in 0..1000usize {
+        if !rows.add(k * 7 % 1000, 1)? {
+            return Ok(false);
+        }
+    }
+    Ok(true)
+}
+
+/// Closes the even ones of 1,000 rows at 2.
+fn close_even(rows: &mut Numbered) -> bool {
+    for k in 0..500usize {
+        if !rows.close(2 * k, 2) {
+            return false;
+        }
+    }
+    true
+}
+
+#[test]
+fn seeks_among_a_thousand_rows(rt: HostRuntime) -> Result<(), Fail> {
+    let mut rows = Numbered::make(rt.alloc())?;
+    assert!(rt; add_scattered(&mut rows)?, "each row is new");
+    assert!(rt; close_even(&mut rows), "each row is there");
+    assert!(rt; rows.table.versions() == 1000);
+    assert!(rt; rows.table.blocks() <= 16, "few blocks");
+    assert!(rt; finds_each_at_three::<Brand>(Blank::new(1), &rows.table));
+    Ok(())
+}
+
+/// Row 5 lives three times, from 1 to 2, from 4 to 6, and from 6 on, and is added and closed only where it may be.
+fn live_three_times(rows: &mut Numbered) -> Result<bool, AllocError> {
+    Ok(
+        rows.add(5, 1)?
+            && !rows.add(5, 1)?
+            && rows.close(5, 2)
+            && !rows.close(5, 2)
+            && rows.add(5, 4)?
+            && rows.close(5, 6)
+            && rows.add(5, 6)?,
+    )
+}
+
+/// At each stamp from `first` on row 5 is seen where it lives.
+fn finds_three_lives<L: Ledger>(blank: Blank, table: &Table, first: u64) -> bool
+    requires name { blank.name ≡ L.name }
+    requires parts { blank.parts ≡ L.parts }
+    requires some { 0 < blank.parts }
+{
+    let mut steps = Steps::<L>::new(blank);
+    for at in first..8u64 {
+        let lives = at == 1 || at >= 4;
+        if found(table, at, 0, &mut steps) != lives.then_some(5) {
+            return false;
+        }
+    }
+    true
+}
+
+#[test]
+fn sees_each_of_three_lives(rt: HostRuntime) -> Result<(), Fail> {
+    let mut rows = Numbered::make(rt.alloc())?;
+    assert!(rt; live_three_times(&mut rows)?);
+    assert!(rt; finds_three_lives::<Brand>(Blank::new(1), &rows.table, 0));
+    assert!(rt; rows.table.versions() == 3);
+    assert!(rt; rows.trim(2));
+    assert!(rt; rows.table.versions() == 2);
+    assert!(rt; rows.table.floor() == 2);
+    assert!(rt; rows.trim(6));
+    assert!(rt; rows.table.versions() == 1);
+    assert!(rt;
+        finds_three_lives::<Brand>(Blank::new(1), &rows.table, 6),
+        "the last one"
+    );
+    Ok(())
+}
+
+/// Adds 600 rows at 1; at 2 closes the first half of them, adds 300 others, and adds one again that was closed.
+fn replace_half(rows: &mut Numbered) -> Result<bool, AllocError> {
+    if !add_each(rows, 0, 600, 1)? {
+        return Ok(false);
+    }
+    for k in 0..300usize {
+        if !rows.close(k, 2) {
+            return Ok(false);
+        }
+    }
+    Ok(add_each(rows, 600, 900, 2)? && rows.add(0, 2)?)
+}
+
+/// The rows below 600 are seen at 2, and no others.
+fn finds_the_first<L: Ledger>(blank: Blank, table: &Table) -> bool
+    requires name { blank.name ≡ L.name }
+    requires parts { blank.parts ≡ L.parts }
+    requires some { 0 < blank.parts }
+{
+    let mut steps = Steps::<L>::new(blank);
+    for from in 0..600usize {
+        if found(table, 2, from, &mut steps) != Some(from) {
+            return false;
+        }
+    }
+    found(table, 2, 600, &mut steps).is_none()
+}
+
+#[test]
+fn undoes_what_was_done_at_a_stamp(rt: HostRuntime) -> Result<(), Fail> {
+    let mut rows = Numbered::make(rt.alloc())?;
+    assert!(rt; replace_half(&mut rows)?);
+    assert!(rt; rows.table.versions() == 901);
+    assert!(rt; rows.undo(2));
+    assert!(rt; rows.table.versions() == 600);
+    assert!(rt; rows.table.blocks() <= 10, "few blocks");
+    assert!(rt; finds_the_first::<Brand>(Blank::new(1), &rows.table));
+    Ok(())
+}
+
+/// Closes all but each hundredth of 2,000 rows, the first half of them at 3 and the second at 4.
+fn close_most(rows: &mut Numbered) -> bool {
+    for k in 0..2000usize {
+        if k % 100 > 0 && !rows.close(k, 3 + k as u64 / 1000) {
+            return false;
+        }
+    }
+    true
+}
+
+#[test]
+fn trims_to_few_blocks(rt: HostRuntime) -> Result<(), Fail> {
+    let mut rows = Numbered::make(rt.alloc())?;
+    assert!(rt; add_each(&mut rows, 0, 2000, 1)?);
+    assert!(rt; close_most(&mut rows));
+    assert!(rt; rows.trim(3), "the first half");
+    assert!(rt; rows.table.versions() == 1010);
+    assert!(rt; rows.table.blocks() <= 16, "few blocks");
+    assert!(rt; rows.trim(4), "the rest");
+    assert!(rt; rows.table.versions() == 20);
+    assert!(rt; rows.table.blocks() == 1);
+    assert!(rt; rows.table.block_len(0) == Some(20));
+    assert!(rt; rows.table.block_len(1).is_none());
+    Ok(())
+}
