@@ -53,7 +53,7 @@ pub record CommitsAlone (w : World) (client : ℕ) (s : Session) (write : Write)
   pub committed : slice_get w.journal (n - 1) ≡ Some (record { client = client; touched = []; writes = write ∷ [] })
 
 -- a write is committed by itself outside a transaction, and put behind the others inside one, whose touch place is told; each id
--- of its key that is drawn from the counter raises the shown counter above it
+-- of its key that is 2^52 or more raises the shown counter above it
 abbrev pub WriteAnswers : World → ℕ → Session → Option Transaction → Write → KeyParts → WriteAt → Session → Type 0
 WriteAnswers w client s None write key (at.Commit n) after =
     CommitsAlone w client s write n × (after ≡ saw_next (next_above key.elems) (saw_place n s))
@@ -116,8 +116,8 @@ pub record ExpiredAnswers (w : World) (s : Session) (g : KeyParts) (applied m sn
 
 -- ---- counts
 
--- each printed count is no lower than what the session has seen and than a least one per shard, and no higher than the shard's list
--- is long
+-- shard by shard, the printed count is no lower than the session's count, no lower than the least one for that shard, and no higher than
+-- the shard's list is long
 abbrev pub CountsWithin : (ℕ → ℕ) → ℕ → List ℕ → List (List Entry) → List ℕ → Type 0
 CountsWithin least shard [] [] [] = ⊤
 CountsWithin least shard (c ∷ others) (entries ∷ lists) (count ∷ counts) =
@@ -130,7 +130,7 @@ pub record SettleAnswers (w : World) (s : Session) (m : ℕ) (counts : List ℕ)
   pub applied : CountsWithin (entries_up_to w m) 0 s.counts w.lists counts
   pub seen : after ≡ saw_counts w.lists counts (saw_place m s)
 
--- with true an entry was applied, one up to the place, and the count rose; with false all entries up to the place were applied before
+-- with true the count rose, to at most the shard's entries up to the place; with false it didn't fall, and is at least their number
 abbrev pub AppliedCount : Bool → ℕ → ℕ → ℕ → Type 0
 AppliedCount true before up_to count = (before < count) × (count ≤ up_to)
 AppliedCount false before up_to count = (before ≤ count) × (up_to ≤ count)
@@ -213,7 +213,7 @@ window_of search places = ending_at places.end where
 abbrev pub page_over : Search → Places → List EntityParts → Page
 page_over search places = result (normal_form search.query) (window_of search places)
 
--- the cursor of the next place, where it was asked for; a query of several branches has none
+-- the cursor of the next place, where it was asked for; a query with `!=` or `in` that asks for one is refused before
 abbrev pub cursor_of : Bool → List Branch → Option Place → Option (List ℕ)
 cursor_of true (q ∷ []) next = Some (cursor_text q next)
 cursor_of _ _ next = None

@@ -1,5 +1,5 @@
--- How many steps the answer of a branch over one shard may take: the rows of that of its conditions which has the fewest, and those
--- of versions that aren't seen. It is our own profile; the Datastore's documentation promises only that the time of a query goes
+-- How many steps the answer of a branch over one shard may take: each scan goes over at most the rows of the condition with the fewest,
+-- and over those of versions that aren't seen. It is our own profile; the Datastore's documentation promises only that its time goes
 -- with the size of its result.
 use Rattle.std.specs.Prelude.{ℕ, zero, suc, ◌+◌, ◌*◌, min, List, [], ◌∷◌, Option, Some, None, ◌==◌, not, cond, length, filter, map, sum_by}
 use Rattle.ds_base.specs.declared.column.Column.{Column}

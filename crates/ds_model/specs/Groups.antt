@@ -16,7 +16,7 @@ abbrev pub has_none : List Touch → Bool
 has_none [] = true
 has_none (t ∷ ts) = false
 
--- a group that isn't touched: a transaction of one group has room for it while it has none, another one below 25 groups
+-- a group that isn't touched: without the flag for several groups a second one is refused, and with it a group beyond 25
 abbrev pub new_group_refusal : Transaction → Option KeyParts → Option Body
 new_group_refusal t g =
     cond t.several_groups
@@ -27,8 +27,8 @@ abbrev pub unless_touched : Option ℕ → Option Body → Option Body
 unless_touched (Some place) refusal = None
 unless_touched None refusal = refusal
 
--- why the group of this root may not be touched: outside a transaction it always may. A new root, whose id isn't drawn yet, is
--- none; no transaction has touched it.
+-- why the group of this root may not be touched: outside a transaction it always may. A new root, whose id isn't drawn yet, is none: it
+-- counts as one that isn't touched, also where a read has touched the group of the id that will be drawn.
 abbrev pub group_refusal : Option Transaction → Option KeyParts → Option Body
 group_refusal None g = None
 group_refusal (Some t) None = new_group_refusal t None
@@ -52,7 +52,7 @@ pub record IsSeenPlace (journal : List Commit) (s : Session) (m : ℕ) : Type 0 
   pub seen : s.place ≤ m
   pub within : m ≤ length journal
 
--- where a group stands: at its touch place, which lies in the journal too, or at the place of its first touch
+-- where a group stands: at its touch place, which lies in the journal as every touch place does, or at the place of its first touch
 abbrev pub StandsAt : List Commit → Session → Option ℕ → ℕ → Type 0
 StandsAt journal s (Some place) m = (m ≡ place) × (m ≤ length journal)
 StandsAt journal s None m = IsSeenPlace journal s m

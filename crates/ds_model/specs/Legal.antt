@@ -100,7 +100,7 @@ accepted_in (body.Put key at) = counter_ids key.elems
 accepted_in (body.Delete key at) = counter_ids key.elems
 accepted_in _ = []
 
--- the accepted ids of a written key that are drawn from the counter
+-- the accepted ids of a written key that are 2^52 or more
 abbrev pub accepted : Reply → List ℕ
 accepted r = accepted_in r.body
 

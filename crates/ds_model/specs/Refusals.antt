@@ -84,7 +84,7 @@ abbrev pub IfUnrefused : Option Body → Type 0 → Type 0
 IfUnrefused None fact = fact
 IfUnrefused (Some refusal) fact = ⊤
 
--- the texts are cursors of the query's branch, the end's where the start's isn't refused; a query of several branches has none
+-- the texts are cursors of the query's branch, the end's where the start's isn't refused; with `!=` or `in` they are refused before
 abbrev pub PlacesRead : List Branch → Search → Places → Type 0
 PlacesRead (q ∷ []) search places =
     PlaceRead q search.start places.start × IfUnrefused (cursor_refusal field.Start places.start) (PlaceRead q search.end places.end)

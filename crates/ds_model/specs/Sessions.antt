@@ -87,7 +87,7 @@ saw_entries shard entries s = record s { counts = raised_at shard entries s.coun
 abbrev pub saw_next : ℕ → Session → Session
 saw_next next s = record s { next_id = max s.next_id next }
 
--- an accepted written id that is drawn from the counter raises the shown counter above it
+-- an accepted written id of 2^52 or more raises the shown counter above it
 abbrev pub next_above : List Elem → ℕ
 next_above = fold (λ next e. max next (above e.ident)) 0 where
   above : Ident → ℕ

@@ -7,7 +7,7 @@ use Rattle.ds_log.specs.declared.Entry.{Entry}
 use Rattle.ds_log.specs.Logs.{shard_list}
 
 -- the journal, one list of entries per shard, the index definitions, the number of shards, and the window of kept versions, a
--- number or none. Of a running store a list of entries may be longer than the journal's own part.
+-- number or none. Of a running store a list of entries may be longer or shorter than the journal's own part.
 pub record World : Type 0 where
   pub journal : List Commit
   pub lists : List (List Entry)
@@ -24,6 +24,6 @@ abbrev pub world_of : List IndexDef → ℕ → Option ℕ → List Commit → W
 world_of definitions shards window journal =
     record { journal = journal; lists = shard_lists shards journal; definitions = definitions; shards = shards; window = window }
 
--- how many entries a shard has up to a place
+-- how many entries the journal's first m commits give a shard
 abbrev pub entries_up_to : World → ℕ → ℕ → ℕ
 entries_up_to w m shard = length (shard_list (take m w.journal) shard w.shards)
