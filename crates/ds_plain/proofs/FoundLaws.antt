@@ -1,0 +1,45 @@
+-- The rows of a branch, entity by entity and way by way.
+use Rattle.std.proofs.Common.{◌≡◌, Bool, true, false, List, [], ◌∷◌, ◌++◌, map, cond, length, refl, sym, ap, ◌∙◌, append-nil}
+use Rattle.std.specs.Prelude.{filter, flat_map, All}
+use Rattle.std.proofs.lemmas.Grind.{flat_map-append}
+use Rattle.std.proofs.lemmas.List.Elements.{filter-append}
+use Rattle.ds_base.specs.Entities.{EntityParts}
+use Rattle.ds_base.specs.Keys.{KeyParts}
+use Rattle.ds_base.specs.declared.index_value.IndexValue.{IndexValue}
+use Rattle.ds_bytes.specs.Rows.{RowParts}
+use Rattle.ds_query.specs.declared.branch.Branch.{Branch}
+use Rattle.ds_model.specs.Rows.{rows, entity_rows, is_found, is_within, first_value}
+use Rattle.ds_plain.specs.declared.found.Found.{Found}
+use Rattle.ds_plain.specs.FoundRows.{found_parts, found_of}
+
+-- the rows of one entity that are in the range
+abbrev pub in_range : Branch → List RowParts → List RowParts
+in_range q = filter (λ row. is_within q.range (first_value row))
+
+-- one entity more: its rows where it counts
+pub rows_more : (q : Branch) (es : List EntityParts) (e : EntityParts)
+    → rows q (es ++ e ∷ []) ≡ rows q es ++ cond (is_found q e) (in_range q (entity_rows q.columns e)) []
+rows_more q es e =
+    ap (λ fs. in_range q (flat_map (entity_rows q.columns) fs)) (filter-append (is_found q) es (e ∷ []))
+    ∙ ap (in_range q) (flat_map-append (entity_rows q.columns) (filter (is_found q) es) (filter (is_found q) (e ∷ [])))
+    ∙ filter-append (λ row. is_within q.range (first_value row)) (flat_map (entity_rows q.columns) (filter (is_found q) es))
+    (flat_map (entity_rows q.columns) (filter (is_found q) (e ∷ [])))
+    ∙ ap (λ more. rows q es ++ more) (by (is_found q e)) where
+  by : (b : Bool) → in_range q (flat_map (entity_rows q.columns) (cond b (e ∷ []) [])) ≡ cond b (in_range q (entity_rows q.columns e)) []
+  by true = ap (in_range q) (append-nil (entity_rows q.columns e))
+  by false = refl
+
+-- rows without their places, through a test
+pub parts-filter : (p : RowParts → Bool) (fs : List Found) → map found_parts (filter (λ f. p (found_parts f)) fs) ≡ filter p (map found_parts fs)
+parts-filter p [] = refl
+parts-filter p (f ∷ fs) = by (p (found_parts f)) (parts-filter p fs) where
+  by : (b : Bool) → map found_parts (filter (λ f. p (found_parts f)) fs) ≡ filter p (map found_parts fs)
+      → map found_parts (cond b (f ∷ filter (λ f. p (found_parts f)) fs) (filter (λ f. p (found_parts f)) fs))
+      ≡ cond b (found_parts f ∷ filter p (map found_parts fs)) (filter p (map found_parts fs))
+  by true later = ap (λ rs. found_parts f ∷ rs) later
+  by false later = later
+
+pub parts-ways : (key : KeyParts) (ways : List (List IndexValue))
+    → map found_parts (map (found_of key) ways) ≡ map (λ vs. record { values = vs; key = key }) ways
+parts-ways key [] = refl
+parts-ways key (w ∷ ways) = ap (λ rs. found_parts (found_of key w) ∷ rs) (parts-ways key ways)
