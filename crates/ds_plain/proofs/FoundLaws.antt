@@ -1,11 +1,12 @@
 -- The rows of a branch, entity by entity and way by way.
 use Rattle.std.proofs.Common.{◌≡◌, Bool, true, false, List, [], ◌∷◌, ◌++◌, map, cond, length, refl, sym, ap, ◌∙◌, append-nil}
-use Rattle.std.specs.Prelude.{filter, flat_map, All}
+use Rattle.std.specs.Prelude.{filter, flat_map, All, slice_get, Some, None}
 use Rattle.std.proofs.lemmas.Grind.{flat_map-append}
 use Rattle.std.proofs.lemmas.List.Elements.{filter-append}
 use Rattle.ds_base.specs.Entities.{EntityParts}
 use Rattle.ds_base.specs.Keys.{KeyParts}
 use Rattle.ds_base.specs.declared.index_value.IndexValue.{IndexValue}
+use Rattle.ds_base.specs.declared.index_value.IndexValue.TheVariants.{Key}
 use Rattle.ds_bytes.specs.Rows.{RowParts}
 use Rattle.ds_query.specs.declared.branch.Branch.{Branch}
 use Rattle.ds_model.specs.Rows.{rows, entity_rows, is_found, is_within, first_value}
@@ -43,3 +44,13 @@ pub parts-ways : (key : KeyParts) (ways : List (List IndexValue))
     → map found_parts (map (found_of key) ways) ≡ map (λ vs. record { values = vs; key = key }) ways
 parts-ways key [] = refl
 parts-ways key (w ∷ ways) = ap (λ rs. found_parts (found_of key w) ∷ rs) (parts-ways key ways)
+
+-- the first value, where there is one
+pub first_is : (vs : List IndexValue) (k : KeyParts) (v : IndexValue) → slice_get vs 0 ≡ Some v
+    → first_value (record { values = vs; key = k }) ≡ v
+first_is [] k v e = absurd (cc e)
+first_is (w ∷ vs) k v e = cc
+
+pub first_is_key : (vs : List IndexValue) (k : KeyParts) → slice_get vs 0 ≡ None → first_value (record { values = vs; key = k }) ≡ Key k
+first_is_key [] k e = refl
+first_is_key (w ∷ vs) k e = absurd (cc e)

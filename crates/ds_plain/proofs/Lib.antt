@@ -1,2 +1,4 @@
+pub mod AnswerLaws
 pub mod FoundLaws
+pub mod LongLaws
 pub mod WayLaws

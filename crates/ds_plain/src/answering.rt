@@ -1,6 +1,7 @@
 //! The page of a query.
-ghost use Rattle.std.specs.Prelude.{◌≡◌, ◌++◌, ◌&&◌, map, filter, length, List, All, IfOk, OnOk, true, false};
+ghost use Rattle.std.specs.Prelude.{◌≡◌, ◌++◌, ◌&&◌, [], map, filter, length, List, All, IfOk, OnOk, true, false};
 ghost use Rattle.ds_base.specs.declared.column.Column.{Column};
+ghost use Rattle.ds_query.specs.Filters.{projected};
 ghost use Rattle.ds_query.specs.Lawful.{IsLawfulNormal};
 ghost use Rattle.ds_cursor.specs.RowsOfColumns.{key_descends};
 ghost use Rattle.ds_model.specs.Rows.{rows};
@@ -134,9 +135,19 @@ fn single(
 {
     let branch = &normal.branches.as_slice()[0];
     let rows = rows_between(alloc, entities, branch, window)?;
-    match &branch.select {
-        Select::Projection(names) => first_of_rows(alloc, rows, &branch.columns, names, window),
-        _ => first_of_rows(alloc, rows, &branch.columns, &Names::new(alloc), window),
+    let none = Names::new(alloc);
+    let names = projected(&branch.select, &none);
+    first_of_rows(alloc, rows, &branch.columns, names, window)
+}
+
+/// The names of a projection; none otherwise.
+fn projected<'a>(select: &'a Select, none: &'a Names) -> &'a Names
+    requires { none.now ≡ [] }
+    ensures { result.now ≡ projected select.now }
+{
+    match select {
+        Select::Projection(names) => names,
+        _ => none,
     }
 }
 

@@ -48,9 +48,8 @@ fn put_entity(
     branch: &Branch,
     found: &mut Vec<Found>,
 ) -> Result<(), NoMemory>
-    ensures rows { OnOk result (map found_parts found.new.items ≡ map found_parts found.old.items
+    ensures { OnOk result (map found_parts found.new.items ≡ map found_parts found.old.items
         ++ filter (λ row. is_within branch.now.range (first_value row)) (entity_rows branch.now.columns entity.now)) }
-    ensures long { All (IsLong branch.now.columns) found.old.items → OnOk result (All (IsLong branch.now.columns) found.new.items) }
 {
     let lists = value_lists(alloc, branch.columns.as_slice(), entity)?;
     for values in each_way(alloc, lists.as_slice())? {

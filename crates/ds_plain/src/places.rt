@@ -1,7 +1,7 @@
 //! The place of a row among columns.
 ghost use Rattle.std.specs.Prelude.{◌≡◌, ◌&&◌, ◌++◌, length, All, IfOk, OnOk};
 ghost use Rattle.ds_bytes.specs.Rows.{row_bytes, columns_bytes, IsRow};
-ghost use Rattle.ds_bytes.specs.Lawful.{IsLawfulValue};
+ghost use Rattle.ds_bytes.specs.Lawful.{IsValueOfBytes};
 ghost use Rattle.ds_cursor.specs.RowsOfColumns.{directions, key_descends};
 ghost use Rattle.ds_query.specs.Filters.{is_key_name};
 
@@ -85,7 +85,7 @@ fn put_values(
 ) -> Result<(), NoMemory>
     requires { length values.now ≡ length directions.now }
     ensures put { OnOk result (bytes.new.bytes ≡ bytes.old.bytes ++ columns_bytes directions.now values.now) }
-    ensures lawful { OnOk result (All IsLawfulValue values.now) }
+    ensures lawful { OnOk result (All IsValueOfBytes values.now) }
 {
     for slot in 0..values.len() {
         encode(&values[slot], directions[slot], bytes)?;

@@ -1,0 +1,73 @@
+-- Pages of a query, from those of its rows.
+use Rattle.std.proofs.Common.{◌≡◌, ℕ, Bool, true, false, List, [], ◌∷◌, ◌++◌, map, cond, length, get_or, refl, sym, ap, subst, ◌∙◌, append-nil, arith}
+use Rattle.std.specs.Prelude.{filter, flat_map, All}
+use Rattle.std.proofs.lemmas.List.{map-append}
+use Rattle.std.proofs.lemmas.List.Elements.{All-head}
+use Rattle.ds_base.specs.declared.column.Column.{Column}
+use Rattle.ds_base.specs.Entities.{EntityParts}
+use Rattle.ds_bytes.specs.Rows.{RowParts}
+use Rattle.ds_query.specs.declared.branch.Branch.{Branch}
+use Rattle.ds_query.specs.declared.branch.Normal.{Normal}
+use Rattle.ds_query.specs.declared.branch.Window.{Window}
+use Rattle.ds_query.specs.declared.row.Row.{Row}
+use Rattle.ds_query.specs.Filters.{projected}
+use Rattle.ds_query.specs.Lawful.{IsLawfulNormal}
+use Rattle.ds_model.specs.Rows.{rows}
+use Rattle.ds_model.specs.Results.{result, extended, united, first_rows, page_of, branch_results, is_between}
+use Rattle.ds_merge.specs.declared.merged.Merged.{Merged}
+use Rattle.ds_merge.specs.Merging.{placed, parts_of, merged_page, with_places}
+
+-- a row's place is told by the row
+parts-placed : (columns : List Column) (rs : List RowParts) → map parts_of (map (placed columns) rs) ≡ rs
+parts-placed columns [] = refl
+parts-placed columns (r ∷ rs) = ap (λ zs. r ∷ zs) (parts-placed columns rs)
+
+-- ---- several branches
+
+-- the rows of a branch in the merged columns, with their places
+abbrev pub branch_placed : List Column → List EntityParts → Branch → List Row
+branch_placed merged es q = map (placed merged) (map (extended merged q) (rows q es))
+
+parts-united : (merged : List Column) (es : List EntityParts) (qs : List Branch)
+    → map parts_of (flat_map (branch_placed merged es) qs) ≡ flat_map (λ q. map (extended merged q) (rows q es)) qs
+parts-united merged es [] = refl
+parts-united merged es (q ∷ qs) =
+    map-append parts_of (branch_placed merged es q) (flat_map (branch_placed merged es) qs)
+    ∙ (λ i. parts-placed merged (map (extended merged q) (rows q es)) i ++ parts-united merged es qs i)
+
+pub several_page : (n : Normal) (w : Window) (es : List EntityParts) (given : List Row) (m : Merged)
+    → n.several ≡ true → given ≡ flat_map (branch_placed n.merged es) n.branches → m ≡ merged_page n.merged [] w (map parts_of given)
+    → m ≡ with_places n.merged (result n w es)
+several_page n w es given m s all page =
+    page
+    ∙ ap (merged_page n.merged [] w) (ap (map parts_of) all ∙ parts-united n.merged es n.branches)
+    ∙ ap (λ b. with_places n.merged (page_of n.merged w
+    (cond b (first_rows n.merged [] (united n es)) (flat_map (λ q. branch_results q w.start w.end es) n.branches)))) (sym s)
+
+-- ---- one branch
+
+only : (bs : List Branch) (q : Branch) → length bs ≡ 1 → q ≡ get_or bs 0 q → bs ≡ q ∷ []
+only [] q one e = absurd (omega arith)
+only (b ∷ []) q one e = ap (λ z. z ∷ []) (sym e)
+only (b ∷ c ∷ bs) q one e = absurd (omega arith)
+
+pub single_page : (n : Normal) (w : Window) (es : List EntityParts) (q : Branch) (names : List (List ℕ)) (given : List Row) (m : Merged)
+    → IsLawfulNormal n → n.several ≡ false → q ≡ get_or n.branches 0 q → names ≡ projected q.select
+    → given ≡ map (placed q.columns) (filter (is_between q.columns w.start w.end) (rows q es))
+    → m ≡ merged_page q.columns names w (map parts_of given)
+    → m ≡ with_places n.merged (result n w es)
+single_page n w es q names given m lawful s first named all page =
+    let one : n.branches ≡ q ∷ [] = only n.branches q (lawful.single s) first in
+    let columns : q.columns ≡ n.merged =
+    All-head (λ (b : Branch). b.columns ≡ n.merged) q []
+    (subst (λ bs. All (λ (b : Branch). b.columns ≡ n.merged) bs) one (lawful.single_columns s)) in
+    let results : List RowParts = branch_results q w.start w.end es in
+    page
+    ∙ ap (merged_page q.columns names w)
+    (ap (map parts_of) all ∙ parts-placed q.columns (filter (is_between q.columns w.start w.end) (rows q es)))
+    ∙ ap (λ ns. merged_page q.columns ns w (filter (is_between q.columns w.start w.end) (rows q es))) named
+    ∙ ap (λ cs. with_places cs (page_of cs w results)) columns
+    ∙ ap (λ rs. with_places n.merged (page_of n.merged w rs)) (sym (append-nil results))
+    ∙ ap (λ bs. with_places n.merged (page_of n.merged w (flat_map (λ b. branch_results b w.start w.end es) bs))) (sym one)
+    ∙ ap (λ b. with_places n.merged (page_of n.merged w
+    (cond b (first_rows n.merged [] (united n es)) (flat_map (λ b. branch_results b w.start w.end es) n.branches)))) (sym s)
