@@ -72,7 +72,8 @@ where_false false h e = h
 -- the same, by what putting the mark into the set has told
 module _ (slots : List (Option ℕ)) (keys keys' : List Mark) (kept kept' done : List Row) (k : Kept slots keys kept done) (row : Row)
     (mark : Mark) (added : Bool) (is : mark ≡ mark_of slots row) (says : added ≡ not (list_any (is_at (mark_cmp mark)) keys)) where
-  pub kept_pushed : keys' ≡ insert_key mark_cmp keys mark → added ≡ true → kept' ≡ kept ++ row ∷ [] → Kept slots keys' kept' (done ++ row ∷ [])
+  pub kept_pushed : keys' ≡ insert_key mark_cmp keys mark → added ≡ true → kept' ≡ kept ++ row ∷ []
+      → Kept slots keys' kept' (done ++ row ∷ [])
   kept_pushed puts new_one pushed =
       let new : list_any (is_at (mark_cmp (mark_of slots row))) keys ≡ false =
       ap (λ m. list_any (is_at (mark_cmp m)) keys) (sym is) ∙ not_false (list_any (is_at (mark_cmp mark)) keys) (sym says ∙ new_one) in

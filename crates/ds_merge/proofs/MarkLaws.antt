@@ -1,5 +1,6 @@
 -- Two rows have one mark where their keys and their projected values are the same.
-use Rattle.std.proofs.Common.{◌≡◌, ℕ, ◌+◌, ◌≤◌, Bool, true, false, ◌&&◌, List, [], ◌∷◌, ◌++◌, map, cond, length, refl, sym, ap, subst, ◌∙◌, arith}
+use Rattle.std.proofs.Common.{◌≡◌, ℕ, ◌+◌, ◌≤◌, Bool, true, false, ◌&&◌, List, [], ◌∷◌, ◌++◌, map, cond, length}
+use Rattle.std.proofs.Common.{refl, sym, ap, subst, ◌∙◌, arith}
 use Rattle.std.proofs.Common.{append_assoc, append-nil, length-append, Option, Some, None, bytes_eq}
 use Rattle.std.specs.Prelude.{slice_get, unwrap_or, suc, zero}
 use Rattle.std.specs.Cmp.Lexicographic.{slice_cmp, pointwise}
@@ -41,7 +42,8 @@ stands : (name : List ℕ) (cs : List Column) (front vs : List IndexValue)
     → value_at (front ++ vs) (position_from (λ c. bytes_eq name c.name) (length front) cs) ≡ unwrap_or (value_named name cs vs) Null
 stands name [] front vs = refl
 stands name (c ∷ cs) front [] =
-    beyond (λ c. bytes_eq name c.name) (c ∷ cs) (front ++ []) (length front) (subst (λ ws. length ws ≤ length front) (sym (append-nil front)) (omega arith))
+    beyond (λ c. bytes_eq name c.name) (c ∷ cs) (front ++ []) (length front)
+    (subst (λ ws. length ws ≤ length front) (sym (append-nil front)) (omega arith))
 stands name (c ∷ cs) front (v ∷ vs) = by (bytes_eq name c.name) (stands name cs (front ++ v ∷ []) vs) where
   next : length (front ++ v ∷ []) ≡ length front + 1
   next = length-append front (v ∷ [])
@@ -79,7 +81,8 @@ pub is_same-placed : (columns : List Column) (names : List (List ℕ)) (x y : Ro
     → is_same (map (slot_of columns) names) (placed columns x) (placed columns y) ≡ same_mark columns names x y
 is_same-placed columns names x y =
     both (key_cmp x.key y.key)
-    (slice_cmp index_value_cmp (map (value_at x.values) (map (slot_of columns) names)) (map (value_at y.values) (map (slot_of columns) names)))
+    (slice_cmp index_value_cmp (map (value_at x.values) (map (slot_of columns) names))
+    (map (value_at y.values) (map (slot_of columns) names)))
     ∙ ap (λ b. is_eq (key_cmp x.key y.key) && b)
     ((λ i. is_eq (slice_cmp index_value_cmp (projected columns names x i) (projected columns names y i)))
     ∙ each (projected_values columns names x) (projected_values columns names y))

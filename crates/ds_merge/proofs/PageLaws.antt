@@ -50,7 +50,8 @@ page_is columns names w slots rows sorted kept m p where_they_stand up moved fir
     let last : m.next ≡ (merged_page columns names w (map parts_of rows)).next =
     next ∙ ap (λ ks. last_of w.start (at_most (plus_limit w.offset w.limit) ks)) are
     ∙ ap (last_of w.start) (at_most-map (placed columns) (plus_limit w.offset w.limit) firsts)
-    ∙ fold-map (λ (place : Option Place) (row : Row). Some row.place) (placed columns) w.start (at_most (plus_limit w.offset w.limit) firsts) in
+    ∙ fold-map (λ (place : Option Place) (row : Row). Some row.place) (placed columns) w.start
+    (at_most (plus_limit w.offset w.limit) firsts) in
     λ i. record { rows = given i; next = last i }
 
 -- two facts about a page that there is give a third one

@@ -14,7 +14,8 @@ use Rattle.ds_base.specs.KeyOrder.{bytes_cmp}
 use Rattle.ds_base.specs.KeyOrderLaws.{bytes_cmp-same}
 use Rattle.ds_base.specs.OrderLaws.{then-Equal}
 use Rattle.ds_base.specs.Sorting.{insert_by, sorted_by}
-use Rattle.ds_base.specs.SortingLaws.{NoneBefore, Ascends, Ascends-from_IsSorted, IsSorted-from_Ascends, IsPermutation-insert_by, IsPermutation-sorted_by, sorted_by-only}
+use Rattle.ds_base.specs.SortingLaws.{NoneBefore, Ascends, Ascends-from_IsSorted, IsSorted-from_Ascends, sorted_by-only}
+use Rattle.ds_base.specs.SortingLaws.{IsPermutation-insert_by, IsPermutation-sorted_by}
 use Rattle.ds_bytes.specs.Rows.{RowParts, IsRow}
 use Rattle.ds_bytes.specs.RowLaws.{row_bytes-ordered, row_bytes-reads_once}
 use Rattle.ds_cursor.specs.RowsOfColumns.{directions, key_descends}
@@ -52,20 +53,29 @@ module _ (columns : List Column) where
       ∙ sym ((row_bytes-ordered (directions columns) (key_descends columns)).compares x y [] [] p q)
       ∙ (λ i. bytes_cmp (append-nil (place_of columns x) i) (append-nil (place_of columns y) i))
 
+  -- what stands where a row of this place is put among others
+  abbrev put : Ordering → List ℕ → List ℕ → List (List ℕ) → List (List ℕ) → List (List ℕ)
+  put r x y ys later = match_ordering r (x ∷ y ∷ ys) (x ∷ y ∷ ys) (y ∷ later)
+
+  abbrev put_row : Ordering → RowParts → RowParts → List RowParts → List RowParts → List RowParts
+  put_row r x y ys later = match_ordering r (x ∷ y ∷ ys) (x ∷ y ∷ ys) (y ∷ later)
+
+  put_places : (r : Ordering) (x y : RowParts) (ys later : List RowParts) (ls : List (List ℕ)) → map (place_of columns) later ≡ ls
+      → map (place_of columns) (put_row r x y ys later) ≡ put r (place_of columns x) (place_of columns y) (map (place_of columns) ys) ls
+  put_places Less x y ys later ls e = refl
+  put_places Equal x y ys later ls e = refl
+  put_places Greater x y ys later ls e = ap (λ zs. place_of columns y ∷ zs) e
+
   inserted : (ys : List RowParts) (x : RowParts) → Lawful x → All Lawful ys
-      → map (place_of columns) (insert_by (compare_rows columns) ys x) ≡ insert_by bytes_cmp (map (place_of columns) ys) (place_of columns x)
+      → map (place_of columns) (insert_by (compare_rows columns) ys x)
+      ≡ insert_by bytes_cmp (map (place_of columns) ys) (place_of columns x)
   inserted [] x p all = refl
   inserted (y ∷ ys) x p all =
-      by (compare_rows columns x y) (inserted ys x p (All-tail Lawful y ys all))
-      ∙ ap (λ r. match_ordering r (place_of columns x ∷ place_of columns y ∷ map (place_of columns) ys) (place_of columns x ∷ place_of columns y ∷ map (place_of columns) ys) (place_of columns y ∷ insert_by bytes_cmp (map (place_of columns) ys) (place_of columns x)))
-      (compares x y p (All-head Lawful y ys all)) where
-        by : (r : Ordering)
-            → map (place_of columns) (insert_by (compare_rows columns) ys x) ≡ insert_by bytes_cmp (map (place_of columns) ys) (place_of columns x)
-            → map (place_of columns) (match_ordering r (x ∷ y ∷ ys) (x ∷ y ∷ ys) (y ∷ insert_by (compare_rows columns) ys x))
-            ≡ match_ordering r (place_of columns x ∷ place_of columns y ∷ map (place_of columns) ys) (place_of columns x ∷ place_of columns y ∷ map (place_of columns) ys) (place_of columns y ∷ insert_by bytes_cmp (map (place_of columns) ys) (place_of columns x))
-        by Less later = refl
-        by Equal later = refl
-        by Greater later = ap (λ zs. place_of columns y ∷ zs) later
+      let places : List (List ℕ) = map (place_of columns) ys in
+      let later : List (List ℕ) = insert_by bytes_cmp places (place_of columns x) in
+      put_places (compare_rows columns x y) x y ys (insert_by (compare_rows columns) ys x) later
+      (inserted ys x p (All-tail Lawful y ys all))
+      ∙ ap (λ r. put r (place_of columns x) (place_of columns y) places later) (compares x y p (All-head Lawful y ys all))
 
   folded : (done xs : List RowParts) → All Lawful done → All Lawful xs
       → map (place_of columns) (fold (insert_by (compare_rows columns)) done xs)
@@ -74,7 +84,8 @@ module _ (columns : List Column) where
   folded done (x ∷ xs) d all =
       let p = All-head Lawful x xs all in
       folded (insert_by (compare_rows columns) done x) xs
-      (All-permutation Lawful (x ∷ done) (insert_by (compare_rows columns) done x) (IsPermutation-insert_by (compare_rows columns) done x) (All-cons Lawful x done p d))
+      (All-permutation Lawful (x ∷ done) (insert_by (compare_rows columns) done x)
+      (IsPermutation-insert_by (compare_rows columns) done x) (All-cons Lawful x done p d))
       (All-tail Lawful x xs all)
       ∙ ap (λ zs. fold (insert_by bytes_cmp) zs (map (place_of columns) xs)) (inserted done x p d)
 
@@ -84,7 +95,8 @@ module _ (columns : List Column) where
   same_row x y p q e =
       let bytes : place_of columns (parts_of x) ≡ place_of columns (parts_of y) = sym (ap place p.place) ∙ e ∙ ap place q.place in
       p.place
-      ∙ ap (placed columns) (row_bytes-reads_once (directions columns) (key_descends columns) (parts_of x) (parts_of y) [] [] p.lawful q.lawful
+      ∙ ap (placed columns)
+      (row_bytes-reads_once (directions columns) (key_descends columns) (parts_of x) (parts_of y) [] [] p.lawful q.lawful
       (ap (λ b. b ++ []) bytes)).0
       ∙ sym q.place
 
@@ -127,9 +139,11 @@ module _ (columns : List Column) where
       let lawful : All Lawful parts = lawful_parts rows p in
       let all_sorted : All Lawful (sorted_by (compare_rows columns) parts) =
       All-permutation Lawful parts (sorted_by (compare_rows columns) parts) (IsPermutation-sorted_by (compare_rows columns) parts) lawful in
-      same_rows sorted (map (placed columns) (sorted_by (compare_rows columns) parts)) (All-permutation (IsPlaced columns) rows sorted moved p)
+      same_rows sorted (map (placed columns) (sorted_by (compare_rows columns) parts))
+      (All-permutation (IsPlaced columns) rows sorted moved p)
       (placed_parts (sorted_by (compare_rows columns) parts) all_sorted)
-      (sorted_by-only nat_list_cmp_total bytes_cmp-same (map place rows) (map place sorted) (places_sorted sorted up) (IsPermutation-map place rows sorted moved)
+      (sorted_by-only nat_list_cmp_total bytes_cmp-same (map place rows) (map place sorted) (places_sorted sorted up)
+      (IsPermutation-map place rows sorted moved)
       ∙ ap (sorted_by bytes_cmp) (places_of_parts rows p)
       ∙ sym (folded [] parts (All-nil Lawful) lawful)
       ∙ sym (places_placed (sorted_by (compare_rows columns) parts)))

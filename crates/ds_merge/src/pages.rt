@@ -13,7 +13,8 @@ use std::alloc::Global;
 /// taken.
 pub(crate) fn page(alloc: Global, firsts: Vec<Row>, window: &Window) -> Result<Merged, NoMemory>
     ensures rows { IfOk result (λ m. m.rows ≡ at_most window.now.limit (drop window.now.offset firsts.items)) }
-    ensures next { IfOk result (λ m. m.next ≡ last_of window.now.start (at_most (plus_limit window.now.offset window.now.limit) firsts.items)) }
+    ensures next { IfOk result (λ m. m.next
+        ≡ last_of window.now.start (at_most (plus_limit window.now.offset window.now.limit) firsts.items)) }
 {
     let seen = seen(firsts, window);
     let next = next_place(alloc, seen.as_slice(), &window.start)?;

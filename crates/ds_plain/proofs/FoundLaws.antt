@@ -26,12 +26,14 @@ rows_more q es e =
     ∙ filter-append (λ row. is_within q.range (first_value row)) (flat_map (entity_rows q.columns) (filter (is_found q) es))
     (flat_map (entity_rows q.columns) (filter (is_found q) (e ∷ [])))
     ∙ ap (λ more. rows q es ++ more) (by (is_found q e)) where
-  by : (b : Bool) → in_range q (flat_map (entity_rows q.columns) (cond b (e ∷ []) [])) ≡ cond b (in_range q (entity_rows q.columns e)) []
-  by true = ap (in_range q) (append-nil (entity_rows q.columns e))
-  by false = refl
+      by : (b : Bool)
+      → in_range q (flat_map (entity_rows q.columns) (cond b (e ∷ []) [])) ≡ cond b (in_range q (entity_rows q.columns e)) []
+      by true = ap (in_range q) (append-nil (entity_rows q.columns e))
+      by false = refl
 
 -- rows without their places, through a test
-pub parts-filter : (p : RowParts → Bool) (fs : List Found) → map found_parts (filter (λ f. p (found_parts f)) fs) ≡ filter p (map found_parts fs)
+pub parts-filter : (p : RowParts → Bool) (fs : List Found)
+    → map found_parts (filter (λ f. p (found_parts f)) fs) ≡ filter p (map found_parts fs)
 parts-filter p [] = refl
 parts-filter p (f ∷ fs) = by (p (found_parts f)) (parts-filter p fs) where
   by : (b : Bool) → map found_parts (filter (λ f. p (found_parts f)) fs) ≡ filter p (map found_parts fs)

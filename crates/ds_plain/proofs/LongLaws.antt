@@ -66,7 +66,8 @@ entities_long columns (e ∷ es) =
 
 rows_long : (q : Branch) (es : List EntityParts) → All (IsLongRow q.columns) (rows q es)
 rows_long q es =
-    All-filter (λ row. is_within q.range (first_value row)) (IsLongRow q.columns) (flat_map (entity_rows q.columns) (filter (is_found q) es))
+    All-filter (λ row. is_within q.range (first_value row)) (IsLongRow q.columns)
+    (flat_map (entity_rows q.columns) (filter (is_found q) es))
     (entities_long q.columns (filter (is_found q) es))
 
 of_parts : (columns : List Column) (fs : List Found) → All (IsLongRow columns) (map found_parts fs) → All (IsLong columns) fs

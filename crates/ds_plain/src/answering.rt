@@ -49,7 +49,8 @@ pub fn answer_of(
     window: &Window,
 ) -> Result<Plain, NoMemory>
     requires lawful { IsLawfulNormal normal.now }
-    ensures { IfOk result (λ p. page_parts p ≡ with_places normal.now.merged (result normal.now window.now (map (λ e. e.now) entities.now))) }
+    ensures { IfOk result (λ p. page_parts p
+        ≡ with_places normal.now.merged (result normal.now window.now (map (λ e. e.now) entities.now))) }
 {
     let page = if normal.several {
         several(alloc, entities, normal, window)?
@@ -75,7 +76,14 @@ fn several(
     let directions = directions_of(alloc, normal.merged.as_slice())?;
     let mut rows = Vec::new(alloc);
     for branch in normal.branches.as_slice() {
-        put_extended(alloc, entities, branch, &normal.merged, &directions, &mut rows)?;
+        put_extended(
+            alloc,
+            entities,
+            branch,
+            &normal.merged,
+            &directions,
+            &mut rows,
+        )?;
     }
     first_of_rows(alloc, rows, &normal.merged, &Names::new(alloc), window)
 }

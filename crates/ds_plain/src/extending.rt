@@ -30,7 +30,10 @@ pub fn extended(
         }
     }
     let values = IndexValues::from(values);
-    Ok(Found { key: row.key, values })
+    Ok(Found {
+        key: row.key,
+        values,
+    })
 }
 
 fn value_for(

@@ -1,6 +1,7 @@
 //! Which entities count for a branch, and which values are in its range.
 ghost use Rattle.std.specs.Prelude.{◌≡◌, IfOk};
-ghost use Rattle.std.specs.List.{list_all};
+ghost use Rattle.std.specs.List.{list_all, list_any};
+ghost use Rattle.std.specs.Ordering.{is_eq};
 ghost use Rattle.ds_base.specs.IndexOrder.{index_value_cmp};
 ghost use Rattle.ds_base.specs.declared.index_value.IndexValue.TheVariants as index;
 ghost use Rattle.ds_model.specs.Rows.{is_of_kind, is_under, has_value, is_found, is_above, is_below, is_within};
@@ -71,7 +72,13 @@ fn has_value(alloc: Global, entity: &Entity, pair: &Pair) -> Result<bool, NoMemo
     ensures { IfOk result (λ has. has ≡ has_value entity.now pair.now) }
 {
     let values = indexed_values(alloc, entity, &pair.property)?;
-    Ok(values.as_slice().iter().any(|value| *value == pair.value))
+    Ok(contains(values.as_slice(), &pair.value))
+}
+
+fn contains(values: &[IndexValue], value: &IndexValue) -> bool
+    ensures { result ≡ list_any (λ v. is_eq (index_value_cmp v value.now)) values.now }
+{
+    values.iter().any(|held| *held == *value)
 }
 
 /// Whether one value meets both bounds.

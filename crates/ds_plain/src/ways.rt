@@ -7,10 +7,7 @@ use ds_base::{IndexValue, IndexValues, NoMemory, TryCopy};
 use std::alloc::Global;
 
 /// Each way to take one value of each list, the last varying fastest.
-pub(crate) fn each_way(
-    alloc: Global,
-    lists: &[IndexValues],
-) -> Result<Vec<IndexValues>, NoMemory>
+pub(crate) fn each_way(alloc: Global, lists: &[IndexValues]) -> Result<Vec<IndexValues>, NoMemory>
     ensures { IfOk result (λ ways. ways.items ≡ each_way lists.now) }
 {
     let mut ways = Vec::with_capacity(alloc, 1)?;

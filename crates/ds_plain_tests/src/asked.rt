@@ -37,7 +37,10 @@ pub(crate) fn query(alloc: Global, text: &str) -> Result<Query, NoMemory> {
             "" => {}
             "asc" => orders = order(alloc, false)?,
             "desc" => orders = order(alloc, true)?,
-            op => put(&mut filters, filter(alloc, op, words.next().unwrap_or("0"))?)?,
+            op => put(
+                &mut filters,
+                filter(alloc, op, words.next().unwrap_or("0"))?,
+            )?,
         }
     }
     Ok(Query {

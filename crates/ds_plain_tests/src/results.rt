@@ -73,7 +73,12 @@ fn show_normal(
 }
 
 /// What a query finds, all of it or page after page.
-fn shown(alloc: Global, written: &str, asked: &str, page: Option<(u32, u32)>) -> Result<String, Fail> {
+fn shown(
+    alloc: Global,
+    written: &str,
+    asked: &str,
+    page: Option<(u32, u32)>,
+) -> Result<String, Fail> {
     let mut shown = String::new(alloc);
     let entities = entities(alloc, written)?;
     let query = query(alloc, asked)?;
@@ -94,7 +99,8 @@ const MANY: &str = "b:4,5,6,7 a:1,9";
 const FEW: &str = "c:3 b:4 a:1,5";
 
 /// The numbers from 1 to 30.
-const THIRTY: &str = "in 1,2,3,4,5,6,7,8,9,10,11,12,13,14,15,16,17,18,19,20,21,22,23,24,25,26,27,28,29,30";
+const THIRTY: &str =
+    "in 1,2,3,4,5,6,7,8,9,10,11,12,13,14,15,16,17,18,19,20,21,22,23,24,25,26,27,28,29,30";
 
 /// Entities, queries, a page's offset and limit where there is one, and the keys that are found.
 const FOUND: [(&str, &str, Option<(u32, u32)>, &str); 16] = [

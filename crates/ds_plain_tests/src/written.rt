@@ -1,7 +1,7 @@
 //! Entities from text: `a:1,9 b:4` has the key `[["T", "a"]]` with the numbers 1 and 9 of the property `v`, and another one.
 use ds_base::{
-    Elem, Elems, Entities, Entity, Ident, Key, NoMemory, Properties, Property, Sequence, TextString, Value,
-    Values,
+    Elem, Elems, Entities, Entity, Ident, Key, NoMemory, Properties, Property, Sequence,
+    TextString, Value, Values,
 };
 use std::alloc::{AllocError, Global};
 use std::test::Fail;

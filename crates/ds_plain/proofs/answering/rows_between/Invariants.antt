@@ -10,7 +10,8 @@ use Rattle.ds_plain.proofs.answering.rows_between.Given as goal
 abbrev pub invariant-loop-found : goal.invariant-loop-found
 invariant-loop-found l = record {
   rows : l.rows.items
-      ++ map (placed l.branch.columns) (filter (is_between l.branch.columns l.window.start l.window.end) (map found_parts l.found-iterator.rest.items))
+      ++ map (placed l.branch.columns)
+      (filter (is_between l.branch.columns l.window.start l.window.end) (map found_parts l.found-iterator.rest.items))
       ≡ map (placed l.branch.columns)
       (filter (is_between l.branch.columns l.window.start l.window.end) (rows l.branch (map (λ e. e.now) l.entities)));
   placed : All (IsPlaced l.branch.columns) l.rows.items;

@@ -8,6 +8,7 @@ use Rattle.ds_plain.proofs.found.put_entity.Given as goal
 
 abbrev pub invariant-loop-values : goal.invariant-loop-values
 invariant-loop-values l =
-    l.found.items ++ filter (λ f. is_within l.branch.range (first_value (found_parts f))) (map (found_of l.entity.key) l.values-iterator.rest.items)
+    l.found.items
+    ++ filter (λ f. is_within l.branch.range (first_value (found_parts f))) (map (found_of l.entity.key) l.values-iterator.rest.items)
     ≡ l.initial.found.items
     ++ filter (λ f. is_within l.branch.range (first_value (found_parts f))) (map (found_of l.entity.key) (each_way l.lists.items))
