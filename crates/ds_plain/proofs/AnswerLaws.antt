@@ -3,7 +3,8 @@ use Rattle.std.proofs.Common.{◌≡◌, ℕ, Bool, true, false, List, [], ◌�
 use Rattle.std.proofs.Common.{refl, sym, ap, subst, ◌∙◌, append-nil, arith}
 use Rattle.std.specs.Prelude.{filter, flat_map, All}
 use Rattle.std.proofs.lemmas.List.{map-append}
-use Rattle.std.proofs.lemmas.List.Elements.{All-head}
+use Rattle.std.proofs.lemmas.Grind.{flat_map-append}
+use Rattle.std.proofs.lemmas.List.Elements.{All-head, All-append}
 use Rattle.ds_base.specs.declared.column.Column.{Column}
 use Rattle.ds_base.specs.Entities.{EntityParts}
 use Rattle.ds_bytes.specs.Rows.{RowParts}
@@ -16,7 +17,8 @@ use Rattle.ds_query.specs.Lawful.{IsLawfulNormal}
 use Rattle.ds_model.specs.Rows.{rows}
 use Rattle.ds_model.specs.Results.{result, extended, united, first_rows, page_of, branch_results, is_between}
 use Rattle.ds_merge.specs.declared.merged.Merged.{Merged}
-use Rattle.ds_merge.specs.Merging.{placed, parts_of, merged_page, with_places}
+use Rattle.ds_merge.specs.Merging.{IsPlaced, all_rows, placed, parts_of, merged_page, with_places}
+use Rattle.ds_plain.specs.Answers.{branch_list}
 
 -- a row's place is told by the row
 parts-placed : (columns : List Column) (rs : List RowParts) → map parts_of (map (placed columns) rs) ≡ rs
@@ -25,25 +27,29 @@ parts-placed columns (r ∷ rs) = ap (λ zs. r ∷ zs) (parts-placed columns rs)
 
 -- ---- several branches
 
--- the rows of a branch in the merged columns, with their places
-abbrev pub branch_placed : List Column → List EntityParts → Branch → List Row
-branch_placed merged es q = map (placed merged) (map (extended merged q) (rows q es))
-
 parts-united : (merged : List Column) (es : List EntityParts) (qs : List Branch)
-    → map parts_of (flat_map (branch_placed merged es) qs) ≡ flat_map (λ q. map (extended merged q) (rows q es)) qs
+    → map parts_of (all_rows (map (branch_list merged es) qs)) ≡ flat_map (λ q. map (extended merged q) (rows q es)) qs
 parts-united merged es [] = refl
 parts-united merged es (q ∷ qs) =
-    map-append parts_of (branch_placed merged es q) (flat_map (branch_placed merged es) qs)
+    map-append parts_of (branch_list merged es q) (all_rows (map (branch_list merged es) qs))
     ∙ (λ i. parts-placed merged (map (extended merged q) (rows q es)) i ++ parts-united merged es qs i)
 
-pub several_page : (n : Normal) (w : Window) (es : List EntityParts) (given : List Row) (m : Merged)
-    → n.several ≡ true → given ≡ flat_map (branch_placed n.merged es) n.branches → m ≡ merged_page n.merged [] w (map parts_of given)
+pub several_page : (n : Normal) (w : Window) (es : List EntityParts) (lists : List (List Row)) (m : Merged)
+    → n.several ≡ true → lists ≡ map (branch_list n.merged es) n.branches → m ≡ merged_page n.merged [] w (map parts_of (all_rows lists))
     → m ≡ with_places n.merged (result n w es)
-several_page n w es given m s all page =
+several_page n w es lists m s all page =
     page
-    ∙ ap (merged_page n.merged [] w) (ap (map parts_of) all ∙ parts-united n.merged es n.branches)
+    ∙ ap (merged_page n.merged [] w) (ap (λ ls. map parts_of (all_rows ls)) all ∙ parts-united n.merged es n.branches)
     ∙ ap (λ b. with_places n.merged (page_of n.merged w
     (cond b (first_rows n.merged [] (united n es)) (flat_map (λ q. branch_results q w.start w.end es) n.branches)))) (sym s)
+
+-- the rows of one list more are placed
+pub placed_more : (columns : List Column) (lists : List (List Row)) (list : List Row)
+    → All (IsPlaced columns) (all_rows lists) → All (IsPlaced columns) list → All (IsPlaced columns) (all_rows (lists ++ list ∷ []))
+placed_more columns lists list before new =
+    subst (λ rs. All (IsPlaced columns) rs)
+    (sym (flat_map-append (λ (rs : List Row). rs) lists (list ∷ []) ∙ ap (λ rs. all_rows lists ++ rs) (append-nil list)))
+    (All-append (IsPlaced columns) (all_rows lists) list before new)
 
 -- ---- one branch
 

@@ -17,19 +17,36 @@ use Rattle.ds_plain.specs.FoundRows.{found_parts, found_of}
 abbrev pub in_range : Branch → List RowParts → List RowParts
 in_range q = filter (λ row. is_within q.range (first_value row))
 
+counted : (q : Branch) (e : EntityParts) (b : Bool)
+    → in_range q (flat_map (entity_rows q.columns) (cond b (e ∷ []) [])) ≡ cond b (in_range q (entity_rows q.columns e)) []
+counted q e true = ap (in_range q) (append-nil (entity_rows q.columns e))
+counted q e false = refl
+
 -- one entity more: its rows where it counts
-pub rows_more : (q : Branch) (es : List EntityParts) (e : EntityParts)
+rows_more : (q : Branch) (es : List EntityParts) (e : EntityParts)
     → rows q (es ++ e ∷ []) ≡ rows q es ++ cond (is_found q e) (in_range q (entity_rows q.columns e)) []
 rows_more q es e =
     ap (λ fs. in_range q (flat_map (entity_rows q.columns) fs)) (filter-append (is_found q) es (e ∷ []))
     ∙ ap (in_range q) (flat_map-append (entity_rows q.columns) (filter (is_found q) es) (filter (is_found q) (e ∷ [])))
     ∙ filter-append (λ row. is_within q.range (first_value row)) (flat_map (entity_rows q.columns) (filter (is_found q) es))
     (flat_map (entity_rows q.columns) (filter (is_found q) (e ∷ [])))
-    ∙ ap (λ more. rows q es ++ more) (by (is_found q e)) where
-      by : (b : Bool)
-      → in_range q (flat_map (entity_rows q.columns) (cond b (e ∷ []) [])) ≡ cond b (in_range q (entity_rows q.columns e)) []
-      by true = ap (in_range q) (append-nil (entity_rows q.columns e))
-      by false = refl
+    ∙ ap (λ more. rows q es ++ more) (counted q e (is_found q e))
+
+-- the same, by what was found of the entity
+pub rows_put : (q : Branch) (es more : List EntityParts) (e : EntityParts) (fs gs : List Found)
+    → more ≡ es ++ e ∷ [] → true ≡ is_found q e → map found_parts fs ≡ rows q es
+    → map found_parts gs ≡ map found_parts fs ++ in_range q (entity_rows q.columns e)
+    → map found_parts gs ≡ rows q more
+rows_put q es more e fs gs all counts so_far put =
+    put ∙ ap (λ rs. rs ++ in_range q (entity_rows q.columns e)) so_far
+    ∙ ap (λ b. rows q es ++ cond b (in_range q (entity_rows q.columns e)) []) counts
+    ∙ sym (rows_more q es e) ∙ ap (rows q) (sym all)
+
+pub rows_left : (q : Branch) (es more : List EntityParts) (e : EntityParts) (fs : List Found)
+    → more ≡ es ++ e ∷ [] → false ≡ is_found q e → map found_parts fs ≡ rows q es → map found_parts fs ≡ rows q more
+rows_left q es more e fs all counts so_far =
+    so_far ∙ sym (append-nil (rows q es)) ∙ ap (λ b. rows q es ++ cond b (in_range q (entity_rows q.columns e)) []) counts
+    ∙ sym (rows_more q es e) ∙ ap (rows q) (sym all)
 
 -- rows without their places, through a test
 pub parts-filter : (p : RowParts → Bool) (fs : List Found)

@@ -3,20 +3,20 @@ ghost use Rattle.std.specs.Prelude.{◌≡◌, ◌++◌, ◌&&◌, [], map, filt
 ghost use Rattle.ds_base.specs.declared.column.Column.{Column};
 ghost use Rattle.ds_query.specs.Filters.{projected};
 ghost use Rattle.ds_query.specs.Lawful.{IsLawfulNormal};
-ghost use Rattle.ds_cursor.specs.RowsOfColumns.{key_descends};
+ghost use Rattle.ds_cursor.specs.RowsOfColumns.{directions, key_descends};
 ghost use Rattle.ds_model.specs.Rows.{rows};
-ghost use Rattle.ds_model.specs.Results.{result, extended, is_between, is_after, is_up_to};
-ghost use Rattle.ds_merge.specs.Merging.{IsPlaced, placed, with_places};
+ghost use Rattle.ds_model.specs.Results.{result, is_between, is_after, is_up_to};
+ghost use Rattle.ds_merge.specs.Merging.{IsPlaced, all_rows, placed, with_places};
 ghost use Rattle.ds_plain.specs.FoundRows.{found_parts};
-ghost use Rattle.ds_plain.specs.Answers.{page_parts, value_directions};
+ghost use Rattle.ds_plain.specs.Answers.{page_parts, branch_list};
 
 use crate::extending::extended;
 use crate::found::{Found, found_rows};
 use crate::places::{Directions, directions_of, place_of};
 use crate::plain::Plain;
 use ds_base::{Columns, Entities, Entity, Names, NoMemory};
-use ds_merge::{Merged, first_of_rows};
-use ds_query::{Branch, Normal, Place, Row, Select, Window};
+use ds_merge::{Merged, first_of_rows, merge};
+use ds_query::{Branch, Normal, Place, Row, RowList, RowLists, Select, Window};
 use std::alloc::Global;
 use std::cmp::Ordering;
 
@@ -73,47 +73,55 @@ fn several(
     requires several { normal.now.several ≡ true }
     ensures { IfOk result (λ m. m ≡ with_places normal.now.merged (result normal.now window.now (map (λ e. e.now) entities.now))) }
 {
-    let directions = directions_of(alloc, normal.merged.as_slice())?;
-    let mut rows = Vec::new(alloc);
-    for branch in normal.branches.as_slice() {
-        put_extended(
-            alloc,
-            entities,
-            branch,
-            &normal.merged,
-            &directions,
-            &mut rows,
-        )?;
-    }
-    first_of_rows(alloc, rows, &normal.merged, &Names::new(alloc), window)
+    let lists = branch_lists(alloc, entities, normal)?;
+    merge(alloc, lists, &normal.merged, &Names::new(alloc), window)
 }
 
-/// Puts the rows of a branch in the merged columns, with their places.
-fn put_extended(
+/// The rows of each branch in the merged columns, with their places there: what `merge` unites. Where a column is none of the
+/// branch's its value is the least that the branch asks of the property. The lists stand in no order. A refusal is want of memory.
+pub fn branch_lists(
+    alloc: Global,
+    entities: &[&Entity],
+    normal: &Normal,
+) -> Result<RowLists, NoMemory>
+    ensures rows { IfOk result (λ lists. lists
+        ≡ map (branch_list normal.now.merged (map (λ e. e.now) entities.now)) normal.now.branches) }
+    ensures placed { IfOk result (λ lists. All (IsPlaced normal.now.merged) (all_rows lists)) }
+{
+    let directions = directions_of(alloc, normal.merged.as_slice())?;
+    let mut lists = Vec::with_capacity(alloc, normal.branches.len())?;
+    for branch in normal.branches.as_slice() {
+        let list = branch_list(alloc, entities, branch, &normal.merged, &directions)?;
+        lists.push(list)?;
+    }
+    Ok(RowLists::from(lists))
+}
+
+/// The rows of a branch in the merged columns, with their places.
+fn branch_list(
     alloc: Global,
     entities: &[&Entity],
     branch: &Branch,
     merged: &Columns,
     directions: &Directions,
-    rows: &mut Vec<Row>,
-) -> Result<(), NoMemory>
-    requires values { directions.now.values.items ≡ value_directions merged.now }
+) -> Result<RowList, NoMemory>
+    requires values { directions.now.values.items ≡ directions merged.now }
     requires key { directions.now.key ≡ key_descends merged.now }
-    ensures rows { OnOk result (rows.new.items ≡ rows.old.items
-        ++ map (placed merged.now) (map (extended merged.now branch.now) (rows branch.now (map (λ e. e.now) entities.now)))) }
-    ensures placed { All (IsPlaced merged.now) rows.old.items → OnOk result (All (IsPlaced merged.now) rows.new.items) }
+    ensures rows { IfOk result (λ list. list ≡ branch_list merged.now (map (λ e. e.now) entities.now) branch.now) }
+    ensures placed { IfOk result (λ list. All (IsPlaced merged.now) list) }
 {
+    let mut rows = Vec::new(alloc);
     for found in found_rows(alloc, entities, branch)? {
         let row = extended(alloc, merged.as_slice(), branch, found)?;
         rows.push(placed(alloc, directions, row)?)?;
     }
-    Ok(())
+    Ok(RowList::from(rows))
 }
 
 /// The row with its place.
 fn placed(alloc: Global, directions: &Directions, row: Found) -> Result<Row, NoMemory>
     requires { length row.values ≡ length directions.now.values.items }
-    ensures { (columns : List Column) → directions.now.values.items ≡ value_directions columns → directions.now.key ≡ key_descends columns
+    ensures { (columns : List Column) → directions.now.values.items ≡ directions columns → directions.now.key ≡ key_descends columns
         → IfOk result (λ r. (r ≡ placed columns (found_parts row)) × IsPlaced columns r) }
 {
     let place = place_of(

@@ -14,7 +14,7 @@ mod places;
 pub mod plain;
 mod ways;
 
-pub use answering::{answer, answer_of};
+pub use answering::{answer, answer_of, branch_lists};
 pub use extending::extended;
 pub use found::{Found, found_rows};
 pub use plain::Plain;
