@@ -3,13 +3,14 @@ ghost use Rattle.ds_query.specs.Lawful.{IsLawfulNormal};
 
 use crate::asked::query;
 use crate::written::entities;
-use ds_base::{Entities, Ident, Key, NoMemory};
-use ds_plain::{Plain, answer};
+use ds_base::{Entities, Ident, Key, Names, NoMemory};
+use ds_merge::merge;
+use ds_plain::{Plain, answer, branch_lists};
 use ds_query::{Normal, Place, Row, Window, normalize};
 use std::alloc::Global;
 use std::test::Fail;
 
-fn window(start: Option<Place>, offset: u32, limit: Option<u32>) -> Window {
+fn from(start: Option<Place>, offset: u32, limit: Option<u32>) -> Window {
     Window {
         start,
         end: None,
@@ -36,21 +37,59 @@ fn show_rows(rows: &[Row], onto: &mut String) -> Result<(), NoMemory> {
     Ok(())
 }
 
+/// The keys of the lists of the branches, united.
+fn show_merged(
+    alloc: Global,
+    entities: &Entities,
+    normal: &Normal,
+    window: &Window,
+    onto: &mut String,
+) -> Result<(), NoMemory> {
+    let mut lent = Vec::with_capacity(alloc, entities.len())?;
+    for entity in entities.as_slice() {
+        lent.push(entity)?;
+    }
+    let lists = branch_lists(alloc, lent.as_slice(), normal)?;
+    let merged = merge(alloc, lists, &normal.merged, &Names::new(alloc), window)?;
+    show_rows(merged.rows.as_slice(), onto)
+}
+
+/// The keys of a page that begins with the first result, found by sorting one list and by uniting those of the branches.
+fn show_first(
+    alloc: Global,
+    entities: &Entities,
+    normal: &Normal,
+    window: &Window,
+    onto: &mut String,
+) -> Result<Plain, NoMemory>
+    requires { IsLawfulNormal normal.now }
+{
+    let found = answer(alloc, entities, normal, window)?;
+    let mut keys = String::new(alloc);
+    show_rows(found.rows.as_slice(), &mut keys)?;
+    let mut united = String::new(alloc);
+    show_merged(alloc, entities, normal, window, &mut united)?;
+    onto.push_str(keys.as_str())?;
+    if keys.as_str() != united.as_str() {
+        onto.push_str(" or")?;
+        onto.push_str(united.as_str())?;
+    }
+    Ok(found)
+}
+
 /// The keys of a page, and those of all that follows it.
 fn show_pages(
     alloc: Global,
     entities: &Entities,
     normal: &Normal,
-    offset: u32,
-    limit: u32,
+    window: &Window,
     onto: &mut String,
 ) -> Result<(), NoMemory>
     requires { IsLawfulNormal normal.now }
 {
-    let first = answer(alloc, entities, normal, &window(None, offset, Some(limit)))?;
-    show_rows(first.rows.as_slice(), onto)?;
+    let first = show_first(alloc, entities, normal, window, onto)?;
     onto.push_str(" |")?;
-    let second = answer(alloc, entities, normal, &window(first.next, 0, None))?;
+    let second = answer(alloc, entities, normal, &from(first.next, 0, None))?;
     show_rows(second.rows.as_slice(), onto)
 }
 
@@ -64,10 +103,13 @@ fn show_normal(
     requires { IsLawfulNormal normal.now }
 {
     match page {
-        Some((offset, limit)) => show_pages(alloc, entities, normal, offset, limit, onto),
+        Some((offset, limit)) => {
+            let window = from(None, offset, Some(limit));
+            show_pages(alloc, entities, normal, &window, onto)
+        }
         None => {
-            let all = answer(alloc, entities, normal, &window(None, 0, None))?;
-            show_rows(all.rows.as_slice(), onto)
+            show_first(alloc, entities, normal, &from(None, 0, None), onto)?;
+            Ok(())
         }
     }
 }
