@@ -1,7 +1,7 @@
 -- Pages of a query, from those of its rows.
 use Rattle.std.proofs.Common.{◌≡◌, ℕ, Bool, true, false, List, [], ◌∷◌, ◌++◌, map, cond, length, get_or}
 use Rattle.std.proofs.Common.{refl, sym, ap, subst, ◌∙◌, append-nil, arith}
-use Rattle.std.specs.Prelude.{filter, flat_map, All}
+use Rattle.std.specs.Prelude.{filter, flat_map, All, IfOk, Result, Ok, Err}
 use Rattle.std.proofs.lemmas.List.{map-append}
 use Rattle.std.proofs.lemmas.Grind.{flat_map-append}
 use Rattle.std.proofs.lemmas.List.Elements.{All-head, All-append}
@@ -34,12 +34,14 @@ parts-united merged es (q ∷ qs) =
     map-append parts_of (branch_list merged es q) (all_rows (map (branch_list merged es) qs))
     ∙ (λ i. parts-placed merged (map (extended merged q) (rows q es)) i ++ parts-united merged es qs i)
 
-pub several_page : (n : Normal) (w : Window) (es : List EntityParts) (lists : List (List Row)) (m : Merged)
-    → n.several ≡ true → lists ≡ map (branch_list n.merged es) n.branches → m ≡ merged_page n.merged [] w (map parts_of (all_rows lists))
+pub several_page : (n : Normal) (w : Window) (es : List EntityParts) (lists : List (List Row)) (names : List (List ℕ)) (m : Merged)
+    → n.several ≡ true → lists ≡ map (branch_list n.merged es) n.branches → names ≡ []
+    → m ≡ merged_page n.merged names w (map parts_of (all_rows lists))
     → m ≡ with_places n.merged (result n w es)
-several_page n w es lists m s all page =
+several_page n w es lists names m s all none page =
     page
-    ∙ ap (merged_page n.merged [] w) (ap (λ ls. map parts_of (all_rows ls)) all ∙ parts-united n.merged es n.branches)
+    ∙ (λ i. merged_page n.merged (none i) w (map parts_of (all_rows (all i))))
+    ∙ ap (merged_page n.merged [] w) (parts-united n.merged es n.branches)
     ∙ ap (λ b. with_places n.merged (page_of n.merged w
     (cond b (first_rows n.merged [] (united n es)) (flat_map (λ q. branch_results q w.start w.end es) n.branches)))) (sym s)
 
@@ -78,3 +80,8 @@ single_page n w es q names given m lawful s first named all page =
     ∙ ap (λ bs. with_places n.merged (page_of n.merged w (flat_map (λ b. branch_results b w.start w.end es) bs))) (sym one)
     ∙ ap (λ b. with_places n.merged (page_of n.merged w
     (cond b (first_rows n.merged [] (united n es)) (flat_map (λ b. branch_results b w.start w.end es) n.branches)))) (sym s)
+
+-- what holds of a page that there is
+pub given : {A E : Type 0} {P Q : A → Type 0} (r : Result A E) → IfOk r P → ((a : A) → P a → Q a) → IfOk r Q
+given (Ok a) p f = f a p
+given (Err e) p f = tt

@@ -1,5 +1,7 @@
 -- The rows of a branch, entity by entity and way by way.
-use Rattle.std.proofs.Common.{◌≡◌, Bool, true, false, List, [], ◌∷◌, ◌++◌, map, cond, length, refl, sym, ap, ◌∙◌, append-nil}
+use Rattle.std.proofs.Common.{◌≡◌, ℕ, ◌+◌, ◌<◌, Bool, true, false, List, [], ◌∷◌, ◌++◌, map, cond, length, take, get_or}
+use Rattle.std.proofs.Common.{refl, sym, ap, ◌∙◌, append-nil}
+use Rattle.std.proofs.lemmas.List.{take_more, map_push}
 use Rattle.std.specs.Prelude.{filter, flat_map, All, slice_get, Some, None}
 use Rattle.std.proofs.lemmas.Grind.{flat_map-append}
 use Rattle.std.proofs.lemmas.List.Elements.{filter-append}
@@ -73,3 +75,9 @@ first_is (w ∷ vs) k v e = cc
 pub first_is_key : (vs : List IndexValue) (k : KeyParts) → slice_get vs 0 ≡ None → first_value (record { values = vs; key = k }) ≡ Key k
 first_is_key [] k e = refl
 first_is_key (w ∷ vs) k e = absurd (cc e)
+
+-- one item more of those that a loop has seen
+pub seen_more : {A B : Type 0} (f : A → B) (xs : List A) (i : ℕ) (x : A) → i < length xs → x ≡ get_or xs i x
+    → map f (take (i + 1) xs) ≡ map f (take i xs) ++ f x ∷ []
+seen_more f xs i x below is =
+    ap (map f) (take_more xs i x below) ∙ map_push f (take i xs) (get_or xs i x) ∙ ap (λ y. map f (take i xs) ++ f y ∷ []) (sym is)
