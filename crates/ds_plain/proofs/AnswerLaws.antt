@@ -1,10 +1,10 @@
 -- Pages of a query, from those of its rows.
-use Rattle.std.proofs.Common.{◌≡◌, ℕ, Bool, true, false, List, [], ◌∷◌, ◌++◌, map, cond, length, get_or}
-use Rattle.std.proofs.Common.{refl, sym, ap, subst, ◌∙◌, append-nil, arith}
+use Rattle.std.proofs.Common.{◌≡◌, ℕ, ◌+◌, ◌<◌, Bool, true, false, List, [], ◌∷◌, ◌++◌, map, cond, length, take, get_or}
+use Rattle.std.proofs.Common.{refl, sym, ap, subst, ◌∙◌, append-nil, append_assoc, arith}
 use Rattle.std.specs.Prelude.{filter, flat_map, All, IfOk, Result, Ok, Err}
-use Rattle.std.proofs.lemmas.List.{map-append}
+use Rattle.std.proofs.lemmas.List.{map-append, map_push, take_more}
 use Rattle.std.proofs.lemmas.Grind.{flat_map-append}
-use Rattle.std.proofs.lemmas.List.Elements.{All-head, All-append}
+use Rattle.std.proofs.lemmas.List.Elements.{All-nil, All-cons, All-head, All-tail, All-append}
 use Rattle.ds_base.specs.declared.column.Column.{Column}
 use Rattle.ds_base.specs.Entities.{EntityParts}
 use Rattle.ds_bytes.specs.Rows.{RowParts}
@@ -15,10 +15,10 @@ use Rattle.ds_query.specs.declared.row.Row.{Row}
 use Rattle.ds_query.specs.Filters.{projected}
 use Rattle.ds_query.specs.Lawful.{IsLawfulNormal}
 use Rattle.ds_model.specs.Rows.{rows}
-use Rattle.ds_model.specs.Results.{result, extended, united, first_rows, page_of, branch_results, is_between}
+use Rattle.ds_model.specs.Results.{extended, united, first_rows, page_of, branch_results, is_between}
 use Rattle.ds_merge.specs.declared.merged.Merged.{Merged}
 use Rattle.ds_merge.specs.Merging.{IsPlaced, all_rows, placed, parts_of, merged_page, with_places}
-use Rattle.ds_plain.specs.Answers.{branch_list}
+use Rattle.ds_plain.specs.Answers.{branch_list, query_page}
 
 -- a row's place is told by the row
 parts-placed : (columns : List Column) (rs : List RowParts) → map parts_of (map (placed columns) rs) ≡ rs
@@ -37,7 +37,7 @@ parts-united merged es (q ∷ qs) =
 pub several_page : (n : Normal) (w : Window) (es : List EntityParts) (lists : List (List Row)) (names : List (List ℕ)) (m : Merged)
     → n.several ≡ true → lists ≡ map (branch_list n.merged es) n.branches → names ≡ []
     → m ≡ merged_page n.merged names w (map parts_of (all_rows lists))
-    → m ≡ with_places n.merged (result n w es)
+    → m ≡ query_page n w es
 several_page n w es lists names m s all none page =
     page
     ∙ (λ i. merged_page n.merged (none i) w (map parts_of (all_rows (all i))))
@@ -64,7 +64,7 @@ pub single_page : (n : Normal) (w : Window) (es : List EntityParts) (q : Branch)
     → IsLawfulNormal n → n.several ≡ false → q ≡ get_or n.branches 0 q → names ≡ projected q.select
     → given ≡ map (placed q.columns) (filter (is_between q.columns w.start w.end) (rows q es))
     → m ≡ merged_page q.columns names w (map parts_of given)
-    → m ≡ with_places n.merged (result n w es)
+    → m ≡ query_page n w es
 single_page n w es q names given m lawful s first named all page =
     let one : n.branches ≡ q ∷ [] = only n.branches q (lawful.single s) first in
     let columns : q.columns ≡ n.merged =
@@ -80,6 +80,33 @@ single_page n w es q names given m lawful s first named all page =
     ∙ ap (λ bs. with_places n.merged (page_of n.merged w (flat_map (λ b. branch_results b w.start w.end es) bs))) (sym one)
     ∙ ap (λ b. with_places n.merged (page_of n.merged w
     (cond b (first_rows n.merged [] (united n es)) (flat_map (λ b. branch_results b w.start w.end es) n.branches)))) (sym s)
+
+-- ---- loops over rows that are found
+
+-- one row more
+pub pushed : {A B : Type 0} (F : List A → List B) (done new : List B) (left rest : List A) (x : A) (y : B) (whole : List B)
+    → left ≡ x ∷ rest → new ≡ done ++ y ∷ [] → F (x ∷ rest) ≡ y ∷ F rest → done ++ F left ≡ whole → new ++ F rest ≡ whole
+pushed F done new left rest x y whole next put step all =
+    ap (λ ys. ys ++ F rest) put ∙ append_assoc done (y ∷ []) (F rest) ∙ ap (λ ys. done ++ ys) (sym step)
+    ∙ ap (λ xs. done ++ F xs) (sym next) ∙ all
+
+-- a row that is left out
+pub skipped : {A B : Type 0} (F : List A → List B) (done : List B) (left rest : List A) (x : A) (whole : List B)
+    → left ≡ x ∷ rest → F (x ∷ rest) ≡ F rest → done ++ F left ≡ whole → done ++ F rest ≡ whole
+skipped F done left rest x whole next step all = ap (λ ys. done ++ ys) (sym step) ∙ ap (λ xs. done ++ F xs) (sym next) ∙ all
+
+pub all_pushed : {A : Type 0} (P : A → Type 0) (done new : List A) (y : A) → new ≡ done ++ y ∷ [] → All P done → P y → All P new
+all_pushed P done new y put before this =
+    subst (λ ys. All P ys) (sym put) (All-append P done (y ∷ []) before (All-cons P y [] this (All-nil P)))
+
+pub all_left : {A : Type 0} (P : A → Type 0) (left rest : List A) (x : A) → left ≡ x ∷ rest → All P left → All P rest
+all_left P left rest x next all = All-tail P x rest (subst (λ xs. All P xs) next all)
+
+-- one item more of those that a loop has seen
+pub seen_more : {A B : Type 0} (f : A → B) (xs : List A) (i : ℕ) (x : A) → i < length xs → x ≡ get_or xs i x
+    → map f (take (i + 1) xs) ≡ map f (take i xs) ++ f x ∷ []
+seen_more f xs i x below is =
+    ap (map f) (take_more xs i x below) ∙ map_push f (take i xs) (get_or xs i x) ∙ ap (λ y. map f (take i xs) ++ f y ∷ []) (sym is)
 
 -- what holds of a page that there is
 pub given : {A E : Type 0} {P Q : A → Type 0} (r : Result A E) → IfOk r P → ((a : A) → P a → Q a) → IfOk r Q

@@ -3,12 +3,12 @@ ghost use Rattle.std.specs.Prelude.{◌≡◌, ◌++◌, ◌&&◌, [], map, filt
 ghost use Rattle.ds_base.specs.declared.column.Column.{Column};
 ghost use Rattle.ds_query.specs.Filters.{projected};
 ghost use Rattle.ds_query.specs.Lawful.{IsLawfulNormal};
-ghost use Rattle.ds_cursor.specs.RowsOfColumns.{directions, key_descends};
+ghost use Rattle.ds_cursor.specs.RowsOfColumns.{directions as value_directions, key_descends};
 ghost use Rattle.ds_model.specs.Rows.{rows};
-ghost use Rattle.ds_model.specs.Results.{result, is_between, is_after, is_up_to};
-ghost use Rattle.ds_merge.specs.Merging.{IsPlaced, all_rows, placed, with_places};
+ghost use Rattle.ds_model.specs.Results.{is_between, is_after, is_up_to};
+ghost use Rattle.ds_merge.specs.Merging.{IsPlaced, all_rows, placed};
 ghost use Rattle.ds_plain.specs.FoundRows.{found_parts};
-ghost use Rattle.ds_plain.specs.Answers.{page_parts, branch_list};
+ghost use Rattle.ds_plain.specs.Answers.{page_parts, query_page, branch_list};
 
 use crate::extending::extended;
 use crate::found::{Found, found_rows};
@@ -32,7 +32,7 @@ pub fn answer(
     window: &Window,
 ) -> Result<Plain, NoMemory>
     requires lawful { IsLawfulNormal normal.now }
-    ensures { IfOk result (λ p. page_parts p ≡ with_places normal.now.merged (result normal.now window.now entities.now)) }
+    ensures { IfOk result (λ p. page_parts p ≡ query_page normal.now window.now entities.now) }
 {
     let mut lent = Vec::with_capacity(alloc, entities.len())?;
     for entity in entities.as_slice() {
@@ -49,8 +49,7 @@ pub fn answer_of(
     window: &Window,
 ) -> Result<Plain, NoMemory>
     requires lawful { IsLawfulNormal normal.now }
-    ensures { IfOk result (λ p. page_parts p
-        ≡ with_places normal.now.merged (result normal.now window.now (map (λ e. e.now) entities.now))) }
+    ensures { IfOk result (λ p. page_parts p ≡ query_page normal.now window.now (map (λ e. e.now) entities.now)) }
 {
     let page = if normal.several {
         several(alloc, entities, normal, window)?
@@ -71,10 +70,11 @@ fn several(
     window: &Window,
 ) -> Result<Merged, NoMemory>
     requires several { normal.now.several ≡ true }
-    ensures { IfOk result (λ m. m ≡ with_places normal.now.merged (result normal.now window.now (map (λ e. e.now) entities.now))) }
+    ensures { IfOk result (λ m. m ≡ query_page normal.now window.now (map (λ e. e.now) entities.now)) }
 {
     let lists = branch_lists(alloc, entities, normal)?;
-    merge(alloc, lists, &normal.merged, &Names::new(alloc), window)
+    let none = Names::new(alloc);
+    merge(alloc, lists, &normal.merged, &none, window)
 }
 
 /// The rows of each branch in the merged columns, with their places there: what `merge` unites. Where a column is none of the
@@ -105,7 +105,7 @@ fn branch_list(
     merged: &Columns,
     directions: &Directions,
 ) -> Result<RowList, NoMemory>
-    requires values { directions.now.values.items ≡ directions merged.now }
+    requires values { directions.now.values.items ≡ value_directions merged.now }
     requires key { directions.now.key ≡ key_descends merged.now }
     ensures rows { IfOk result (λ list. list ≡ branch_list merged.now (map (λ e. e.now) entities.now) branch.now) }
     ensures placed { IfOk result (λ list. All (IsPlaced merged.now) list) }
@@ -121,7 +121,7 @@ fn branch_list(
 /// The row with its place.
 fn placed(alloc: Global, directions: &Directions, row: Found) -> Result<Row, NoMemory>
     requires { length row.values ≡ length directions.now.values.items }
-    ensures { (columns : List Column) → directions.now.values.items ≡ directions columns → directions.now.key ≡ key_descends columns
+    ensures { (columns : List Column) → directions.now.values.items ≡ value_directions columns → directions.now.key ≡ key_descends columns
         → IfOk result (λ r. (r ≡ placed columns (found_parts row)) × IsPlaced columns r) }
 {
     let place = place_of(
@@ -147,7 +147,7 @@ fn single(
 ) -> Result<Merged, NoMemory>
     requires lawful { IsLawfulNormal normal.now }
     requires single { normal.now.several ≡ false }
-    ensures { IfOk result (λ m. m ≡ with_places normal.now.merged (result normal.now window.now (map (λ e. e.now) entities.now))) }
+    ensures { IfOk result (λ m. m ≡ query_page normal.now window.now (map (λ e. e.now) entities.now)) }
 {
     let branch = &normal.branches.as_slice()[0];
     let rows = rows_between(alloc, entities, branch, window)?;
@@ -174,9 +174,9 @@ fn rows_between(
     branch: &Branch,
     window: &Window,
 ) -> Result<Vec<Row>, NoMemory>
-    ensures rows { IfOk result (λ rows. rows.items ≡ map (placed branch.now.columns)
+    ensures rows { IfOk result (λ r. r.items ≡ map (placed branch.now.columns)
         (filter (is_between branch.now.columns window.now.start window.now.end) (rows branch.now (map (λ e. e.now) entities.now)))) }
-    ensures placed { IfOk result (λ rows. All (IsPlaced branch.now.columns) rows.items) }
+    ensures placed { IfOk result (λ r. All (IsPlaced branch.now.columns) r.items) }
 {
     let directions = directions_of(alloc, branch.columns.as_slice())?;
     let mut rows = Vec::new(alloc);

@@ -61,12 +61,13 @@ fn value_named<'a>(
 {
     let mut slot = 0;
     for column in columns {
-        if !is_key_name(&column.name) {
-            if name.text() == column.name.text() {
-                return values.get(slot);
-            }
-            slot += 1;
+        if is_key_name(&column.name) {
+            continue;
         }
+        if name.text() == column.name.text() {
+            return values.get(slot);
+        }
+        slot += 1;
     }
     None
 }

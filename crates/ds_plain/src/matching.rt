@@ -5,11 +5,10 @@ ghost use Rattle.std.specs.Ordering.{is_eq};
 ghost use Rattle.ds_base.specs.IndexOrder.{index_value_cmp};
 ghost use Rattle.ds_base.specs.declared.index_value.IndexValue.TheVariants as index;
 ghost use Rattle.ds_model.specs.Rows.{is_of_kind, is_under, has_value, is_found, is_above, is_below, is_within};
-ghost use Rattle.ds_rows.specs.IndexedValues.{kind_of};
 
 use ds_base::{Entity, IndexValue, Key, NoMemory, TextString};
 use ds_query::{Bound, Branch, Pair, Range};
-use ds_rows::indexed_values;
+use ds_rows::{indexed_values, kind_of};
 use std::alloc::Global;
 use std::cmp::Ordering;
 
@@ -36,15 +35,6 @@ fn is_of_kind(kind: &Option<TextString>, key: &Key) -> bool
     match kind {
         Some(kind) => kind.bytes() == kind_of(key),
         None => true,
-    }
-}
-
-fn kind_of(key: &Key) -> &[u8]
-    ensures { result.now ≡ kind_of key.now }
-{
-    match key.elems().as_slice().last() {
-        Some(elem) => elem.kind.bytes(),
-        None => &[],
     }
 }
 

@@ -50,7 +50,7 @@ fn put_with_each(
 fn with_value(alloc: Global, way: &IndexValues, value: &IndexValue) -> Result<IndexValues, NoMemory>
     ensures { IfOk result (λ more. more ≡ way.now ++ value.now ∷ []) }
 {
-    let mut more = Vec::with_capacity(alloc, way.len() + 1)?;
+    let mut more = Vec::with_capacity(alloc, way.len().saturating_add(1))?;
     for held in way.as_slice() {
         more.push(held.copy(alloc)?)?;
     }

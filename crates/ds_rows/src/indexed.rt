@@ -10,8 +10,8 @@ use ds_base::{Entity, IndexValue, IndexValues, Key, NoMemory, Property, TextStri
 use std::alloc::Global;
 use std::collections::BTreeSet;
 
-/// The kind of the key's last element.
-pub(crate) fn kind_of(key: &Key) -> &[u8]
+/// The kind of an entity: that of its key's last element, as UTF-8.
+pub fn kind_of(key: &Key) -> &[u8]
     ensures { result.now ≡ kind_of key.now }
 {
     match key.elems().as_slice().last() {

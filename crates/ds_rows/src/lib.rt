@@ -21,7 +21,7 @@ pub mod tables;
 mod ways;
 
 pub use count::count_rows;
-pub use indexed::indexed_values;
+pub use indexed::{indexed_values, kind_of};
 pub use laws::{
     rows_are_apart, rows_are_counted, rows_are_its_own, rows_are_ordered, rows_stand_together,
 };

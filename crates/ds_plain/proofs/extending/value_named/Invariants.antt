@@ -6,7 +6,7 @@ use Rattle.ds_plain.proofs.extending.value_named.Given as goal
 
 abbrev pub invariant-loop-column : goal.invariant-loop-column
 invariant-loop-column l = record {
-  left : value_named l.name (value_columns (drop l.column-index l.columns)) (drop l.slot l.values.now)
-      ≡ value_named l.name (value_columns l.columns) l.values.now;
+  left : value_named l.name (value_columns (drop l.column-index l.columns)) (drop l.slot l.values)
+      ≡ value_named l.name (value_columns l.columns) l.values;
   few : l.slot ≤ l.column-index;
 }
