@@ -1,6 +1,5 @@
-use Rattle.std.proofs.Common.{◌≡◌, ◌&&◌, true, false, List, ◌∷◌, map, cond, sym, ap, ◌∙◌}
+use Rattle.std.proofs.Common.{◌&&◌, List, ◌∷◌, map, cond, sym, ap, ◌∙◌}
 use Rattle.std.specs.Prelude.{filter}
-use Rattle.ds_bytes.specs.Rows.{RowParts}
 use Rattle.ds_cursor.specs.RowsOfColumns.{directions, key_descends}
 use Rattle.ds_model.specs.Rows.{rows}
 use Rattle.ds_model.specs.Results.{is_between, is_after, is_up_to}
