@@ -1,0 +1,11 @@
+pub mod AllOf
+pub mod DistinctKeys
+pub mod FollowLaws
+pub mod FoundByKey
+pub mod GlobalViews
+pub mod ResultOrder
+pub mod RowOrder
+pub mod SameOrder
+pub mod Sorted
+pub mod StrongResults
+pub mod StrongViews

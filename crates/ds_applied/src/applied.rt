@@ -7,7 +7,7 @@ ghost use Rattle.ds_model.specs.Sessions.{count_of, list_of, last_commit, raised
 ghost use Rattle.ds_applied.specs.AppliedLists.{AppliedParts, Follows, AreCounts, entries_by, shard_view, shard_views};
 ghost use Rattle.ds_applied.specs.Routing.{added};
 
-use crate::routing::{make_room, put_all, routed};
+use crate::routing::{make_room, put_all, route};
 use crate::shard::Shard;
 use crate::visible::{AllVisible, Visible};
 use ds_base::{Counts, NoMemory};
@@ -103,7 +103,7 @@ impl Applied {
         ensures err { OnErr result (self.new ≡ self.old) }
     {
         let number = self.commits as u64 + 1;
-        let routed = routed(alloc, number, commit, self.shards.len() as u32)?;
+        let routed = route(alloc, number, commit, self.shards.len() as u32)?;
         make_room(&mut self.shards, routed.len())?;
         put_all(&mut self.shards, routed);
         self.commits += 1;

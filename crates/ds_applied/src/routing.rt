@@ -1,5 +1,5 @@
 //! The entries of one commit, each put behind those of its shard.
-ghost use Rattle.std.specs.Prelude.{◌≡◌, ◌+◌, ◌≤◌, ◌<◌, ◌×◌, length, map, All, IfOk, OnOk};
+ghost use Rattle.std.specs.Prelude.{◌≡◌, ◌+◌, ◌≤◌, ◌<◌, length, map, All, IfOk, OnOk};
 ghost use Rattle.ds_base.specs.Limits.{most_shards};
 ghost use Rattle.ds_log.specs.Logs.{commit_entries};
 ghost use Rattle.ds_applied.specs.AppliedLists.{ShardParts, entries_of, applied_of};
@@ -18,7 +18,7 @@ pub(crate) struct Routed {
 }
 
 /// The entries of commit `number`, one per group that it writes, each with its shard out of `shards`.
-pub(crate) fn routed(
+pub(crate) fn route(
     alloc: Global,
     number: u64,
     commit: &Commit,

@@ -26,7 +26,7 @@ pub struct Visible<'a> {
     source: Source<'a>,
 }
 
-impl Model for Visible<'_> {
+impl<'a> Model for Visible<'a> {
     ghost use Rattle.std.specs.Prelude.{List};
     ghost use Rattle.ds_base.specs.Entities.{EntityParts};
 
@@ -89,7 +89,7 @@ pub struct AllVisible<'a> {
     shards: Vec<Visible<'a>>,
 }
 
-impl Model for AllVisible<'_> {
+impl<'a> Model for AllVisible<'a> {
     ghost use Rattle.std.specs.Prelude.{List};
     ghost use Rattle.ds_base.specs.Entities.{EntityParts};
     ghost use Rattle.ds_applied.specs.ByKey.{joined};
