@@ -72,7 +72,7 @@ shard_list-first m n journal shard shards within =
     sym (take-append-drop m (take n journal)) ∙ ap (λ cs. cs ++ after) (taken m n journal within) in
     ap (λ cs. take (length (shard_list before shard shards)) (shard_list cs shard shards)) whole
     ∙ ap (take (length (shard_list before shard shards))) (shard_list-append before after shard shards)
-    ∙ sym (take-append_seam (shard_list before shard shards) (later_entries shard shards (1 + length before) after))
+    ∙ take-append_seam (shard_list before shard shards) (later_entries shard shards (1 + length before) after)
 
 -- ---- one of the lists
 

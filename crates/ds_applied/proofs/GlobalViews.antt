@@ -286,21 +286,18 @@ as_all : (all es : List EntityParts) → AreFound all es → AllByRecursion (IsF
 as_all all [] p = tt
 as_all all (e ∷ es) p = (p.0, as_all all es p.1)
 
+views_of_journal : (journal : List Commit) (shards : ℕ) (counts : List ℕ)
+    → sorted_by_key (shard_views (shard_lists shards journal) counts) ≡ sorted_by_key (global_view (shard_lists shards journal) counts)
+views_of_journal journal shards counts =
+    let lists : List (List Entry) = shard_lists shards journal in
+    let all : List EntityParts = beside shards lists counts in
+    let is : global_view lists counts ≡ all = global_beside shards journal counts in
+    let differ : KeysDiffer all = subst KeysDiffer is (KeysDiffer-after (entry_writes (counted lists counts))) in
+    views-put all shards lists counts [] (as_all all all (AreFound-all all differ)) ∙ ap sorted_by_key (sym is)
+
 -- The entities of all shards by key are those of the global view by key.
 pub global_sorted : (journal : List Commit) (a : AppliedParts) (counts : List ℕ) → Follows journal a
     → sorted_by_key (shard_views a.lists counts) ≡ sorted_by_key (global_view a.lists counts)
 global_sorted journal a counts follows =
-    subst (λ lists. sorted_by_key (shard_views lists counts) ≡ sorted_by_key (global_view lists counts)) (sym follows.lists) of_journal
-  where
-    cut : List Commit
-    cut = take a.commits journal
-
-    abbrev lists : List (List Entry)
-    lists = shard_lists a.shards (take a.commits journal)
-
-    of_journal : sorted_by_key (shard_views lists counts) ≡ sorted_by_key (global_view lists counts)
-    of_journal =
-        let all : List EntityParts = beside a.shards lists counts in
-        let is : global_view lists counts ≡ all = global_beside a.shards (take a.commits journal) counts in
-        let differ : KeysDiffer all = subst KeysDiffer is (KeysDiffer-after (entry_writes (counted lists counts))) in
-        views-put all a.shards lists counts [] (as_all all all (AreFound-all all differ)) ∙ ap sorted_by_key (sym is)
+    subst (λ lists. sorted_by_key (shard_views lists counts) ≡ sorted_by_key (global_view lists counts)) (sym follows.lists)
+    (views_of_journal (take a.commits journal) a.shards counts)

@@ -1,11 +1,15 @@
 pub mod AllOf
+pub mod CountSteps
 pub mod DistinctKeys
 pub mod FollowLaws
 pub mod FoundByKey
 pub mod GlobalViews
+pub mod PullLaws
 pub mod ResultOrder
 pub mod RowOrder
 pub mod SameOrder
+pub mod ShardSteps
 pub mod Sorted
+pub mod SortedRefs
 pub mod StrongResults
 pub mod StrongViews

@@ -60,16 +60,14 @@ long_extended merged q row =
 abbrev own_rows : Branch → EntityParts → List RowParts
 own_rows q e = rows q (e ∷ [])
 
+-- the rows of entities that count
+abbrev given : Branch → List EntityParts → List RowParts
+given q fs = filter (λ row. is_within q.range (first_value row)) (flat_map (entity_rows q.columns) fs)
+
 by_entity : (q : Branch) (es : List EntityParts) → rows q es ≡ flat_map (own_rows q) es
 by_entity q [] = refl
 by_entity q (e ∷ es) = by (is_found q e) ∙ ap (λ rs. own_rows q e ++ rs) (by_entity q es) where
-  test : RowParts → Bool
-  test row = is_within q.range (first_value row)
-
-  abbrev given : List EntityParts → List RowParts
-  given fs = filter (λ row. is_within q.range (first_value row)) (flat_map (entity_rows q.columns) fs)
-
-  by : (b : Bool) → given (cond b (e ∷ filter (is_found q) es) (filter (is_found q) es)) ≡ given (cond b (e ∷ []) []) ++ rows q es
+  by : (b : Bool) → given q (cond b (e ∷ filter (is_found q) es) (filter (is_found q) es)) ≡ given q (cond b (e ∷ []) []) ++ rows q es
   by true =
       filter-append (λ row. is_within q.range (first_value row)) (entity_rows q.columns e) (flat_map (entity_rows q.columns) (filter (is_found q) es))
       ∙ ap (λ rs. filter (λ row. is_within q.range (first_value row)) rs ++ rows q es) (sym (append-nil (entity_rows q.columns e)))

@@ -1,10 +1,10 @@
 //! What all shards have applied.
-ghost use Rattle.std.specs.Prelude.{◌≡◌, ◌+◌, ◌≤◌, ◌<◌, ◌^◌, ℕ, List, [], length, take, replicate, IfOk, OnOk, OnErr};
+ghost use Rattle.std.specs.Prelude.{◌≡◌, ◌+◌, ◌≤◌, ◌<◌, ◌^◌, List, [], length, take, replicate, IfOk, OnOk, OnErr};
 ghost use Rattle.ds_base.specs.Limits.{most_shards};
 ghost use Rattle.ds_log.specs.declared.Commit.{Commit};
 ghost use Rattle.ds_log.specs.Logs.{commit_entries};
 ghost use Rattle.ds_model.specs.Sessions.{count_of, list_of, last_commit, raised_at};
-ghost use Rattle.ds_applied.specs.AppliedLists.{AppliedParts, Follows, AreCounts, entries_by, shard_view, shard_views};
+ghost use Rattle.ds_applied.specs.AppliedLists.{AppliedParts, Follows, AreCounts, Raised, entries_by, shard_view, shard_views};
 ghost use Rattle.ds_applied.specs.Routing.{added};
 
 use crate::routing::{make_room, put_all, route};
@@ -175,7 +175,7 @@ impl Applied {
         requires shard { shard < self.old.shards }
         requires count { count ≤ length (list_of self.old.lists shard) }
         ensures ok { OnOk result (self.new ≡ record self.old { counts = raised_at shard count self.old.counts }) }
-        ensures between { (k : ℕ) × (k ≤ count) × (self.new ≡ record self.old { counts = raised_at shard k self.old.counts }) }
+        ensures between { Raised shard count self.old self.new }
     {
         while self.count(shard) < count {
             self.apply_one(alloc, shard)?;

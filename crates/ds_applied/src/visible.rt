@@ -131,7 +131,7 @@ ghost use Rattle.ds_applied.specs.ByKey.{joined};
 
 /// Entities of distinct keys in the order of their keys.
 fn sorted<'a>(entities: Vec<&'a Entity>) -> Result<Vec<&'a Entity>, NoMemory>
-    ensures { KeysDiffer (map (λ e. e.now) entities.items) → IfOk result (λ es. map (λ e. e.now) es.items ≡ sorted_by_key (map (λ e. e.now) entities.items)) }
+    ensures { KeysDiffer (map (λ e. e.now) entities.entry.items) → IfOk result (λ es. map (λ e. e.now) es.items ≡ sorted_by_key (map (λ e. e.now) entities.entry.items)) }
 {
     let mut entities = entities;
     entities.sort_by(|a, b| a.key().cmp(b.key()))?;
