@@ -56,7 +56,7 @@ shard_list-append cs ds shard shards =
     ap (filter (λ e. shard_of e.group shards == shard)) (entries_from-append 1 cs ds)
     ∙ filter-append (λ e. shard_of e.group shards == shard) (entries_from 1 cs) (entries_from (1 + length cs) ds)
 
-taken : (m n : ℕ) (cs : List Commit) → m ≤ n → take m (take n cs) ≡ take m cs
+pub taken : (m n : ℕ) (cs : List Commit) → m ≤ n → take m (take n cs) ≡ take m cs
 taken zero n cs within = refl
 taken (suc m) zero cs within = absurd (omega (arith, within))
 taken (suc m) (suc n) [] within = refl

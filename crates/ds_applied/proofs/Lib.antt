@@ -4,6 +4,7 @@ pub mod DistinctKeys
 pub mod FollowLaws
 pub mod FoundByKey
 pub mod GlobalViews
+pub mod KeyedLaws
 pub mod PullLaws
 pub mod ResultOrder
 pub mod RowOrder
@@ -13,3 +14,5 @@ pub mod Sorted
 pub mod SortedRefs
 pub mod StrongResults
 pub mod StrongViews
+pub mod UpTo
+pub mod ViewSteps

@@ -58,14 +58,13 @@ impl Applied {
         })
     }
 
-    /// How many shards there are, 1 to 16.
+    /// How many shards there are, 1 to 16, with a list and a count for each.
     pub fn shards(&self) -> u32
         ensures value { result ≡ self.now.shards }
         ensures least { 1 ≤ self.now.shards }
         ensures most { self.now.shards ≤ most_shards }
         ensures lists { length self.now.lists ≡ self.now.shards }
         ensures counts { length self.now.counts ≡ self.now.shards }
-        ensures within { AreCounts self.now.lists self.now.counts }
     {
         self.shards.len() as u32
     }
@@ -121,7 +120,8 @@ impl Applied {
 
     /// How many entries of each shard are applied, shard 0 first. A refusal is want of memory.
     pub fn counts(&self, alloc: Global) -> Result<Counts, NoMemory>
-        ensures { IfOk result (λ counts. counts ≡ self.now.counts) }
+        ensures value { IfOk result (λ counts. counts ≡ self.now.counts) }
+        ensures within { IfOk result (λ counts. AreCounts self.now.lists counts) }
     {
         let mut counts = Vec::with_capacity(alloc, self.shards.len())?;
         for shard in self.shards.as_slice() {
@@ -199,8 +199,9 @@ impl Applied {
         ensures { IfOk result (λ v. v ≡ shard_views self.now.lists counts.now) }
     {
         let mut shards = Vec::with_capacity(alloc, counts.len())?;
-        for (shard, count) in self.shards.as_slice().iter().zip(counts) {
-            shards.push(shard.visible(alloc, *count as usize)?)?;
+        for (shard, count) in counts.iter().enumerate() {
+            let visible = self.shards[shard].visible(alloc, *count as usize)?;
+            shards.push(visible)?;
         }
         Ok(AllVisible::of_shards(shards))
     }

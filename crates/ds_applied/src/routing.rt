@@ -49,8 +49,8 @@ pub(crate) fn make_room(shards: &mut Vec<Shard>, entries: usize) -> Result<(), N
     ensures entries { entries_of shards.new.items ≡ entries_of shards.old.items }
     ensures applied { applied_of shards.new.items ≡ applied_of shards.old.items }
 {
-    for shard in shards.as_mut_slice() {
-        shard.reserve(entries)?;
+    for i in 0..shards.len() {
+        shards[i].reserve(entries)?;
     }
     Ok(())
 }

@@ -100,21 +100,13 @@ impl Shard {
         Ok(())
     }
 
-    /// The writes of the next entry.
-    fn next_writes(&self) -> &[Write]
-        requires { self.now.applied < length self.now.entries }
-        ensures { result.now ≡ writes_at self.now.entries self.now.applied }
-    {
-        self.entries[self.applied].writes.as_slice()
-    }
-
     /// Whether a write of the next entry isn't applied yet.
     fn has_writes_left(&self) -> bool
         requires { self.now.applied < length self.now.entries }
         ensures value { result ≡ nat_lt self.now.begun (length (writes_at self.now.entries self.now.applied)) }
         ensures within { self.now.begun ≤ length (writes_at self.now.entries self.now.applied) }
     {
-        self.begun < self.next_writes().len()
+        self.begun < writes_at(self.entries.as_slice(), self.applied).len()
     }
 
     /// Applies the next write of the next entry. A refusal changes nothing.
@@ -124,7 +116,7 @@ impl Shard {
         ensures ok { OnOk result (self.new ≡ record self.old { begun = self.old.begun + 1 }) }
         ensures err { OnErr result (self.new ≡ self.old) }
     {
-        let writes = self.entries[self.applied].writes.as_slice();
+        let writes = writes_at(self.entries.as_slice(), self.applied);
         self.entities.apply(alloc, &writes[self.begun])?;
         self.begun += 1;
         Ok(())
@@ -175,4 +167,12 @@ impl Shard {
             Visible::rebuilt(alloc, &self.entries.as_slice()[..count])
         }
     }
+}
+
+/// The writes of the entry at a place, counted from 0.
+fn writes_at(entries: &[Entry], place: usize) -> &[Write]
+    requires { place < length entries.now }
+    ensures { result.now ≡ writes_at entries.now place }
+{
+    entries[place].writes.as_slice()
 }

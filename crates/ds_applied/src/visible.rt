@@ -102,7 +102,7 @@ impl<'a> Model for AllVisible<'a> {
 impl<'a> AllVisible<'a> {
     /// Those of shards, shard 0 first. It takes no memory.
     pub(crate) fn of_shards(shards: Vec<Visible<'a>>) -> AllVisible<'a>
-        ensures { result ≡ joined shards.items }
+        ensures { result ≡ joined shards.entry.items }
     {
         AllVisible { shards }
     }
