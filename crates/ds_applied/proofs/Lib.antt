@@ -3,10 +3,13 @@ pub mod CountSteps
 pub mod DistinctKeys
 pub mod FollowLaws
 pub mod FoundByKey
+pub mod GlobalResults
 pub mod GlobalViews
 pub mod KeyedLaws
+pub mod PlaceLaws
 pub mod PullLaws
 pub mod ResultOrder
+pub mod RoutingSteps
 pub mod RowOrder
 pub mod SameOrder
 pub mod ShardSteps

@@ -34,7 +34,7 @@ use Rattle.ds_log.specs.Logs.{entry_writes, shard_list}
 use Rattle.ds_log.specs.Shards.{shard_of}
 use Rattle.ds_rows.specs.IndexedValues.{indexed_values, each_way}
 use Rattle.ds_model.specs.Results.{first_of_each, same_mark, first_rows, is_between, page_of, branch_results, extended, united, query_rows, result, item_of, items_of, entity_of, at_most}
-use Rattle.ds_model.specs.Rows.{rows, entity_rows, value_columns, is_found, is_of_kind, is_under, has_value, is_within, first_value, compare_rows}
+use Rattle.ds_model.specs.Rows.{rows, entity_rows, value_columns, is_found, has_kind, is_under, has_value, is_within, first_value, compare_rows}
 use Rattle.ds_model.specs.Views.{strong_view}
 use Rattle.ds_model.proofs.GroupViews.{cut, in_group, same_key-equal}
 use Rattle.ds_applied.specs.AppliedLists.{AppliedParts, Follows, entries_by, shard_view}
@@ -95,8 +95,8 @@ module _ (ancestor : KeyParts) (some : 1 ≤ length ancestor.elems) where
 
     by : (b : Bool) → is_under q.ancestor e.key ≡ b → InGroup e.key
     by true under = group_under ancestor e.key some (ap (λ o. is_under o e.key) (sym has) ∙ under)
-    by false under = absurd (apart (sym (ap (λ b. bytes_eq e.key.namespace q.namespace && is_of_kind q.kind e.key && b && list_all (has_value e) q.equal) under
-        ∙ never (bytes_eq e.key.namespace q.namespace) (is_of_kind q.kind e.key) (list_all (has_value e) q.equal)) ∙ found))
+    by false under = absurd (apart (sym (ap (λ b. bytes_eq e.key.namespace q.namespace && has_kind q.kind e.key && b && list_all (has_value e) q.equal) under
+        ∙ never (bytes_eq e.key.namespace q.namespace) (has_kind q.kind e.key) (list_all (has_value e) q.equal)) ∙ found))
 
   -- ---- nothing outside of the group counts
 

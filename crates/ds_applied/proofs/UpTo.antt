@@ -61,7 +61,7 @@ commits_from m n (c ∷ cs) low =
     all-append (λ (e : Entry). m ≤ e.commit) (commit_entries n c) (entries_from (n + 1) cs)
     (of_commit (λ k. m ≤ k) n c.writes (groups_of c.writes) low) (commits_from m (n + 1) cs (omega (arith, low)))
 
-commits_up_to : (m n : ℕ) (cs : List Commit) → n + length cs ≤ m + 1 → AllByRecursion (λ (e : Entry). e.commit ≤ m) (entries_from n cs)
+pub commits_up_to : (m n : ℕ) (cs : List Commit) → n + length cs ≤ m + 1 → AllByRecursion (λ (e : Entry). e.commit ≤ m) (entries_from n cs)
 commits_up_to m n [] high = tt
 commits_up_to m n (c ∷ cs) high =
     all-append (λ (e : Entry). e.commit ≤ m) (commit_entries n c) (entries_from (n + 1) cs)

@@ -3,7 +3,7 @@ ghost use Rattle.std.specs.Prelude.{◌≡◌, ◌+◌, ◌≤◌, ◌<◌, ◌^
 ghost use Rattle.ds_base.specs.Limits.{most_shards};
 ghost use Rattle.ds_log.specs.declared.Commit.{Commit};
 ghost use Rattle.ds_log.specs.Logs.{commit_entries};
-ghost use Rattle.ds_model.specs.Sessions.{count_of, list_of, last_commit, raised_at};
+ghost use Rattle.ds_model.specs.Sessions.{count_of, counted_place, list_of, last_commit, raised_at};
 ghost use Rattle.ds_applied.specs.AppliedLists.{AppliedParts, Follows, AreCounts, Raised, entries_by, shard_view, shard_views};
 ghost use Rattle.ds_applied.specs.Routing.{added};
 
@@ -155,6 +155,18 @@ impl Applied {
         ensures { result ≡ last_commit (take count (list_of self.now.lists shard)) }
     {
         self.shards[shard as usize].last_commit(count as usize)
+    }
+
+    /// The greatest commit of the shards' last counted entries, at a count for each shard, shard 0 first; 0 where none is counted.
+    pub fn counted_place(&self, counts: &[u64]) -> u64
+        requires { AreCounts self.now.lists counts.now }
+        ensures { result ≡ counted_place self.now.lists counts.now }
+    {
+        let mut place = 0;
+        for (shard, count) in counts.iter().enumerate() {
+            place = place.max(self.shards[shard].last_commit(*count as usize));
+        }
+        place
     }
 
     /// Applies the next entry of a shard. A refusal, which is want of memory, applies none. It takes time by the entry's writes and
