@@ -2,6 +2,7 @@
 use Rattle.std.proofs.Common.{◌≡◌, ℕ, zero, suc, ◌+◌, ◌<◌, ◌≤◌, List, [], ◌∷◌, ◌++◌, length, take, map, fold, get_or, refl, ap, sym, ◌∙◌, subst, arith}
 use Rattle.std.specs.Prelude.{max, filter, ◌==◌}
 use Rattle.std.specs.List.{AllByRecursion, range_with_len}
+use Rattle.std.proofs.lemmas.List.{take_all}
 use Rattle.std.proofs.Math.Nat.{le-max_left, le-max_right, max-le}
 use Rattle.ds_log.specs.declared.Commit.{Commit}
 use Rattle.ds_log.specs.declared.Entry.{Entry}
@@ -12,6 +13,7 @@ use Rattle.ds_model.specs.Worlds.{shard_lists}
 use Rattle.ds_applied.specs.AppliedLists.{AppliedParts, Follows, AreCounts}
 use Rattle.ds_applied.proofs.AllOf.{all-filter}
 use Rattle.ds_applied.proofs.UpTo.{commits_up_to}
+use Rattle.ds_applied.proofs.ViewSteps.{AreCounts-length}
 
 -- ---- within the journal
 
@@ -66,7 +68,7 @@ max_none : (a : ℕ) → max a 0 ≡ max 0 a
 max_none a =
     same_number (max a 0) (max 0 a) (max-le (le-max_right 0 a) (omega arith)) (max-le (omega arith) (le-max_left a 0))
 
-place_next : (lists : List (List Entry)) (counts : List ℕ) (i c : ℕ) → AreCounts lists counts → i < length counts → c ≡ get_or counts i c
+place_next : (lists : List (List Entry)) (counts : List ℕ) (i c : ℕ) → AreCounts lists counts → i < length counts → c ≡ get_or counts i 0
     → counted_place (take (suc i) lists) (take (suc i) counts) ≡ max (counted_place (take i lists) (take i counts)) (last_commit (take c (list_of lists i)))
 place_next [] [] i c are below is = absurd (omega (arith, below))
 place_next (l ∷ lists) (d ∷ counts) zero c are below is = ap (λ n. max (last_commit (take n l)) 0) (sym is) ∙ max_none (last_commit (take c l))
@@ -76,9 +78,15 @@ place_next (l ∷ lists) (d ∷ counts) (suc i) c are below is =
 place_next [] (d ∷ counts) i c are below is = absurd are
 place_next (l ∷ lists) [] i c are below is = absurd are
 
-pub place_more : (lists : List (List Entry)) (counts : List ℕ) (i c place last : ℕ) → AreCounts lists counts → i < length counts → c ≡ get_or counts i c
+pub place_more : (lists : List (List Entry)) (counts : List ℕ) (i c place last : ℕ) → AreCounts lists counts → i < length counts → c ≡ get_or counts i 0
     → place ≡ counted_place (take i lists) (take i counts) → last ≡ last_commit (take c (list_of lists i))
     → max place last ≡ counted_place (take (i + 1) lists) (take (i + 1) counts)
 place_more lists counts i c place last are below is so_far here =
     ap (λ p. max p last) so_far ∙ ap (max (counted_place (take i lists) (take i counts))) here
     ∙ sym (ap (λ n. counted_place (take n lists) (take n counts)) (let e : i + 1 ≡ suc i = omega arith in e) ∙ place_next lists counts i c are below is)
+
+pub place_all : (lists : List (List Entry)) (counts : List ℕ) (n : ℕ) → AreCounts lists counts → n ≡ length counts
+    → counted_place (take n lists) (take n counts) ≡ counted_place lists counts
+place_all lists counts n are whole =
+    ap (λ ls. counted_place ls (take n counts)) (take_all n lists (omega (arith, whole, AreCounts-length lists counts are)))
+    ∙ ap (counted_place lists) (take_all n counts (omega (arith, whole)))

@@ -113,6 +113,7 @@ impl Applied {
     pub fn count(&self, shard: u32) -> u64
         requires { shard < self.now.shards }
         ensures value { result ≡ count_of self.now.counts shard }
+        ensures listed { shard < length self.now.counts }
         ensures within { count_of self.now.counts shard ≤ length (list_of self.now.lists shard) }
     {
         self.shards[shard as usize].applied() as u64
