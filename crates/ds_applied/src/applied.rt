@@ -163,7 +163,7 @@ impl Applied {
         requires { AreCounts self.now.lists counts.now }
         ensures { result ≡ counted_place self.now.lists counts.now }
     {
-        let mut place = 0;
+        let mut place: u64 = 0;
         for (shard, count) in counts.iter().enumerate() {
             place = place.max(self.shards[shard].last_commit(*count as usize));
         }

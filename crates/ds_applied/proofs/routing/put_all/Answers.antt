@@ -19,7 +19,9 @@ loop-one-preserved c =
 pub returns-clause-entries : goal.returns-clause-entries
 returns-clause-entries c =
     let none : length c.loop-one.one-iterator.rest.items ≡ 0 = search rules in
+    let initial : c.into_iter-one-iterator.result.rest.items ≡ c.args.routed.items = search rules in
     sym (added_none (length c.args.shards.now.items) 0 (entries_of c.loop-one.shards.items))
     ∙ ap (λ rs. added (length c.args.shards.now.items) 0 (entries_of c.loop-one.shards.items) (map entry_of rs))
     (sym (nil_from_length c.loop-one.one-iterator.rest.items none))
     ∙ c.loop-one.invariant.3
+    ∙ ap (λ rs. added (length c.args.shards.now.items) 0 (entries_of c.args.shards.now.items) (map entry_of rs)) initial
