@@ -9,7 +9,8 @@ use Rattle.ds_applied.proofs.routing.put_all.Goals as goal
 pub loop-one-preserved : goal.loop-one-preserved
 loop-one-preserved c =
     let rest : c.loop-one.one-iterator.rest.items ≡ c.in-Some.one ∷ c.next.new.self.rest.items = search rules in
-    put_more (length c.args.shards.now.items) c.loop-one.shards.items c.loop-one.one-iterator.rest.items c.next.new.self.rest.items c.in-Some.one
+    put_more (length c.args.shards.now.items) c.loop-one.shards.items c.loop-one.one-iterator.rest.items c.next.new.self.rest.items
+    c.in-Some.one
     c.index_mut.result.now c.push.new.self _ _ rest
     (c.push.ensures.entries ∙ ap (λ (s : ShardParts). s.entries ++ c.in-Some.one.entry ∷ []) c.index_mut.ensures.value)
     (c.push.ensures.applied ∙ ap (λ (s : ShardParts). s.applied) c.index_mut.ensures.value)
