@@ -1,13 +1,11 @@
 -- Windows between ends, and what texts that are no cursors refuse.
-use Rattle.std.proofs.Common.{◌≡◌, ℕ, ◌≤◌, ◌<◌, arith, length, get_or, Bool, true, false, List, [], ◌∷◌, Option, Some, None, Result, Ok, Err, refl, ap, sym, ◌∙◌, subst}
-use Rattle.ds_base.specs.declared.column.Column.{Column}
+use Rattle.std.proofs.Common.{◌≡◌, ℕ, ◌≤◌, ◌<◌, arith, length, get_or, Bool, true, false, List, [], ◌∷◌, Option, Some, None, Ok, refl, ap, sym, ◌∙◌, subst}
 use Rattle.ds_query.specs.declared.branch.Branch.{Branch}
 use Rattle.ds_query.specs.declared.branch.Window.{Window}
 use Rattle.ds_query.specs.declared.field.Field.{Field}
 use Rattle.ds_query.specs.declared.field.Field.TheVariants as field
 use Rattle.ds_query.specs.declared.row.Place.{Place}
 use Rattle.ds_query.specs.Lawful.{IsPlaceless}
-use Rattle.ds_cursor.specs.declared.cursor.CursorRefused.{CursorRefused}
 use Rattle.ds_cursor.specs.Cursors.{CursorParts, CursorIs, PartsAre, OfBranch, IsPlaceOf, parts_of, is_of_branch}
 use Rattle.ds_reply.specs.declared.reply.Body.{Body}
 use Rattle.ds_model.specs.Answers.{place_found, window_of}
@@ -15,7 +13,7 @@ use Rattle.ds_model.specs.Asked.{Search}
 use Rattle.ds_model.specs.Refusals.{Told, Nothing, Refused, BeforeFirst, Behind, Places, PlaceRead, PlacesRead, IfUnrefused, cursor_refusal, first_refusal}
 use Rattle.ds_protocol.specs.declared.cursors.End.{End}
 use Rattle.ds_protocol.specs.declared.cursors.End.TheVariants as end
-use Rattle.ds_protocol.specs.Cursors.{told, IsEnd, IsEndRefused, WindowRead, WindowRefused, window_between}
+use Rattle.ds_protocol.specs.Cursors.{told, IsEndRefused, WindowRead, WindowRefused, window_between}
 use Rattle.ds_protocol.specs.Preparing.{ArePlacesOf}
 
 -- ---- one end

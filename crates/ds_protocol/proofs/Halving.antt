@@ -1,5 +1,5 @@
 -- An entity found by its key among entities in the order of their keys.
-use Rattle.std.proofs.Common.{◌≡◌, ℕ, zero, suc, ◌<◌, ◌≤◌, Bool, true, false, cond, List, [], ◌∷◌, length, get_or, Option, Some, None, refl, ap, ◌∙◌, arith, ◌⊎◌, inl, inr}
+use Rattle.std.proofs.Common.{◌≡◌, ℕ, zero, suc, ◌<◌, ◌≤◌, Bool, true, false, cond, List, [], ◌∷◌, length, get_or, Some, None, refl, ap, ◌∙◌, arith, inl, inr}
 use Rattle.std.specs.Prelude.{find}
 use Rattle.std.specs.Ordering.{is_lt, is_eq, ordering_index}
 use Rattle.std.specs.declared.cmp.Ordering.{Ordering}
@@ -107,6 +107,6 @@ no_entity_at es k place sorted is differs = found_nowhere (λ (e : EntityParts).
 
   none : (j : ℕ) (d : EntityParts) → j < length es → same_key (get_or es j d).key k ≡ false
   none j d within = elim (cases_lt j place) [
-      | inl low ↦ lower_differs (key_cmp (get_or es j d).key k) (is.before j d low)
-      | inr high ↦ behind j d high within
-    ]
+    | inl low ↦ lower_differs (key_cmp (get_or es j d).key k) (is.before j d low)
+    | inr high ↦ behind j d high within
+  ]

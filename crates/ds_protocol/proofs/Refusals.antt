@@ -1,6 +1,6 @@
 -- The refusals of a search in their order.
-use Rattle.std.proofs.Common.{◌≡◌, ℕ, Bool, true, false, List, [], ◌∷◌, Option, Some, None, Result, Ok, Err, refl, ap, sym, ◌∙◌, subst}
-use Rattle.std.specs.Prelude.{◌&&◌, ◌||◌, is_some}
+use Rattle.std.proofs.Common.{◌≡◌, ℕ, Bool, true, false, List, [], ◌∷◌, Option, Some, None, Ok, Err, refl, ap, sym, ◌∙◌, subst}
+use Rattle.std.specs.Prelude.{◌&&◌, is_some}
 use Rattle.ds_base.specs.Keys.{KeyParts}
 use Rattle.ds_indexdef.specs.declared.IndexDef.{IndexDef}
 use Rattle.ds_query.specs.declared.branch.Branch.{Branch}
@@ -22,7 +22,7 @@ use Rattle.ds_planner.specs.Missing.{missing_of}
 use Rattle.ds_reply.specs.declared.reply.Body.{Body}
 use Rattle.ds_reply.specs.declared.reply.Body.TheVariants as body
 use Rattle.ds_model.specs.Asked.{Search, has_cursors}
-use Rattle.ds_model.specs.Refusals.{Nothing, Places, PlacesRead, IfUnrefused, first_refusal, cursor_refusal, missing_body, missing_refusal, normal_refusal, ancestor_refusal, ancestor_group_refusal, form_refusal, search_refusal}
+use Rattle.ds_model.specs.Refusals.{Nothing, PlacesRead, IfUnrefused, first_refusal, cursor_refusal, missing_body, missing_refusal, normal_refusal, ancestor_refusal, ancestor_group_refusal, form_refusal, search_refusal}
 use Rattle.ds_model.specs.Sessions.{Session, Transaction}
 use Rattle.ds_protocol.specs.Cursors.{WindowRead, WindowRefused}
 use Rattle.ds_protocol.specs.Preparing.{IsInside, IsReady, IsRefused}
@@ -193,12 +193,12 @@ none_holds (r ∷ rs) e =
 several_cursorless : (q : Query) → reason_of q ≡ None → (is_several q.filters && q.cursors) ≡ false
 several_cursorless q e =
     let all = none_holds
-        ((list_any has_wrong_key q.filters, reason.KeyValue)
-        ∷ (list_any has_unindexed q.filters, reason.UnindexedValue)
-        ∷ (lacks_kind q, reason.Kindless)
-        ∷ (two_inequalities q.filters, reason.Inequalities)
-        ∷ (equal_and_range q.filters, reason.EqualAndRange)
-        ∷ later_reasons q) e in
+    ((list_any has_wrong_key q.filters, reason.KeyValue)
+    ∷ (list_any has_unindexed q.filters, reason.UnindexedValue)
+    ∷ (lacks_kind q, reason.Kindless)
+    ∷ (two_inequalities q.filters, reason.Inequalities)
+    ∷ (equal_and_range q.filters, reason.EqualAndRange)
+    ∷ later_reasons q) e in
     all.1.1.1.1.1.1.1.1.1.0
 
 no_texts : (start e : Option (List ℕ)) (cursor : Bool) → has_cursors start e cursor ≡ false → (start ≡ None) × (e ≡ None)

@@ -1,8 +1,7 @@
 -- From what is promised of a search that is prepared, refused or finished to the replies of the model: laws for servers.
-use Rattle.std.proofs.Common.{◌≡◌, ℕ, Bool, true, false, List, [], ◌∷◌, map, Option, Some, None, Result, Ok, Err, refl, ap, sym, ◌∙◌, subst}
+use Rattle.std.proofs.Common.{◌≡◌, ℕ, Bool, List, map, Option, Some, None, Ok, refl, ap, sym, ◌∙◌, subst}
 use Rattle.ds_base.specs.declared.results.Item.{Item}
 use Rattle.ds_base.specs.declared.results.Seen.{Seen}
-use Rattle.ds_base.specs.Keys.{KeyParts}
 use Rattle.ds_base.specs.Entities.{EntityParts}
 use Rattle.ds_query.specs.declared.branch.Normal.{Normal}
 use Rattle.ds_query.specs.declared.branch.Window.{Window}
@@ -16,7 +15,7 @@ use Rattle.ds_reply.specs.declared.reply.Body.{Body}
 use Rattle.ds_model.specs.Answers.{Finds, FoundOver, SearchAnswers, SearchRefusedOrAnswered, UnlessRefused, cursor_of, window_of}
 use Rattle.ds_model.specs.Asked
 use Rattle.ds_model.specs.Asked.{search_of}
-use Rattle.ds_model.specs.Refusals.{Places, PlacesRead, IfUnrefused, ancestor_group_refusal, form_refusal}
+use Rattle.ds_model.specs.Refusals.{Places, IfUnrefused, ancestor_group_refusal, form_refusal}
 use Rattle.ds_model.specs.Results.{result, items_of}
 use Rattle.ds_model.specs.Sessions.{Session}
 use Rattle.ds_model.specs.Worlds.{World}
@@ -52,11 +51,11 @@ pub search_answers : (w : World) (s : Session) (c : Call) (r : Search) (places :
     → SearchAnswers w s c (search_parts r) places (found r.statement selected results seen told) after
 search_answers w s c r places selected results seen told after is over =
     subst (λ b. SearchAnswers w s c (search_parts r) places (found b selected results seen told) after) (sym is.written) (by c is.exact) where
-  by : (c : Call) → search_of c ≡ Some (Ok (search_parts r))
-      → SearchAnswers w s c (search_parts r) places (found (is_statement c) selected results seen told) after
-  by (call.Query namespace kind ancestor filters orders select offset limit start end cursor) e = over
-  by (call.Gql namespace text args names start end cursor) e = over
-  by _ e = cc
+      by : (c : Call) → search_of c ≡ Some (Ok (search_parts r))
+          → SearchAnswers w s c (search_parts r) places (found (is_statement c) selected results seen told) after
+      by (call.Query namespace kind ancestor filters orders select offset limit start end cursor) e = over
+      by (call.Gql namespace text args names start end cursor) e = over
+      by _ e = cc
 
 -- ---- the whole reply
 

@@ -26,11 +26,7 @@ pub(crate) enum End {
 }
 
 /// The window of a search whose query has these branches, or the refusal of the start's text and then of the end's.
-pub(crate) fn window_of(
-    alloc: Global,
-    branches: &[Branch],
-    search: &Search,
-) -> Result<Window, Body>
+pub(crate) fn window_of(alloc: Global, branches: &[Branch], search: &Search) -> Result<Window, Body>
     ensures ok { IfOk result (WindowRead branches.now (search_parts search.now)) }
     ensures places { IfOk result (λ w. All (ArePlacesOf w) branches.now) }
     ensures refused { IfErr result (λ b. (b ≡ Body.NoMemory) ⊎ WindowRefused branches.now (search_parts search.now) b) }
@@ -39,12 +35,7 @@ pub(crate) fn window_of(
     if branches.len() == 1 {
         window_in(alloc, &branches[0], search)
     } else {
-        Ok(window_between(
-            End::Nothing,
-            End::Nothing,
-            search.offset,
-            search.limit,
-        ))
+        Ok(window_between(End::Nothing, End::Nothing, search.offset, search.limit))
     }
 }
 

@@ -1,4 +1,4 @@
-use Rattle.std.proofs.Common.{◌≡◌, List, length, sym, subst, ap}
+use Rattle.std.proofs.Common.{List, length, sym, subst, ap}
 use Rattle.ds_query.specs.declared.branch.Branch.{Branch}
 use Rattle.ds_query.specs.declared.branch.Window.{Window}
 use Rattle.ds_protocol.specs.Cursors.{WindowRead}

@@ -1,4 +1,4 @@
-use Rattle.std.proofs.Common.{◌≡◌, ℕ, ◌<◌, ◌≤◌, true, false, Bor, List, length, map, get_or, arith, ap, sym, ◌∙◌, Some, None}
+use Rattle.std.proofs.Common.{◌≡◌, ◌<◌, true, false, Bor, List, length, map, get_or, arith, ap, sym, ◌∙◌, Some}
 use Rattle.std.proofs.lemmas.List.{length-map, get_or-map}
 use Rattle.ds_base.specs.Keys.{KeyParts}
 use Rattle.ds_base.specs.Entities.{EntityParts}
@@ -15,11 +15,11 @@ returns-then-eq c =
     let e : EntityParts = c.index-entities-place.result.now in
     let all : length es ≡ length c.args.entities.now = length-map c.args.entities.now (λ (e : Bor EntityParts). e.now) in
     let here : get_or es place e ≡ e =
-        get_or-map (λ (e : Bor EntityParts). e.now) c.args.entities.now place c.index-entities-place.result e c.if-place-entities.true
-        ∙ ap (λ (e : Bor EntityParts). e.now) (sym c.index-entities-place.is) in
+    get_or-map (λ (e : Bor EntityParts). e.now) c.args.entities.now place c.index-entities-place.result e c.if-place-entities.true
+    ∙ ap (λ (e : Bor EntityParts). e.now) (sym c.index-entities-place.is) in
     let same : same_key (get_or es place e).key k ≡ true =
-        ap (λ (x : EntityParts). same_key x.key k) here ∙ ap (λ (x : KeyParts). same_key x k) (sym c.key.ensures.value)
-        ∙ sym c.eq.ensures ∙ c.if-eq.true in
+    ap (λ (x : EntityParts). same_key x.key k) here ∙ ap (λ (x : KeyParts). same_key x k) (sym c.key.ensures.value)
+    ∙ sym c.eq.ensures ∙ c.if-eq.true in
     sym (entity_at es k place e c.place_of-place.ensures (omega (arith, all, c.if-place-entities.true)) same ∙ ap (λ (x : EntityParts). Some x) here)
 
 pub returns : goal.returns
@@ -29,13 +29,13 @@ returns c =
     let place = c.place_of-place.result in
     let all : length es ≡ length c.args.entities.now = length-map c.args.entities.now (λ (e : Bor EntityParts). e.now) in
     let differs : (d : EntityParts) → place < length es → same_key (get_or es place d).key k ≡ false = λ d inside.
-        elim c.if-place-entities.branch [
-          | then-place-entities+else-eq w ↦
-              let low : place < length c.args.entities.now = omega (arith, all, inside) in
-              ap (λ (x : EntityParts). same_key x.key k)
-              (get_or-map (λ (e : Bor EntityParts). e.now) c.args.entities.now place w.index-entities-place.result d low
-              ∙ ap (λ (e : Bor EntityParts). e.now) (sym w.index-entities-place.is))
-              ∙ ap (λ (x : KeyParts). same_key x k) (sym w.key.ensures.value) ∙ sym w.eq.ensures ∙ w.if-eq.false
-          | else-place-entities w ↦ absurd (omega (arith, all, inside, w.if-place-entities.false))
-        ] in
+    elim c.if-place-entities.branch [
+      | then-place-entities+else-eq w ↦
+          let low : place < length c.args.entities.now = omega (arith, all, inside) in
+          ap (λ (x : EntityParts). same_key x.key k)
+          (get_or-map (λ (e : Bor EntityParts). e.now) c.args.entities.now place w.index-entities-place.result d low
+          ∙ ap (λ (e : Bor EntityParts). e.now) (sym w.index-entities-place.is))
+          ∙ ap (λ (x : KeyParts). same_key x k) (sym w.key.ensures.value) ∙ sym w.eq.ensures ∙ w.if-eq.false
+      | else-place-entities w ↦ absurd (omega (arith, all, inside, w.if-place-entities.false))
+    ] in
     sym (no_entity_at es k place c.requires c.place_of-place.ensures differs)

@@ -1,4 +1,4 @@
-use Rattle.std.proofs.Common.{◌≡◌, ℕ, ◌+◌, ◌-◌, ◌/◌, ◌<◌, ◌≤◌, true, false, Bor, List, length, map, get_or, arith, ap, sym, ◌∙◌}
+use Rattle.std.proofs.Common.{◌≡◌, ℕ, ◌+◌, ◌-◌, ◌/◌, ◌<◌, true, false, Bor, List, length, map, get_or, arith, ap, sym, ◌∙◌}
 use Rattle.std.proofs.lemmas.List.{length-map, get_or-map}
 use Rattle.std.specs.Ordering.{is_lt}
 use Rattle.std.specs.declared.cmp.Ordering.{Ordering}
@@ -16,11 +16,11 @@ loop-low-preserved-then-is_lt c =
     let inside : m < length c.args.entities.now = omega (arith, c.loop-low.invariant.within, c.loop-low-test.true) in
     let all : length es ≡ length c.args.entities.now = length-map c.args.entities.now (λ (e : Bor EntityParts). e.now) in
     let here : (d : EntityParts) → is_lt (key_cmp (get_or es m d).key k) ≡ true = λ d.
-        ap (λ (e : EntityParts). is_lt (key_cmp e.key k))
-        (get_or-map (λ (e : Bor EntityParts). e.now) c.args.entities.now m c.index-entities-middle.result d inside
-        ∙ ap (λ (e : Bor EntityParts). e.now) (sym c.index-entities-middle.is))
-        ∙ ap (λ (x : KeyParts). is_lt (key_cmp x k)) (sym c.key.ensures.value)
-        ∙ ap (λ (o : Ordering). is_lt o) (sym c.cmp.ensures.value) ∙ sym c.is_lt.ensures ∙ c.if-is_lt.true in
+    ap (λ (e : EntityParts). is_lt (key_cmp e.key k))
+    (get_or-map (λ (e : Bor EntityParts). e.now) c.args.entities.now m c.index-entities-middle.result d inside
+    ∙ ap (λ (e : Bor EntityParts). e.now) (sym c.index-entities-middle.is))
+    ∙ ap (λ (x : KeyParts). is_lt (key_cmp x k)) (sym c.key.ensures.value)
+    ∙ ap (λ (o : Ordering). is_lt o) (sym c.cmp.ensures.value) ∙ sym c.is_lt.ensures ∙ c.if-is_lt.true in
     record {
       ordered = omega (arith, c.loop-low-test.true);
       within = c.loop-low.invariant.within;
@@ -36,11 +36,11 @@ loop-low-preserved c =
     let inside : m < length c.args.entities.now = omega (arith, c.loop-low.invariant.within, c.loop-low-test.true) in
     let all : length es ≡ length c.args.entities.now = length-map c.args.entities.now (λ (e : Bor EntityParts). e.now) in
     let here : (d : EntityParts) → is_lt (key_cmp (get_or es m d).key k) ≡ false = λ d.
-        ap (λ (e : EntityParts). is_lt (key_cmp e.key k))
-        (get_or-map (λ (e : Bor EntityParts). e.now) c.args.entities.now m c.index-entities-middle.result d inside
-        ∙ ap (λ (e : Bor EntityParts). e.now) (sym c.index-entities-middle.is))
-        ∙ ap (λ (x : KeyParts). is_lt (key_cmp x k)) (sym c.key.ensures.value)
-        ∙ ap (λ (o : Ordering). is_lt o) (sym c.cmp.ensures.value) ∙ sym c.is_lt.ensures ∙ c.if-is_lt.false in
+    ap (λ (e : EntityParts). is_lt (key_cmp e.key k))
+    (get_or-map (λ (e : Bor EntityParts). e.now) c.args.entities.now m c.index-entities-middle.result d inside
+    ∙ ap (λ (e : Bor EntityParts). e.now) (sym c.index-entities-middle.is))
+    ∙ ap (λ (x : KeyParts). is_lt (key_cmp x k)) (sym c.key.ensures.value)
+    ∙ ap (λ (o : Ordering). is_lt o) (sym c.cmp.ensures.value) ∙ sym c.is_lt.ensures ∙ c.if-is_lt.false in
     record {
       ordered = omega (arith, c.loop-low-test.true);
       within = omega (arith, c.loop-low.invariant.within, c.loop-low-test.true);

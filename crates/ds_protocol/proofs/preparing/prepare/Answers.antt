@@ -1,4 +1,4 @@
-use Rattle.std.proofs.Common.{◌≡◌, Err, None, Some, sym, subst, inl, inr, ◌⊎◌, IfErr, rules}
+use Rattle.std.proofs.Common.{◌≡◌, Err, Some, sym, subst, inl, inr, ◌⊎◌, IfErr, rules}
 use Rattle.ds_reply.specs.declared.reply.Body.{Body}
 use Rattle.ds_reply.specs.declared.reply.Body.TheVariants as body
 use Rattle.ds_model.specs.Refusals.{form_refusal}
@@ -16,7 +16,7 @@ returns-in_err-normal-clause-refused c =
     let b = c.in_err-normal.field-0.0 in
     let r : c.from_residual.result ≡ Err b = search rules in
     let given : (b ≡ body.NoMemory) ⊎ ((s : Session) → IsInside c.args.in_transaction s → form_refusal s c.args.search.now.query ≡ Some b) =
-        c.in_err-normal.ensures.refused in
+    c.in_err-normal.ensures.refused in
     subst (λ x. IfErr x P) (sym r) (elim given [
       | inl e ↦ inl e
       | inr form ↦ inr (refused_form c.args.defs.now c.args.in_transaction (search_parts c.args.search.now) b form)
