@@ -5,7 +5,10 @@ pub mod FrontLemmas
 pub mod GoingOn
 pub mod GoingOnLaws
 pub mod NumberLemmas
+pub mod PrintingLaws
+pub mod PrintingSteps
 pub mod ReadingLemmas
 pub mod RunLemmas
 pub mod SentenceLaws
 pub mod SentenceSteps
+pub mod TokenLaws

@@ -14,9 +14,12 @@ mod draft;
 pub mod laws;
 mod lexer;
 pub mod parser;
+mod printer;
+pub mod printing;
 pub mod statement;
 mod steps;
 mod token;
 
 pub use parser::parse;
+pub use printing::{PrintRefused, Printed, can_print, print};
 pub use statement::{Bindings, GqlRefused, Statement};

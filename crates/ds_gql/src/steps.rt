@@ -9,8 +9,8 @@ mod keys;
 mod limits;
 mod operands;
 mod orders;
-mod selection;
-mod strings;
+pub(crate) mod selection;
+pub(crate) mod strings;
 
 use crate::draft::{Draft, Phase};
 use crate::statement::Bindings;
