@@ -1,3 +1,4 @@
+pub mod BackSteps
 pub mod ClosingLemmas
 pub mod ConditionSteps
 pub mod DoublingLemmas
@@ -5,9 +6,11 @@ pub mod FrontLemmas
 pub mod GoingOn
 pub mod GoingOnLaws
 pub mod NumberLemmas
+pub mod PrintedLaws
 pub mod PrintingLaws
 pub mod PrintingSteps
 pub mod ReadingLemmas
+pub mod Rests
 pub mod RunLemmas
 pub mod SentenceLaws
 pub mod SentenceSteps

@@ -142,15 +142,16 @@ module _ (args : List Value) where
       ∙ there ∙ ap (λ (gs : List Filter). Some (gs, so_far.1)) (append_assoc so_far.0 (f ∷ []) fs)
 
 conditions_said : (ancestor : Option KeyParts) (filters : List Filter) → list_all has_operands filters ≡ true → list_all is_lawful (ancestor_values ancestor ++ filter_values filters) ≡ true
-    → with_conditions (given_of (all_cited (ancestor_values ancestor ++ filter_values filters))) ([], None) (all_conditions ancestor filters) ≡ Some (filters, ancestor)
+    → with_conditions (given_of (all_cited (ancestor_values ancestor ++ filter_values filters))) ([], None) (all_conditions 0 ancestor filters) ≡ Some (filters, ancestor)
 conditions_said None filters enough lawful =
     filters_said (all_cited (filter_values filters)) [] [] 0 ([], None) filters refl (sym (append-nil (all_cited (filter_values filters)))) enough lawful
 conditions_said (Some k) filters enough lawful =
     let args = all_cited (value.Key k ∷ filter_values filters) in
     let parts = and_parts (is_lawful (value.Key k)) (list_all is_lawful (filter_values filters)) lawful in
+    let count : 0 + length (cited (value.Key k)) ≡ length (cited (value.Key k)) = omega arith in
     let here = operand_said args [] (all_cited (filter_values filters)) 0 (value.Key k) refl refl parts.0 in
-    ap (λ o. option_and_then (λ next. with_conditions (given_of args) next (conditions_of (length (cited (value.Key k))) filters)) (option_and_then (λ (j : KeyParts). Some ([], Some j)) (option_and_then key_in o))) here
-    ∙ filters_said args (cited (value.Key k)) [] (length (cited (value.Key k))) ([], Some k) filters refl (ap (λ x. cited (value.Key k) ++ x) (sym (append-nil (all_cited (filter_values filters))))) enough parts.1
+    ap (λ o. option_and_then (λ next. with_conditions (given_of args) next (conditions_of (0 + length (cited (value.Key k))) filters)) (option_and_then (λ (j : KeyParts). Some ([], Some j)) (option_and_then key_in o))) here
+    ∙ filters_said args (cited (value.Key k)) [] (0 + length (cited (value.Key k))) ([], Some k) filters count (ap (λ x. cited (value.Key k) ++ x) (sym (append-nil (all_cited (filter_values filters))))) enough parts.1
 
 -- ---- the other parts
 

@@ -1,5 +1,5 @@
 -- What is written of a token is read as that token.
-use Rattle.std.proofs.Common.{◌≡◌, ℕ, suc, ◌+◌, ◌-◌, ◌<◌, ◌≤◌, ◌^◌, Bool, true, false, cond, not, List, [], ◌∷◌, ◌++◌, length, take, get_or, Option, Some, None, refl, sym, ap, ◌∙◌, arith, append_assoc, length-append, eqb-true}
+use Rattle.std.proofs.Common.{◌≡◌, ℕ, suc, ◌+◌, ◌-◌, ◌<◌, ◌≤◌, ◌^◌, Bool, true, false, cond, not, List, [], ◌∷◌, ◌++◌, length, take, get_or, Option, Some, None, refl, sym, ap, ◌∙◌, arith, append_assoc, length-append, eqb-true, ℤ, FitsSigned, w64}
 use Rattle.std.specs.Prelude.{pos, negsuc, neg_ℤ, nat_lt, nat_le, ◌&&◌, ◌||◌, ◌==◌, option_map, unwrap_or, is_some, decimal, codes}
 use Rattle.std.specs.Fmt.{signed_decimal}
 use Rattle.std.specs.Char.{is_ascii_digit}
@@ -157,20 +157,18 @@ unfolding closing
 closing_other b [] n other e = absurd (cc)
 closing_other b (c ∷ rest) n other e = passed (is_quote b) _ _ other ∙ ap (option_map (λ k. k + 1)) e
 
+closing_quote : (rest : List ℕ) (n : ℕ) → closing rest ≡ Some n → closing (39 ∷ 39 ∷ rest) ≡ Some (n + 2)
+unfolding closing
+closing_quote rest n e = ap (λ o. Some (unwrap_or (option_map (λ k. k + 2) o) 1)) e
+
 closing_doubled : (text tail : List ℕ) → closing (39 ∷ tail) ≡ Some 1 → closing (doubled text ++ 39 ∷ tail) ≡ Some (length (doubled text) + 1)
 closing_doubled [] tail ends = ends
 closing_doubled (b ∷ text) tail ends = by (is_quote b) (closing_doubled text tail ends) refl where
-  Goal : List ℕ → Type 0
-  Goal bytes = closing ((bytes ++ doubled text) ++ 39 ∷ tail) ≡ Some (length (bytes ++ doubled text) + 1)
-
-  quote : closing (doubled text ++ 39 ∷ tail) ≡ Some (length (doubled text) + 1) → Goal (39 ∷ 39 ∷ [])
-  unfolding closing
-  quote later =
+  by : (q : Bool) → closing (doubled text ++ 39 ∷ tail) ≡ Some (length (doubled text) + 1) → is_quote b ≡ q
+      → closing ((cond q (39 ∷ 39 ∷ []) (b ∷ []) ++ doubled text) ++ 39 ∷ tail) ≡ Some (length (cond q (39 ∷ 39 ∷ []) (b ∷ []) ++ doubled text) + 1)
+  by true later is =
       let e : length (doubled text) + 1 + 2 ≡ suc (suc (length (doubled text))) + 1 = omega arith in
-      ap (λ o. Some (unwrap_or (option_map (λ n. n + 2) o) 1)) later ∙ ap Some e
-
-  by : (q : Bool) → closing (doubled text ++ 39 ∷ tail) ≡ Some (length (doubled text) + 1) → is_quote b ≡ q → Goal (cond q (39 ∷ 39 ∷ []) (b ∷ []))
-  by true later is = quote later
+      closing_quote (doubled text ++ 39 ∷ tail) (length (doubled text) + 1) later ∙ ap Some e
   by false later is =
       let e : length (doubled text) + 1 + 1 ≡ suc (length (doubled text)) + 1 = omega arith in
       closing_other b (doubled text ++ 39 ∷ tail) (length (doubled text) + 1) is later ∙ ap Some e
@@ -302,6 +300,11 @@ negative_token n small =
       amid = λ rest. integer_read 45 (decimal (suc n)) (32 ∷ rest) (integer (negsuc n)) digits refl (ap (λ o. integer_by o (length (decimal (suc n)))) value);
       last = integer_read 45 (decimal (suc n)) [] (integer (negsuc n)) digits refl (ap (λ o. integer_by o (length (decimal (suc n)))) value);
     }
+
+-- any integer of 64 bits with a sign
+pub integer_token : (i : ℤ) → FitsSigned w64 i → IsToken (integer i)
+integer_token (pos n) fits = natural_token n (omega (arith, fits))
+integer_token (negsuc n) fits = negative_token n (omega (arith, fits))
 
 numbered_read : (n : ℕ) (c : ℕ) (cs tail : List ℕ) → is_ascii_digit c ≡ true → 48 < c → list_all is_ascii_digit cs ≡ true → digits_value 10 (c ∷ cs) ≡ n → n < 2 ^ 64 → prefix_len is_ascii_digit tail ≡ 0 → front (58 ∷ (c ∷ cs) ++ tail) ≡ found (numbered n) (length (c ∷ cs))
 unfolding front binding numbered_front

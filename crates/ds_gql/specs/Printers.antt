@@ -38,6 +38,10 @@ is_lawful _ = true
 abbrev pub Appends : List ℕ → Printer → Printer → Type 0
 Appends text old new = new.refused ≡ false → (old.refused ≡ false) × (string_bytes new.text ≡ string_bytes old.text ++ text) × (new.args ≡ old.args)
 
+-- this value is the last argument
+abbrev pub Cites : Value → Printer → Printer → Type 0
+Cites v old new = new.refused ≡ false → (old.refused ≡ false) × (string_bytes new.text ≡ string_bytes old.text) × (new.args ≡ old.args ++ v ∷ [])
+
 -- These tokens stand behind what was printed, each behind a space, and are read back; they cite the arguments of these values,
 -- which are lawful. Nothing is promised where memory was refused.
 abbrev pub Puts : List Piece → List Value → Printer → Printer → Type 0

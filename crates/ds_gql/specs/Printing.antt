@@ -153,9 +153,9 @@ conditions_of before [] = []
 conditions_of before (f ∷ filters) = condition_of before f ∷ conditions_of (before + length (all_cited f.values)) filters
 
 -- the ancestor's condition stands first
-abbrev pub all_conditions : Option KeyParts → List Filter → List Condition
-all_conditions None filters = conditions_of 0 filters
-all_conditions (Some k) filters = under (key_operand 0 k) ∷ conditions_of (length (cited (value.Key k))) filters
+abbrev pub all_conditions : ℕ → Option KeyParts → List Filter → List Condition
+all_conditions before None filters = conditions_of before filters
+all_conditions before (Some k) filters = under (key_operand before k) ∷ conditions_of (before + length (cited (value.Key k))) filters
 
 abbrev pub what_of : Select → What
 what_of select.Entities = everything
@@ -177,7 +177,7 @@ abbrev pub sentence_of : Statement → Sentence
 sentence_of st = record {
   what = what_of st.query.select;
   kind = st.query.kind;
-  conditions = all_conditions st.query.ancestor st.query.filters;
+  conditions = all_conditions 0 st.query.ancestor st.query.filters;
   orders = map order_of st.query.orders;
   limits = limits_of st.limit st.offset;
 }

@@ -1,8 +1,8 @@
 //! What a statement is printed into: its text, token by token, and the arguments that the text cites.
-ghost use Rattle.std.specs.Prelude.{◌≡◌, ◌≤◌, ◌<◌, ◌^◌, ◌+◌, [], ◌∷◌, length, pos, true, false};
+ghost use Rattle.std.specs.Prelude.{◌≡◌, ◌≤◌, ◌<◌, ◌^◌, ◌+◌, [], ◌∷◌, length, pos, decimal, true, false};
 ghost use Rattle.ds_base.specs.Limits.{greatest_id};
 ghost use Rattle.ds_gql.specs.Pieces.{fixed, integer, name, numbered, string, is};
-ghost use Rattle.ds_gql.specs.Printers.{Appends, Puts, is_lawful};
+ghost use Rattle.ds_gql.specs.Printers.{Appends, Cites, Puts, is_lawful};
 ghost use Rattle.ds_gql.specs.Printing.{mark_text, is_plain, is_written_name, doubled, has_literal};
 ghost use Rattle.ds_gql.specs.declared.token.Mark.TheVariants as variants;
 
@@ -88,23 +88,19 @@ impl Printer {
         self.append("'");
     }
 
-    /// The number of the next binding.
-    fn next_number(&self) -> u64
-        ensures number { result ≡ length self.now.args + 1 }
-        ensures bounded { result < 2 ^ 64 }
-    {
-        self.args.len() as u64 + 1
-    }
-
     /// The next binding, which stands for this value.
     fn put_argument(&mut self, value: Value)
         requires bound { has_literal value ≡ false }
         requires lawful { is_lawful value ≡ true }
         ensures { Puts (numbered (length self.old.args + 1) ∷ []) (value ∷ []) self.old self.new }
     {
-        let number = self.next_number();
-        self.append(" :");
-        self.append(itoa::Buffer::new().format(number));
+        self.push_argument(value);
+        self.put_last_number();
+    }
+
+    fn push_argument(&mut self, value: Value)
+        ensures { Cites value self.old self.new }
+    {
         if self.refused {
             return;
         }
@@ -112,6 +108,24 @@ impl Printer {
             Ok(()) => {}
             Err(_) => self.refused = true,
         }
+    }
+
+    /// The binding of the last argument.
+    fn put_last_number(&mut self)
+        ensures text { Appends (32 ∷ 58 ∷ decimal (length self.old.args)) self.old self.new }
+        ensures bounded { length self.old.args < 2 ^ 64 }
+    {
+        let number = self.cited();
+        self.append(" :");
+        self.append(itoa::Buffer::new().format(number));
+    }
+
+    /// How many arguments are cited.
+    fn cited(&self) -> u64
+        ensures number { result ≡ length self.now.args }
+        ensures bounded { result < 2 ^ 64 }
+    {
+        self.args.len() as u64
     }
 }
 

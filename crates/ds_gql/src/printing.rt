@@ -1,5 +1,5 @@
 //! From a statement to a text.
-ghost use Rattle.std.specs.Prelude.{◌≡◌, ◌↔◌, ◌&&◌, not, IsTrue, IfOk, Err, Ok, [], bytes_eq};
+ghost use Rattle.std.specs.Prelude.{◌≡◌, ◌↔◌, ◌&&◌, not, IsTrue, IfOk, Err, Ok, [], bytes_eq, false};
 ghost use Rattle.std.specs.List.{list_all, list_any};
 ghost use Rattle.ds_query.specs.Filters.{has_operands};
 ghost use Rattle.ds_query.specs.declared.query.Select.TheVariants as select;

@@ -17,17 +17,16 @@ use ds_query::{Filter, Op};
 use std::alloc::Global;
 
 impl Printer {
-    /// The conditions of a statement, where nothing is cited before them.
+    /// The conditions of a statement.
     pub(super) fn put_conditions(
         &mut self,
         alloc: Global,
         ancestor: &Option<Key>,
         filters: &[Filter],
     )
-        requires first { self.old.args ≡ [] }
         requires names { has_written_properties filters.now ≡ true }
         requires values { list_all has_operands filters.now ≡ true }
-        ensures { Puts (led_by (fixed mark.Where ∷ []) (fixed mark.And) condition_pieces (all_conditions ancestor.now filters.now))
+        ensures { Puts (led_by (fixed mark.Where ∷ []) (fixed mark.And) condition_pieces (all_conditions (length self.old.args) ancestor.now filters.now))
             (ancestor_values ancestor.now ++ filter_values filters.now) self.old self.new }
     {
         match ancestor {
@@ -90,7 +89,12 @@ impl Printer {
             [] => {}
             [first, rest @ ..] => match op {
                 Op::OneOf => self.put_list(alloc, first, rest),
-                _ => self.put_value(alloc, first),
+                Op::Equal
+                | Op::Less
+                | Op::LessEqual
+                | Op::Greater
+                | Op::GreaterEqual
+                | Op::NotEqual => self.put_value(alloc, first),
             },
         }
     }

@@ -40,10 +40,10 @@ impl Printer {
         }
     }
 
-    fn put_truth(&mut self, truth: bool)
-        ensures { Puts (truth truth ∷ []) [] self.old self.new }
+    fn put_truth(&mut self, holds: bool)
+        ensures { Puts (truth holds ∷ []) [] self.old self.new }
     {
-        if truth {
+        if holds {
             self.put_mark(Mark::True);
         } else {
             self.put_mark(Mark::False);
