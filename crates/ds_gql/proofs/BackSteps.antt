@@ -1,6 +1,6 @@
 -- What is read of a text is a sentence: each token that takes a step is one more of what is left of a sentence.
 use Rattle.std.proofs.Common.{◌≡◌, ℕ, Bool, true, false, cond, List, [], ◌∷◌, ◌++◌, length, map, Option, Some, None, ◌⊎◌, inl, inr, refl, sym, ap, ◌∙◌, subst, append_assoc, append-nil}
-use Rattle.std.specs.Prelude.{option_map, option_and_then, pos, negsuc, nat_lt, nat_le, bytes_eq, unwrap_or}
+use Rattle.std.specs.Prelude.{option_map, option_and_then, pos, negsuc, nat_lt, nat_le, ◌||◌, bytes_eq, unwrap_or}
 use Rattle.std.specs.List.{list_any}
 use Rattle.std.proofs.lemmas.Slice.Eq.{bytes_eq-Decides}
 use denote.Enum.Bare.{same_true}
@@ -36,7 +36,7 @@ use Rattle.ds_gql.proofs.Rests.{shows, after_limits, or_else, with_filter_of, de
 
 -- ---- what a token is by what it is read as
 
-is_mark : (m : Mark) (p : Piece) → is m p ≡ true → p ≡ fixed m
+pub is_mark : (m : Mark) (p : Piece) → is m p ≡ true → p ≡ fixed m
 is_mark m (fixed found) e = ap fixed (same_true the_type tt found m e)
 is_mark m _ e = absurd (cc)
 
@@ -191,7 +191,7 @@ module _ (given : Bindings) (st : Statement) (next : Draft) (ps : List Piece) wh
 
       -- a condition, and those behind it
       several_said : (v : Shown) (c : Condition) (cs : List Condition) (first last : Conditions) → with_condition given (v.filters, v.ancestor) c ≡ Some first → with_conditions given first cs ≡ Some last → with_conditions given (v.filters, v.ancestor) (c ∷ cs) ≡ Some last
-      several_said v c cs first last one two = ap (option_and_then (λ n. with_conditions given n cs)) one ∙ two
+      several_said v c cs first last here there = ap (option_and_then (λ n. with_conditions given n cs)) here ∙ there
 
       conditions_spelled : (v : Shown) (c : ConditionRest given st v [] ps) → ps ≡ (condition_pieces c.condition ++ others (fixed mark.And) condition_pieces c.rest.conditions) ++ c.rest.tail
       conditions_spelled v c =
@@ -275,7 +275,7 @@ module _ (given : Bindings) (st : Statement) (next : Draft) (ps : List Piece) wh
       back phase.What v r e =
           let d = draft phase.What v r in
           either (is mark.Star p) (record d { phase = phase.Selected }) _ e (λ t rest. inl (led mark.Star (SelectedRest given st v) t rest))
-          (λ e. given_some (name_in p) (select_named d) e refl (λ text named e. by (bytes_eq text key_name) refl text named e)) where
+          (λ e. given_some (name_in p) (select_named d) e refl (λ text named e. by (bytes_eq text key_name) text refl named e)) where
             keys_named : (text : List ℕ) → bytes_eq text key_name ≡ true → text ≡ key_name
             keys_named text same = (bytes_eq-Decides text key_name).0 same
 
@@ -302,7 +302,7 @@ module _ (given : Bindings) (st : Statement) (next : Draft) (ps : List Piece) wh
             names = n.text ∷ n.rest.names;
             tail = n.rest.tail;
             spelled = first_is (is_mark mark.Comma p t) ∙ ap (λ q. comma ∷ q) (n.spelled ∙ ap (λ q. name n.text ∷ q) n.rest.spelled);
-            other = ap (λ b. cond b true (list_any (λ m. bytes_eq m key_name) n.rest.names)) n.other ∙ n.rest.other;
+            other = ap (λ b. b || list_any (λ m. bytes_eq m key_name) n.rest.names) n.other ∙ n.rest.other;
             rest = subst (λ (ns : List (List ℕ)). SelectedRest given st (record v { names = ns }) n.rest.tail) (append_assoc v.names (n.text ∷ []) n.rest.names) n.rest.rest;
           })
           (λ e. record {
@@ -312,7 +312,7 @@ module _ (given : Bindings) (st : Statement) (next : Draft) (ps : List Piece) wh
             other = refl;
             rest = subst (λ (ns : List (List ℕ)). SelectedRest given st (record v { names = ns }) (p ∷ ps)) (sym (append-nil v.names)) (kind_back (draft phase.NameRead v r) e);
           })
-      back phase.NextName v r e = given_some (name_in p) (next_named (draft phase.NextName v r)) e refl (λ text named e. by (bytes_eq text key_name) refl text named e) where
+      back phase.NextName v r e = given_some (name_in p) (next_named (draft phase.NextName v r)) e refl (λ text named e. by (bytes_eq text key_name) text refl named e) where
         by : (b : Bool) (text : List ℕ) → bytes_eq text key_name ≡ b → name_in p ≡ Some text → cond b None (projected (draft phase.NextName v r) text) ≡ Some next → NameRest given st v (p ∷ ps)
         by true text same named e = absurd (cc)
         by false text other named e = record {

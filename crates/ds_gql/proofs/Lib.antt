@@ -1,7 +1,9 @@
+pub mod BackLaws
 pub mod BackSteps
 pub mod ClosingLemmas
 pub mod ConditionSteps
 pub mod DoublingLemmas
+pub mod EndLaws
 pub mod FrontLemmas
 pub mod GoingOn
 pub mod GoingOnLaws

@@ -187,7 +187,7 @@ limits_said (Some n) m few some = by (m == 0) refl where
 
 -- ---- the whole
 
-abbrev printed_as : Sentence → Conditions → ℕ × Option ℕ → Statement
+abbrev pub printed_as : Sentence → Conditions → ℕ × Option ℕ → Statement
 printed_as s found bounds = record {
   query = record {
     namespace = [];
@@ -202,7 +202,7 @@ printed_as s found bounds = record {
   limit = bounds.1;
 }
 
-said_by : {A B C : Type 0} (c : Bool) (o : Option A) (b : Option B) (f : A → B → C) (x : A) (y : B) → c ≡ true → o ≡ Some x → b ≡ Some y → cond c (option_and_then (λ a. option_map (f a) b) o) None ≡ Some (f x y)
+pub said_by : {A B C : Type 0} (c : Bool) (o : Option A) (b : Option B) (f : A → B → C) (x : A) (y : B) → c ≡ true → o ≡ Some x → b ≡ Some y → cond c (option_and_then (λ a. option_map (f a) b) o) None ≡ Some (f x y)
 said_by c o b f x y c_is o_is b_is = chosen _ _ _ c_is ∙ ap (option_and_then (λ a. option_map (f a) b)) o_is ∙ ap (option_map (f x)) b_is
 
 not_true : (b : Bool) → not b ≡ true → false ≡ b
@@ -242,7 +242,7 @@ module _ (st : Statement) (able : can_print st ≡ true) (named : has_written_na
         limit = st.limit;
       } in t))
 
-pieces_end : (s : Sentence) → pieces s ≡ fixed mark.Select ∷ sentence_pieces s ++ fixed mark.End ∷ []
+pub pieces_end : (s : Sentence) → pieces s ≡ fixed mark.Select ∷ sentence_pieces s ++ fixed mark.End ∷ []
 pieces_end s =
     let e = fixed mark.End ∷ [] in
     let w = what_pieces s.what in

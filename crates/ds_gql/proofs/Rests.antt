@@ -1,5 +1,5 @@
 -- What is left of a sentence behind what has been read, for each phase of reading.
-use Rattle.std.proofs.Common.{◌≡◌, ℕ, Bool, List, [], ◌∷◌, ◌++◌, map, Option, Some, None, ◌⊎◌, true}
+use Rattle.std.proofs.Common.{◌≡◌, ℕ, Bool, List, [], ◌∷◌, ◌++◌, map, Option, Some, None, ◌⊎◌, true, false}
 use Rattle.std.specs.Prelude.{pos, option_and_then, bytes_eq, unwrap_or}
 use Rattle.std.specs.List.{list_any}
 use Rattle.ds_base.specs.Keys.{KeyParts, is_name, is_path}
