@@ -7,6 +7,7 @@ pub mod EndLaws
 pub mod FrontLemmas
 pub mod GoingOn
 pub mod GoingOnLaws
+pub mod IndexLemmas
 pub mod NumberLemmas
 pub mod PrintedLaws
 pub mod PrintingLaws

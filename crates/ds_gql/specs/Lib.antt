@@ -1,3 +1,4 @@
+pub mod Arguments
 pub mod Fronts
 pub mod GqlLaws
 pub mod Pieces

@@ -10,6 +10,7 @@
 //! is read twice.
 #![tactic(auto)]
 
+mod arguments;
 mod draft;
 pub mod laws;
 mod lexer;
