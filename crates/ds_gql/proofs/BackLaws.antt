@@ -1,8 +1,7 @@
 -- What is read of a text is a sentence, and so is what the tokens before the place where one stops go on to.
-use Rattle.std.proofs.Common.{◌≡◌, ℕ, zero, suc, Bool, true, false, cond, not, List, [], ◌∷◌, ◌++◌, length, map, Option, Some, None, Ok, Err, inl, inr, refl, sym, ap, ◌∙◌, subst, arith, append_assoc}
-use Rattle.std.specs.Prelude.{pos, option_map, option_and_then, ◌&&◌, ◌||◌, ◌==◌, bytes_eq}
+use Rattle.std.proofs.Common.{◌≡◌, ℕ, suc, Bool, true, false, cond, not, List, [], ◌∷◌, ◌++◌, length, map, Option, Some, None, inl, inr, refl, sym, ap, ◌∙◌, subst, arith, append_assoc}
+use Rattle.std.specs.Prelude.{pos, option_map, option_and_then, ◌||◌, ◌==◌, bytes_eq}
 use Rattle.std.specs.List.{list_any}
-use Rattle.std.specs.Str.{str_eq_ignore_ascii_case}
 use Rattle.std.proofs.lemmas.Bool.Decides.{nat_tests}
 use Rattle.ds_query.specs.declared.query.Select.{Select}
 use Rattle.ds_query.specs.declared.query.Select.TheVariants as select
@@ -11,15 +10,13 @@ use Rattle.ds_gql.specs.declared.statement.Statement.{Statement}
 use Rattle.ds_gql.specs.declared.draft.Phase.{Phase}
 use Rattle.ds_gql.specs.declared.draft.Phase.TheVariants as phase
 use Rattle.ds_gql.specs.declared.draft.Draft.{Draft}
-use Rattle.ds_gql.specs.declared.token.Mark.{Mark}
 use Rattle.ds_gql.specs.declared.token.Mark.TheVariants as mark
 use Rattle.ds_gql.specs.Pieces.{Piece, fixed, name, is}
-use Rattle.ds_gql.specs.Tokens.{Token}
 use Rattle.ds_gql.specs.Steps.{step, empty, complete, selected, count_of, key_name}
-use Rattle.ds_gql.specs.Sentences.{What, everything, keys, names, Limits, none, limit, limit_offset, pair, offset, Sentence, comma, led_by, what_pieces, kind_pieces, condition_pieces, order_pieces, limits_pieces, pieces, is_what, select_of, is_kind, with_conditions, column_of, bounds_of, says, Derives}
+use Rattle.ds_gql.specs.Sentences.{What, everything, keys, names, Limits, none, limit, limit_offset, pair, offset, Sentence, comma, led_by, what_pieces, kind_pieces, condition_pieces, order_pieces, limits_pieces, pieces, is_what, select_of, column_of, bounds_of, says}
 use Rattle.ds_gql.proofs.SentenceSteps.{Shown, Open, draft, stepped_to, read_pieces}
 use Rattle.ds_gql.proofs.GoingOn.{shown_of, open_of}
-use Rattle.ds_gql.proofs.Rests.{shows, after_limits, AreCounts, or_else, Led, LimitsRest, OrdersRest, WhereRest, SelectedRest, NamesRest, NameRest, KeysRest, WhatRest, Rest}
+use Rattle.ds_gql.proofs.Rests.{shows, after_limits, AreCounts, or_else, Led, SelectedRest, WhatRest, Rest}
 use Rattle.ds_gql.proofs.BackSteps.{is_mark, back}
 use Rattle.ds_gql.proofs.PrintingLaws.{printed_as, said_by}
 use Rattle.ds_gql.proofs.TokenLaws.{both}

@@ -1,6 +1,6 @@
 -- The end of a text is its last token and no other.
-use Rattle.std.proofs.Common.{◌≡◌, ℕ, zero, suc, ◌+◌, ◌-◌, ◌^◌, Bool, true, false, cond, not, List, [], ◌∷◌, ◌++◌, length, take, drop, Option, Some, None, Ok, Err, refl, sym, ap, ◌∙◌, subst, append_assoc, append-nil}
-use Rattle.std.specs.Prelude.{ℤ, pos, nat_lt, ◌&&◌, ◌||◌, ◌==◌, slice_index}
+use Rattle.std.proofs.Common.{◌≡◌, ℕ, zero, suc, ◌+◌, ◌^◌, Bool, true, false, cond, not, List, [], ◌∷◌, ◌++◌, length, take, drop, Option, Some, None, Ok, refl, sym, ap, ◌∙◌, append_assoc, append-nil}
+use Rattle.std.specs.Prelude.{ℤ, nat_lt, ◌&&◌, ◌||◌, ◌==◌, slice_index}
 use Rattle.std.specs.Char.{is_ascii_digit}
 use Rattle.std.specs.List.{list_all, prefix_len, position_or_len}
 use Rattle.std.specs.Str.{str_eq_ignore_ascii_case}
@@ -19,9 +19,8 @@ use Rattle.ds_gql.specs.Sentences.{Sentence, pieces, Derives}
 use Rattle.ds_gql.specs.GqlLaws.{pieces_of, OnlySentencesAreRead}
 use Rattle.ds_gql.specs.Printers.{sentence_pieces}
 use Rattle.ds_gql.proofs.SentenceSteps.{stepped_to, read_pieces}
-use Rattle.ds_gql.proofs.ReadingLemmas.{read_on-cons}
 use Rattle.ds_gql.proofs.PrintingLaws.{pieces_end}
-use Rattle.ds_gql.proofs.BackLaws.{Begins, sentence_begins}
+use Rattle.ds_gql.proofs.BackLaws.{sentence_begins}
 
 -- ---- no token of a text but the last is its end
 

@@ -1,5 +1,5 @@
 -- The index of named arguments, name by name.
-use Rattle.std.proofs.Common.{◌≡◌, ℕ, ◌+◌, ◌<◌, Bool, true, false, cond, List, [], ◌∷◌, length, drop, get_or, Option, Some, None, Bor, refl, sym, ap, ◌∙◌, arith}
+use Rattle.std.proofs.Common.{◌≡◌, ℕ, ◌+◌, ◌<◌, Bool, true, false, cond, List, length, drop, get_or, Some, Bor, sym, ap, ◌∙◌}
 use Rattle.std.specs.Prelude.{option_map, bytes_eq}
 use Rattle.std.specs.BTreeMap.{BTreeMap, get_by, Updates}
 use Rattle.std.specs.declared.cmp.Ordering.{Ordering}

@@ -1,10 +1,9 @@
 -- What stands in a printer in the end.
-use Rattle.std.proofs.Common.{◌≡◌, ℕ, Bool, true, false, List, [], ◌++◌, Ok, sym, ap, ◌∙◌}
+use Rattle.std.proofs.Common.{◌≡◌, ℕ, true, false, List, [], ◌++◌, Ok, sym, ap, ◌∙◌}
 use Rattle.std.specs.Prelude.{codes}
 use Rattle.std.specs.String.{string_bytes}
 use Rattle.ds_base.specs.declared.value.Value.{Value}
 use Rattle.ds_gql.specs.declared.printer.Printer.{Printer}
-use Rattle.ds_gql.specs.declared.statement.Bindings.{Bindings}
 use Rattle.ds_gql.specs.declared.statement.Statement.{Statement}
 use Rattle.ds_gql.specs.Statements.{statement_of}
 use Rattle.ds_gql.specs.Printing.{can_print, has_written_names, spaced, all_cited, values_of, text_of, args_of}

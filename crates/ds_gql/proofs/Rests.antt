@@ -7,7 +7,6 @@ use Rattle.ds_base.specs.declared.key.Ident.{Ident}
 use Rattle.ds_base.specs.declared.key.Elem.{Elem}
 use Rattle.ds_base.specs.declared.value.Value.{Value}
 use Rattle.ds_base.specs.declared.value.Value.TheVariants as value
-use Rattle.ds_base.specs.declared.column.Column.{Column}
 use Rattle.ds_query.specs.declared.query.Op.{Op}
 use Rattle.ds_query.specs.declared.query.Select.TheVariants as select
 use Rattle.ds_gql.specs.declared.statement.Bindings.{Bindings}
@@ -20,7 +19,7 @@ use Rattle.ds_gql.specs.declared.token.Mark.{Mark}
 use Rattle.ds_gql.specs.declared.token.Mark.TheVariants as mark
 use Rattle.ds_gql.specs.Pieces.{Piece, fixed, name, integer}
 use Rattle.ds_gql.specs.Steps.{selected, key_name, key_in, count_of}
-use Rattle.ds_gql.specs.Sentences.{What, Operand, Condition, Conditions, Order, Limits, none, limit, limit_offset, pair, offset, comma, others, led_by, name_pieces, what_pieces, kind_pieces, elem_pieces, ident_piece, operand_pieces, condition_pieces, direction_pieces, order_pieces, limits_pieces, is_what, select_of, is_kind, operand_value, operand_values, with_condition, with_conditions, column_of, bounds_of}
+use Rattle.ds_gql.specs.Sentences.{Operand, Condition, Conditions, Order, Limits, none, limit, limit_offset, pair, offset, comma, others, led_by, name_pieces, kind_pieces, elem_pieces, ident_piece, operand_pieces, condition_pieces, direction_pieces, order_pieces, limits_pieces, is_kind, operand_value, operand_values, with_condition, with_conditions, column_of}
 use Rattle.ds_gql.proofs.SentenceSteps.{Shown, Open}
 use Rattle.ds_gql.proofs.ConditionSteps.{with_found}
 

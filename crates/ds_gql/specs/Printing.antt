@@ -1,5 +1,5 @@
 -- How a statement is printed: the sentence that says it, the text of that sentence, and the arguments that the text cites.
-use Rattle.std.specs.Prelude.{ℕ, suc, ◌+◌, pos, Bool, true, false, not, ◌&&◌, ◌==◌, nat_lt, nat_le, if◌then◌else◌, bytes_eq, codes, decimal}
+use Rattle.std.specs.Prelude.{ℕ, ◌+◌, Bool, true, false, not, ◌&&◌, ◌==◌, nat_le, if◌then◌else◌, bytes_eq, codes, decimal}
 use Rattle.std.specs.Prelude.{List, [], ◌∷◌, ◌++◌, length, map, slice_index, Option, Some, None, is_some}
 use Rattle.std.specs.List.{list_all, list_any, flat_map}
 use Rattle.std.specs.Fmt.{signed_decimal}

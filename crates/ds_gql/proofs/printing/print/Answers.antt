@@ -1,4 +1,4 @@
-use Rattle.std.proofs.Common.{◌≡◌, [], Bool, false, true, List, ℕ, sym, ap, ◌∙◌}
+use Rattle.std.proofs.Common.{[], false, List, ℕ, sym, ap, ◌∙◌}
 use Rattle.ds_gql.specs.declared.printer.Printer.{Printer}
 use Rattle.ds_gql.specs.declared.statement.Bindings.{Bindings}
 use Rattle.ds_gql.specs.Statements.{statement_of}

@@ -1,4 +1,3 @@
-use Rattle.std.proofs.Common.{length}
 use Rattle.ds_gql.proofs.PrintingSteps.{sign_no_end, filter_put}
 use Rattle.ds_gql.proofs.printer.Printer.put_filter.Goals as goal
 

@@ -1,4 +1,4 @@
-use Rattle.std.proofs.Common.{arith, refl, length}
+use Rattle.std.proofs.Common.{arith, refl}
 use Rattle.ds_base.specs.Keys.{is_elem}
 use Rattle.ds_gql.specs.Sentences.{comma, others, elem_pieces}
 use Rattle.ds_gql.proofs.PrintingSteps.{all_at, others_turn, others_end}

@@ -1,4 +1,4 @@
-use Rattle.std.proofs.Common.{[], length, drop, map}
+use Rattle.std.proofs.Common.{[], drop}
 use Rattle.ds_gql.specs.Sentences.{comma, others, elem_pieces}
 use Rattle.ds_gql.specs.declared.printer.Printer.{Printer}
 use Rattle.ds_gql.specs.Printers.{Puts}

@@ -1,4 +1,4 @@
-use Rattle.std.proofs.Common.{arith, length}
+use Rattle.std.proofs.Common.{arith}
 use Rattle.ds_query.specs.Filters.{has_operands}
 use Rattle.ds_query.specs.declared.query.Filter.{Filter}
 use Rattle.ds_gql.specs.Printing.{is_written_name}

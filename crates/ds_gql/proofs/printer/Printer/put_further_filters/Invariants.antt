@@ -1,4 +1,4 @@
-use Rattle.std.proofs.Common.{[], length, drop, map}
+use Rattle.std.proofs.Common.{length, drop}
 use Rattle.ds_gql.specs.Printing.{filter_values}
 use Rattle.ds_gql.proofs.PrintingSteps.{filters_left}
 use Rattle.ds_gql.specs.declared.printer.Printer.{Printer}

@@ -1,5 +1,4 @@
-use Rattle.std.proofs.Common.{arith, refl, length}
-use Rattle.std.specs.List.{list_all}
+use Rattle.std.proofs.Common.{arith, refl}
 use Rattle.ds_gql.specs.Printing.{is_written_name}
 use Rattle.ds_gql.specs.Sentences.{comma, others, name_pieces}
 use Rattle.ds_gql.proofs.PrintingSteps.{all_at, others_turn, others_end}

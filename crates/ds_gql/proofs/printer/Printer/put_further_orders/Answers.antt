@@ -1,4 +1,4 @@
-use Rattle.std.proofs.Common.{arith, refl, map, length, List}
+use Rattle.std.proofs.Common.{arith, refl, map, List}
 use Rattle.ds_base.specs.declared.column.Column.{Column}
 use Rattle.ds_gql.specs.Printing.{is_written_name, order_of}
 use Rattle.ds_gql.specs.Sentences.{comma, others, order_pieces}

@@ -1,4 +1,4 @@
-use Rattle.std.proofs.Common.{[], length, drop, map}
+use Rattle.std.proofs.Common.{[], drop, map}
 use Rattle.ds_gql.specs.Sentences.{comma, others, order_pieces}
 use Rattle.ds_gql.specs.Printing.{order_of}
 use Rattle.ds_gql.specs.declared.printer.Printer.{Printer}

@@ -1,4 +1,4 @@
-use Rattle.std.proofs.Common.{arith, length}
+use Rattle.std.proofs.Common.{arith}
 use Rattle.ds_gql.proofs.PrintingSteps.{values_turn, values_end}
 use Rattle.ds_gql.proofs.printer.Printer.put_further_values.Goals as goal
 

@@ -1,4 +1,4 @@
-use Rattle.std.proofs.Common.{[], length, drop, map}
+use Rattle.std.proofs.Common.{length, drop}
 use Rattle.ds_gql.proofs.PrintingSteps.{values_left}
 use Rattle.ds_gql.specs.declared.printer.Printer.{Printer}
 use Rattle.ds_gql.specs.Printers.{Puts}

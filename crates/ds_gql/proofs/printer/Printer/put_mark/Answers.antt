@@ -1,4 +1,3 @@
-use Rattle.std.proofs.Common.{refl}
 use Rattle.ds_gql.specs.Pieces.{fixed}
 use Rattle.ds_gql.proofs.PrintingSteps.{puts_spaced}
 use Rattle.ds_gql.proofs.TokenLaws.{mark_token}

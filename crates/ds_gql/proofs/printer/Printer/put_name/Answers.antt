@@ -1,4 +1,4 @@
-use Rattle.std.proofs.Common.{[], ◌∷◌, ◌++◌, refl, sym, ap, ◌∙◌}
+use Rattle.std.proofs.Common.{[], ◌∷◌, sym, ap, ◌∙◌}
 use Rattle.ds_gql.specs.Pieces.{name}
 use Rattle.ds_gql.proofs.PrintingSteps.{puts_spaced, puts_three}
 use Rattle.ds_gql.proofs.TokenLaws.{chosen, passed, name_token}

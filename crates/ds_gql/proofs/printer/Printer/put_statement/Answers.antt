@@ -1,4 +1,4 @@
-use Rattle.std.proofs.Common.{[], ◌∷◌, ◌++◌, List, length, map, ap, subst}
+use Rattle.std.proofs.Common.{[], ◌∷◌, ◌++◌, List, length, map, subst}
 use Rattle.ds_base.specs.declared.value.Value.{Value}
 use Rattle.ds_gql.specs.declared.token.Mark.TheVariants as mark
 use Rattle.ds_gql.specs.Pieces.{Piece, fixed}
