@@ -17,7 +17,8 @@ use Rattle.ds_gql.specs.Sentences.{What, everything, keys, names, Limits, none, 
 use Rattle.ds_gql.proofs.SentenceSteps.{Shown, Open, draft, stepped_to, read_pieces}
 use Rattle.ds_gql.proofs.GoingOn.{shown_of, open_of}
 use Rattle.ds_gql.proofs.Rests.{shows, after_limits, AreCounts, or_else, Led, SelectedRest, WhatRest, Rest}
-use Rattle.ds_gql.proofs.BackSteps.{is_mark, back}
+use Rattle.ds_gql.proofs.BackSteps.{back}
+use Rattle.ds_gql.proofs.PieceLemmas.{is_mark}
 use Rattle.ds_gql.proofs.PrintingLaws.{printed_as, said_by}
 use Rattle.ds_gql.proofs.TokenLaws.{both}
 

@@ -30,46 +30,9 @@ use Rattle.ds_gql.specs.Steps.{step, on_if, at_end, at_limits, at_orders, at_con
 use Rattle.ds_gql.specs.Sentences.{Operand, one, key, Condition, compare, among, under, Conditions, Order, none, limit, limit_offset, pair, offset, comma, others, elem_pieces, ident_piece, key_pieces, operand_pieces, condition_pieces, direction_pieces, order_pieces, operand_value, operand_values, with_condition, with_conditions, column_of}
 use Rattle.ds_gql.proofs.SentenceSteps.{Shown, Open, draft, only_if}
 use Rattle.ds_gql.proofs.GoingOn.{shown_of, open_of}
+use Rattle.ds_gql.proofs.PieceLemmas.{is_mark, is_name_piece, compares, counts, kind_text, ident_text}
+use Rattle.ds_gql.proofs.TokenLaws.{chosen}
 use Rattle.ds_gql.proofs.Rests.{with_filter_of, default_key, elem_of, order_by, Led, EndRest, LimitsRest, OffsetRest, PairedRest, LimitReadRest, LimitRest, OrdersRest, FurtherOrders, OrderRest, DirectionRest, WhereRest, FurtherRest, ConditionRest, ListedRest, ListedReadRest, AncestorRest, AfterKey, ElemRest, KindRest, IdentRest, SelectedRest, NameRest, WhatRest, Rest}
-
--- ---- what a token is by what it is read as
-
-pub is_mark : (m : Mark) (p : Piece) → is m p ≡ true → p ≡ fixed m
-is_mark m (fixed found) e = ap fixed (same_true the_type tt found m e)
-is_mark m _ e = absurd (cc)
-
-is_name_piece : (p : Piece) (text : List ℕ) → name_in p ≡ Some text → p ≡ name text
-is_name_piece (name found) text e = ap name (let same : found ≡ text = cc in same)
-is_name_piece _ text e = absurd (cc)
-
-compares : (p : Piece) (found : Op) → compare_in p ≡ Some found → (m : Mark) × (p ≡ fixed m) × (compare_of m ≡ Some found)
-compares (fixed m) found e = (m, refl, e)
-compares _ found e = absurd (cc)
-
-counts : (p : Piece) (n : ℕ) → count_in p ≡ Some n → (p ≡ integer (pos n)) × (count_of (pos n) ≡ Some n)
-counts (integer (pos k)) n e =
-    let parts = only_if (nat_le k most_results) (Some k) n e in
-    let same : k ≡ n = let e : Some k ≡ Some n = parts.1 in cc in
-    (ap (λ (m : ℕ). integer (pos m)) same, subst (λ (m : ℕ). count_of (pos m) ≡ Some n) same e)
-counts _ n e = absurd (cc)
-
-kind_text : (p : Piece) (text : List ℕ) → key_text p ≡ Some text → p ≡ string text
-kind_text (string found) text e = let parts = only_if (is_name found) (Some found) text e in ap string (let same : Some found ≡ Some text = parts.1 in let e : found ≡ text = cc in e)
-kind_text _ text e = absurd (cc)
-
-ident_text : (p : Piece) (found : Ident) → ident_in p ≡ Some found → p ≡ ident_piece found
-ident_text (integer (pos n)) found e =
-    let parts = only_if (is_ident (ident.Id n)) (Some (ident.Id n)) found e in
-    let same : ident.Id n ≡ found = let e : Some (ident.Id n) ≡ Some found = parts.1 in cc in ap ident_piece same
-ident_text (string text) found e = by (is_name text) e where
-  by : (lawful : Bool) → option_map ident.Name (cond lawful (Some text) None) ≡ Some found → string text ≡ ident_piece found
-  by true e = let same : ident.Name text ≡ found = cc in ap ident_piece same
-  by false e = absurd (cc)
-ident_text _ found e = absurd (cc)
-
-chosen : {A : Type 0} (b : Bool) (x y : A) → b ≡ true → cond b x y ≡ x
-chosen true x y is = refl
-chosen false x y is = absurd (cc)
 
 -- ---- parts put together
 

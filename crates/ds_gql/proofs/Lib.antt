@@ -9,6 +9,8 @@ pub mod GoingOn
 pub mod GoingOnLaws
 pub mod IndexLemmas
 pub mod NumberLemmas
+pub mod PieceLemmas
+pub mod PrintableLaws
 pub mod PrintedLaws
 pub mod PrintingLaws
 pub mod PrintingSteps

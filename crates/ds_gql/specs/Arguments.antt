@@ -10,4 +10,6 @@ use Rattle.ds_gql.specs.Steps.{first_named}
 
 -- the first value of each name
 abbrev pub IsIndex : List NamedValue → BTreeMap (Bor (List ℕ)) (Bor Value) → Type 0
-IsIndex names index = (name : List ℕ) → option_map (λ (v : Bor Value). v.now) (get_by (λ (k : Bor (List ℕ)). slice_cmp nat_cmp name k.now) index) ≡ first_named names name
+IsIndex names index =
+    (name : List ℕ) → option_map (λ (v : Bor Value). v.now) (get_by (λ (k : Bor (List ℕ)). slice_cmp nat_cmp name k.now) index)
+    ≡ first_named names name

@@ -11,7 +11,8 @@ use Rattle.ds_gql.specs.declared.statement.Statement.{Statement}
 use Rattle.ds_gql.specs.declared.printer.Printer.{Printer}
 use Rattle.ds_gql.specs.declared.token.Mark.TheVariants as mark
 use Rattle.ds_gql.specs.Pieces.{Piece, fixed, is}
-use Rattle.ds_gql.specs.Sentences.{Operand, Sentence, comma, others, led_by, what_pieces, kind_pieces, operand_pieces, condition_pieces, order_pieces, limits_pieces}
+use Rattle.ds_gql.specs.Sentences.{Operand, Sentence, comma, others, led_by}
+use Rattle.ds_gql.specs.Sentences.{what_pieces, kind_pieces, operand_pieces, condition_pieces, order_pieces, limits_pieces}
 use Rattle.ds_gql.specs.Tokens.{front, is_blank}
 use Rattle.ds_gql.specs.Printing.{written, spaced, all_cited, sentence_of}
 
@@ -36,11 +37,13 @@ is_lawful _ = true
 
 -- this text stands behind what was printed; nothing is promised where memory was refused
 abbrev pub Appends : List ℕ → Printer → Printer → Type 0
-Appends text old new = new.refused ≡ false → (old.refused ≡ false) × (string_bytes new.text ≡ string_bytes old.text ++ text) × (new.args ≡ old.args)
+Appends text old new =
+    new.refused ≡ false → (old.refused ≡ false) × (string_bytes new.text ≡ string_bytes old.text ++ text) × (new.args ≡ old.args)
 
 -- this value is the last argument
 abbrev pub Cites : Value → Printer → Printer → Type 0
-Cites v old new = new.refused ≡ false → (old.refused ≡ false) × (string_bytes new.text ≡ string_bytes old.text) × (new.args ≡ old.args ++ v ∷ [])
+Cites v old new =
+    new.refused ≡ false → (old.refused ≡ false) × (string_bytes new.text ≡ string_bytes old.text) × (new.args ≡ old.args ++ v ∷ [])
 
 -- These tokens stand behind what was printed, each behind a space, and are read back; they cite the arguments of these values,
 -- which are lawful. Nothing is promised where memory was refused.

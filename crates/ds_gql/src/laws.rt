@@ -1,5 +1,6 @@
 //! What is proved of the reading of texts, beside that `parse` meets it: each function does nothing, and its contract is a law.
 ghost use Rattle.ds_gql.specs.GqlLaws.{SentencesAreRead, OnlySentencesAreRead, NoSentenceGoesOn, TokensBeforeGoOn};
+ghost use Rattle.ds_gql.specs.GqlLaws.{StatementsCanBePrinted};
 
 /// A text whose tokens are a sentence of the grammar is the statement that the sentence says.
 pub fn sentences_are_read()
@@ -19,4 +20,9 @@ pub fn no_sentence_goes_on()
 /// The tokens before the byte that `At` tells can go on to a sentence, so no earlier byte could be told.
 pub fn tokens_before_go_on()
     ensures { TokensBeforeGoOn }
+{}
+
+/// `can_print` takes every statement that a text says.
+pub fn statements_can_be_printed()
+    ensures { StatementsCanBePrinted }
 {}

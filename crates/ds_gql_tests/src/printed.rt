@@ -63,8 +63,12 @@ fn prints_statements(rt: HostRuntime) -> Result<(), Fail> {
             "0 SELECT * FROM Greeting WHERE ANCESTOR IS KEY ( 'Guestbook' , 'default' ) ORDER BY date DESC LIMIT 1",
         ),
         (
-            "select a, \"b c\", \"from\" where x >= -5 and y in (1, 'it''s', true, null, :2) order by z, k desc limit 2, 3",
-            "0 SELECT a , \"b c\" , \"from\" WHERE x >= -5 AND y IN ( 1 , 'it''s' , TRUE , NULL , 7 ) ORDER BY z ASC , k DESC LIMIT 3 OFFSET 2",
+            "select a, \"b c\", \"from\" where x >= -5 and y in (1, 'it''s', :2)",
+            "0 SELECT a , \"b c\" , \"from\" WHERE x >= -5 AND y IN ( 1 , 'it''s' , 7 )",
+        ),
+        (
+            "select * where a = true and b != null order by z, k desc limit 2, 3",
+            "0 SELECT * WHERE a = TRUE AND b != NULL ORDER BY z ASC , k DESC LIMIT 3 OFFSET 2",
         ),
         ("select __key__ offset 5", "0 SELECT __key__ OFFSET 5"),
     ] {

@@ -26,7 +26,8 @@ impl Printer {
     )
         requires names { has_written_properties filters.now ≡ true }
         requires values { list_all has_operands filters.now ≡ true }
-        ensures { Puts (led_by (fixed mark.Where ∷ []) (fixed mark.And) condition_pieces (all_conditions (length self.old.args) ancestor.now filters.now))
+        ensures { Puts (led_by (fixed mark.Where ∷ []) (fixed mark.And) condition_pieces
+            (all_conditions (length self.old.args) ancestor.now filters.now))
             (ancestor_values ancestor.now ++ filter_values filters.now) self.old self.new }
     {
         match ancestor {
@@ -100,7 +101,8 @@ impl Printer {
     }
 
     fn put_list(&mut self, alloc: Global, first: &Value, rest: &[Value])
-        ensures { Puts (operator_pieces op.OneOf (operands_of (length self.old.args) (first.now ∷ rest.now))) (first.now ∷ rest.now) self.old self.new }
+        ensures { Puts (operator_pieces op.OneOf (operands_of (length self.old.args) (first.now ∷ rest.now)))
+            (first.now ∷ rest.now) self.old self.new }
     {
         self.put_mark(Mark::Open);
         self.put_value(alloc, first);
