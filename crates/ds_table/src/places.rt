@@ -1,5 +1,5 @@
 //! Places of rows in the order, found by halving.
-ghost use Rattle.std.specs.Prelude.{◌≡◌, ℕ, ◌+◌, ◌<◌, ◌≤◌, Bool, true, false, List, length, take, IsTrue};
+ghost use Rattle.std.specs.Prelude.{◌≡◌, ℕ, ◌+◌, ◌<◌, ◌≤◌, Bool, true, false, List, [], length, take, drop, slice_index_or, IsTrue, IsFalse};
 ghost use Rattle.ds_table.specs.Versions.{Version};
 ghost use Rattle.ds_table.specs.Blocks.{IsOrdered, joined};
 ghost use Rattle.ds_table.specs.Places.{comes_before, row_before, IsBegun, IsPlaced};
@@ -48,59 +48,66 @@ fn blocks_begun(blocks: &[Block], row: &[u8], same_too: bool) -> usize
     low
 }
 
-/// Whether this block is there and its first row is below this one, so that all rows before the block are.
+/// Whether this block is there and its first row is below this one. If so, all rows before the block are, too; if not, none of
+/// the block and those behind it is.
 fn is_begun(blocks: &[Block], i: usize, row: &[u8]) -> bool
     requires ordered { IsOrdered (joined blocks.now) }
     requires filled { Each (λ b. 0 < length b) blocks.now }
     ensures within { IsTrue result → i < length blocks.now }
     ensures before { IsTrue result → Each (λ v. comes_before row.now false v ≡ true) (joined (take i blocks.now)) }
+    ensures begun { IsTrue result → (d : Version) → comes_before row.now false (slice_index_or (slice_index_or blocks.now i []) 0 d) ≡ true }
+    ensures after { IsFalse result → Each (λ v. comes_before row.now false v ≡ false) (joined (drop i blocks.now)) }
 {
-    i < blocks.len() && is_before_row(blocks[i].row(0), row, false)
+    if i < blocks.len() {
+        return is_before_row(blocks[i].row(0), row, false);
+    }
+    false
 }
 
-/// A block before which all rows are below this one: the last one whose first row is, if the hint is such a block or one before
-/// it. From the hint on it is looked for in steps that double, and then by halving.
+/// The block in which a row's place is, as `block_of` gives it. If the first row of the hint is below, it is looked for from
+/// there on, in steps that double, and then by halving.
 pub fn block_near(blocks: &[Block], row: &[u8], near: usize) -> usize
     requires ordered { IsOrdered (joined blocks.now) }
     requires filled { Each (λ b. 0 < length b) blocks.now }
-    ensures { Each (λ v. comes_before row.now false v ≡ true) (joined (take result blocks.now)) }
+    ensures { IsPlaced (comes_before row.now false) blocks.now result }
 {
     if !is_begun(blocks, near, row) {
         return block_of(blocks, row, false);
     }
-    let low = gallop(blocks, row, near);
-    let step = low - near + 1;
-    if step < blocks.len() - low {
-        last_begun(blocks, row, low, low + step)
-    } else {
-        last_begun(blocks, row, low, blocks.len())
-    }
+    gallop(blocks, row, near)
 }
 
-/// How far steps that double lead from this block on, over blocks whose first row is below this row.
+/// Looks for a row's place from this block on, whose first row is below, in steps that double.
 fn gallop(blocks: &[Block], row: &[u8], near: usize) -> usize
     requires ordered { IsOrdered (joined blocks.now) }
     requires filled { Each (λ b. 0 < length b) blocks.now }
     requires within { near < length blocks.now }
     requires before { Each (λ v. comes_before row.now false v ≡ true) (joined (take near blocks.now)) }
-    ensures least { near ≤ result }
-    ensures within { result < length blocks.now }
-    ensures before { Each (λ v. comes_before row.now false v ≡ true) (joined (take result blocks.now)) }
+    requires begun { (d : Version) → comes_before row.now false (slice_index_or (slice_index_or blocks.now near []) 0 d) ≡ true }
+    ensures { IsPlaced (comes_before row.now false) blocks.now result }
 {
     let mut low = near;
-    while low - near + 1 < blocks.len() - low && is_begun(blocks, low + (low - near) + 1, row) {
-        low += low - near + 1;
+    while low - near + 1 < blocks.len() - low {
+        let next = low + (low - near) + 1;
+        if !is_begun(blocks, next, row) {
+            return last_begun(blocks, row, low, next);
+        }
+        low = next;
     }
-    low
+    last_begun(blocks, row, low, blocks.len())
 }
 
-/// The last of the blocks from `low` on and before `high` whose first row is below this row, if not `low` itself.
+/// The last of the blocks from `low` on and before `high` whose first row is below this one. That of `low` is, and behind `high`
+/// none is.
 fn last_begun(blocks: &[Block], row: &[u8], low: usize, high: usize) -> usize
     requires ordered { IsOrdered (joined blocks.now) }
     requires filled { Each (λ b. 0 < length b) blocks.now }
+    requires some { low < high }
+    requires within { high ≤ length blocks.now }
     requires before { Each (λ v. comes_before row.now false v ≡ true) (joined (take low blocks.now)) }
-    requires in_order { low ≤ high }
-    ensures { Each (λ v. comes_before row.now false v ≡ true) (joined (take result blocks.now)) }
+    requires begun { (d : Version) → comes_before row.now false (slice_index_or (slice_index_or blocks.now low []) 0 d) ≡ true }
+    requires after { Each (λ v. comes_before row.now false v ≡ false) (joined (drop high blocks.now)) }
+    ensures { IsPlaced (comes_before row.now false) blocks.now result }
 {
     let mut low = low;
     let mut high = high;
