@@ -1,6 +1,7 @@
 pub mod Columns
 pub mod Lists
 pub mod Order
+pub mod Heads
 pub mod Placing
 pub mod Spacing
 pub mod Looking

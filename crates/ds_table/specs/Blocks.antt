@@ -32,12 +32,12 @@ versions_of (row ∷ rows) [] tos = []
 versions_of (row ∷ rows) (from ∷ froms) [] = []
 versions_of (row ∷ rows) (from ∷ froms) (to ∷ tos) = record { row = row; from = from; to = to } ∷ versions_of rows froms tos
 
--- the columns of a block are equally long, at most 256, and have room for that many
-pub record IsBlock (rows : List (List ℕ)) (froms tos : List ℕ) (rows_room froms_room tos_room : ℕ) : Type 0 where
+-- the columns of a block are equally long, at most 256, and have room for that many, and no version ends before the stamp `due`
+pub record IsBlock (rows : List (List ℕ)) (froms tos : List ℕ) (due froms_room tos_room : ℕ) : Type 0 where
   pub froms_long : length froms ≡ length rows
   pub tos_long : length tos ≡ length rows
   pub within : length rows ≤ 256
-  pub rows_fit : 256 ≤ rows_room
+  pub not_due : Each (λ to. due ≤ to) tos
   pub froms_fit : 256 ≤ froms_room
   pub tos_fit : 256 ≤ tos_room
 

@@ -171,7 +171,8 @@ impl Table {
     }
 
     /// Takes out each version that was closed at or before the floor, which isn't below the last one, and keeps all others. No
-    /// view is below the floor from now on, and each stamp given is above it. It takes no memory.
+    /// view is below the floor from now on, and each stamp given is above it. It takes no memory. It asks of each block when the
+    /// first of its versions ends, and looks at the versions of those blocks alone of which one goes.
     pub fn trim(&mut self, floor: u64)
         requires not_below_the_last { self.old.floor ≤ floor }
         requires a_stamp { floor < never }

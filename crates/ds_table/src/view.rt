@@ -9,7 +9,7 @@ ghost use Rattle.ds_table.specs.Seen.{Seen};
 ghost use Rattle.ds_table.specs.Each.{Each};
 
 use crate::block::Block;
-use crate::places::{block_of, is_begun};
+use crate::places::{block_near, block_of};
 use crate::table::Table;
 use ds_io::Steps;
 use std::marker::Model;
@@ -62,7 +62,8 @@ impl<'a> TableView<'a> {
     }
 
     /// The same, with a hint: `near` is where the last seek began, at first 0, and each value of it gives the same answer with
-    /// the same steps. It looks there first, which is quick where seeks go on in order, and leaves there where it began.
+    /// the same steps. It looks from there on in steps that double, which is
+    /// quick where seeks go on in order, and leaves there where it began.
     pub fn seek_near<L: Ledger>(
         &self,
         at_least: &[u8],
@@ -76,22 +77,9 @@ impl<'a> TableView<'a> {
         ensures passed_do_not_fall { IsSorted bytes_cmp (unseen_rows self.now.stamp self.now.versions) }
     {
         let table = self.table;
-        let start = start_near(table.as_blocks(), at_least, *near as usize);
+        let start = block_near(table.as_blocks(), at_least, *near as usize);
         *near = start as u64;
         seek_from(table.as_blocks(), start, at_least, below, self.at, steps)
-    }
-}
-
-/// A block before which all rows are below this one: the hint, or the block behind it, if the row's place is there.
-fn start_near(blocks: &[Block], row: &[u8], near: usize) -> usize
-    requires ordered { IsOrdered (joined blocks.now) }
-    requires filled { Each (λ b. 0 < length b) blocks.now }
-    ensures { Each (λ v. comes_before row.now false v ≡ true) (joined (take result blocks.now)) }
-{
-    if is_begun(blocks, near, row) && !is_begun(blocks, near + 1, row) {
-        near
-    } else {
-        block_of(blocks, row, false)
     }
 }
 

@@ -1,6 +1,6 @@
 use Rattle.std.proofs.Common.{◌≡◌, ◌++◌, ◌≤◌, length, take, drop}
 use Rattle.ds_table.specs.Changes.{changed}
-use Rattle.ds_table.proofs.block.Block.change.Given as goal
+use Rattle.ds_table.proofs.block.Block.change_each.Given as goal
 
 abbrev pub invariant-loop-i : goal.invariant-loop-i
 invariant-loop-i l = record {

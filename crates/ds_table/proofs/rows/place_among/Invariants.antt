@@ -1,7 +1,7 @@
 use Rattle.std.proofs.Common.{◌-◌, ◌≡◌, ◌≤◌, true, false, length, take, drop}
 use Rattle.ds_table.specs.Each.{Each}
 use Rattle.ds_table.specs.Places.{row_before}
-use Rattle.ds_table.proofs.places.place_of.Given as goal
+use Rattle.ds_table.proofs.rows.place_among.Given as goal
 
 abbrev pub invariant-loop-low : goal.invariant-loop-low
 invariant-loop-low l = record {

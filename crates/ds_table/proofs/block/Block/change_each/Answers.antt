@@ -3,7 +3,7 @@ use Rattle.std.proofs.lemmas.List.{take_all, drop_all, append-nil}
 use Rattle.ds_table.specs.Versions.{Version}
 use Rattle.ds_table.specs.Changes.{changed}
 use Rattle.ds_table.proofs.Spacing.{change_step}
-use Rattle.ds_table.proofs.block.Block.change.Goals as goal
+use Rattle.ds_table.proofs.block.Block.change_each.Goals as goal
 
 pub loop-i-init : goal.loop-i-init
 loop-i-init c =
