@@ -1,0 +1,5 @@
+pub mod Counts
+pub mod Ends
+pub mod Order
+pub mod Passed
+pub mod Rests

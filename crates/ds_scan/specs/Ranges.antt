@@ -1,11 +1,7 @@
 -- Ranges of rows: the rows that begin with a prefix, and what follows it in each.
-use Rattle.std.specs.Prelude.{ℕ, ◌+◌, ◌<◌, Bool, true, false, ◌&&◌, ◌==◌, nat_lt, if◌then◌else◌, List, [], ◌∷◌, ◌++◌, length, drop, map, filter, count_by, All, Option, Some, None}
+use Rattle.std.specs.Prelude.{ℕ, ◌+◌, Bool, true, false, ◌&&◌, ◌==◌, nat_lt, if◌then◌else◌, List, [], ◌∷◌, ◌++◌, length, drop, map, filter, count_by, Option, Some, None}
 use Rattle.ds_zigzag.specs.Spans.{is_within}
 use Rattle.ds_table.specs.Versions.{is_below, in_range}
-
--- each element is a byte
-abbrev pub AreBytes : List ℕ → Type 0
-AreBytes = All (λ b. b < 256)
 
 -- the row begins with the prefix
 abbrev pub begins_with : List ℕ → List ℕ → Bool

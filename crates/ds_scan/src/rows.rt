@@ -2,8 +2,8 @@
 ghost use Rattle.std.specs.Prelude.{◌≡◌, ℕ, ◌+◌, ◌≤◌, List, All, find, option_copied};
 ghost use Rattle.std.specs.List.Sorted.{IsSorted, IsStrictlySortedBy};
 ghost use Rattle.ds_base.specs.KeyOrder.{bytes_cmp};
-ghost use Rattle.ds_table.specs.Versions.{in_range};
-ghost use Rattle.ds_scan.specs.Ranges.{AreBytes, rows_passed};
+ghost use Rattle.ds_table.specs.Versions.{AreBytes, in_range};
+ghost use Rattle.ds_scan.specs.Ranges.{rows_passed};
 
 use ds_io::Steps;
 use std::sync::ledger::Ledger;

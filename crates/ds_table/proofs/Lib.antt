@@ -7,3 +7,4 @@ pub mod Looking
 pub mod Lives
 pub mod Sorted
 pub mod Splitting
+pub mod Bytes
