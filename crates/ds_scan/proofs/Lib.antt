@@ -3,3 +3,4 @@ pub mod Ends
 pub mod Order
 pub mod Passed
 pub mod Rests
+pub mod Kept

@@ -1,5 +1,6 @@
 //! The rows of a range as a scan of what follows their prefix.
 ghost use Rattle.std.specs.Prelude.{◌≡◌, ℕ, ◌+◌, ◌≤◌, ◌++◌, List, length, take, drop, option_copied, option_map, IfOk, IfSome, OnOk};
+ghost use Rattle.ds_table.specs.Versions.{AreBytes};
 ghost use Rattle.ds_scan.specs.Ranges.{later, end_of_range};
 
 use crate::end::end_of_prefix;
@@ -141,13 +142,22 @@ fn bytes_of(text: &Option<ByteString>) -> Option<&[u8]>
     }
 }
 
-/// What follows the first `front` bytes of a row.
+/// What follows the first `front` bytes of a row, which is bytes and has that many.
 fn rest_of(row: Option<&[u8]>, front: usize) -> Option<&[u8]>
-    requires { IfSome row (λ r. front ≤ length r.now) }
-    ensures { option_copied result ≡ option_map (drop front) (option_copied row.entry) }
+    requires { IfSome row (λ r. AreBytes r.now → front ≤ length r.now) }
+    ensures rest { option_copied result ≡ option_map (drop front) (option_copied row.entry) }
+    ensures of_bytes { IfSome row.entry (λ r. AreBytes r.now) }
 {
     match row {
-        Some(row) => Some(&row[front..]),
+        Some(row) => Some(behind(row, front)),
         None => None,
     }
+}
+
+fn behind(row: &[u8], front: usize) -> &[u8]
+    requires { AreBytes row.now → front ≤ length row.now }
+    ensures rest { result.now ≡ drop front row.now }
+    ensures of_bytes { AreBytes row.now }
+{
+    &row[front..]
 }
