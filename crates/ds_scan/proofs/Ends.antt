@@ -12,7 +12,8 @@ use Rattle.std.proofs.lemmas.List.Elements.{All-head, All-tail}
 use Rattle.ds_base.specs.KeyOrder.{bytes_cmp}
 use Rattle.ds_table.specs.Versions.{AreBytes, is_below, is_before, in_range}
 use Rattle.ds_scan.specs.Ranges.{begins_with, prefix_end, end_behind}
-use Rattle.ds_scan.proofs.Order.{first_true, second_true, both_true, was_false, not_false, equal_byte, byte_equal, cmp-behind, begins-is}
+use Rattle.ds_scan.specs.RangeLaws.{begins-is}
+use Rattle.ds_scan.proofs.Order.{first_true, second_true, both_true, was_false, not_false, equal_byte, byte_equal, cmp-behind}
 
 -- what begins with a prefix is below its end
 pub before_end : (p r : List ℕ) → begins_with p r ≡ true → is_before (prefix_end p) r ≡ true

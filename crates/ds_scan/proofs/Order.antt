@@ -1,5 +1,5 @@
 -- The order of strings as a test, and what it says of strings that begin alike.
-use Rattle.std.proofs.Common.{◌≡◌, ℕ, Bool, true, false, List, [], ◌∷◌, ◌++◌, length, drop, refl, sym, ◌∙◌, ap, arith}
+use Rattle.std.proofs.Common.{◌≡◌, ℕ, Bool, true, false, List, [], ◌∷◌, ◌++◌, refl, sym, ◌∙◌, ap, arith}
 use Rattle.std.specs.Prelude.{◌&&◌, ◌==◌, not, if◌then◌else◌}
 use Rattle.std.specs.declared.cmp.Ordering.{Ordering}
 use Rattle.std.specs.declared.cmp.Ordering.TheVariants.{Less, Equal, Greater}
@@ -12,16 +12,9 @@ use Rattle.std.proofs.lemmas.Cmp.{tied_itself}
 use Rattle.std.proofs.lemmas.List.MinMax.{ranks_by}
 use Rattle.ds_base.specs.KeyOrder.{bytes_cmp}
 use Rattle.ds_table.specs.Versions.{is_below}
-use Rattle.ds_scan.specs.Ranges.{begins_with, rest, later}
+use Rattle.ds_scan.specs.Ranges.{begins_with, later}
 
 -- ---- tests
-
-pub true_unless : (b : Bool) → (b ≡ false → ⊥) → b ≡ true
-true_unless true h = refl
-true_unless false h = absurd (h refl)
-
-pub not_both : (b : Bool) → b ≡ true → b ≡ false → ⊥
-not_both b t f = cc
 
 pub not_false : (b : Bool) → b ≡ false → not b ≡ true
 not_false b e = ap not e
@@ -81,14 +74,6 @@ is_same b c e = grind (arith, nat_tests)
 pub cmp-behind : (p a b : List ℕ) → bytes_cmp (p ++ a) (p ++ b) ≡ bytes_cmp a b
 cmp-behind [] a b = refl
 cmp-behind (x ∷ p) a b = rw (tied_itself nat_cmp_total x) (cmp-behind p a b)
-
-pub begins-is : (p r : List ℕ) → begins_with p r ≡ true → r ≡ p ++ rest p r
-begins-is [] r h = refl
-begins-is (b ∷ bs) [] h = cc
-begins-is (b ∷ bs) (c ∷ cs) h =
-    let same = same_byte b c (first_true (b == c) (begins_with bs cs) h) in
-    let more = begins-is bs cs (second_true (b == c) (begins_with bs cs) h) in
-    ap (λ n. n ∷ cs) (sym same) ∙ ap (λ l. b ∷ l) more
 
 -- the first byte is the same, as both compare equal
 pub equal_byte : (b c : ℕ) → (b == c) ≡ true → nat_cmp c b ≡ Equal

@@ -1,6 +1,6 @@
 -- A seek of a table, which passes versions, as a seek of rows, which passes those that aren't above the one found.
-use Rattle.std.proofs.Common.{◌≡◌, ℕ, suc, ◌+◌, ◌<◌, ◌≤◌, Bool, true, false, cond, List, [], ◌∷◌, refl, sym, ◌∙◌, ap, arith}
-use Rattle.std.specs.Prelude.{◌&&◌, not, All, Option, Some, None, find, filter, map, count_by}
+use Rattle.std.proofs.Common.{◌≡◌, ℕ, ◌≤◌, Bool, true, false, cond, List, [], ◌∷◌, refl, arith}
+use Rattle.std.specs.Prelude.{◌&&◌, All, Option, Some, find}
 use Rattle.std.proofs.lemmas.List.Elements.{All-nil, All-cons}
 use Rattle.ds_zigzag.specs.Spans.{is_within}
 use Rattle.ds_table.specs.Each.{Each}
@@ -8,7 +8,7 @@ use Rattle.ds_table.specs.Versions.{AreBytes, Version, is_below, is_seen, in_ran
 use Rattle.ds_table.specs.Blocks.{IsOrdered, Precedes}
 use Rattle.ds_scan.specs.Ranges.{rows_passed}
 use Rattle.ds_scan.proofs.Order.{not_false}
-use Rattle.ds_scan.proofs.Counts.{weight, count_by-cons}
+use Rattle.ds_scan.proofs.Counts.{count_by-cons}
 
 -- a version isn't above the first one seen that stands behind it
 within_found : (q : List ℕ → Bool) (at : ℕ) (v : Version) (ws : List Version) → Each (Precedes v) ws → is_within (find q (seen_rows at ws)) v.row ≡ true

@@ -1,5 +1,5 @@
 -- What a seek of the rows tells of their rests.
-use Rattle.std.proofs.Common.{◌≡◌, ℕ, ◌+◌, ◌<◌, ◌≤◌, Bool, true, false, cond, List, [], ◌∷◌, ◌++◌, length, drop, refl, sym, ◌∙◌, ap, subst, arith}
+use Rattle.std.proofs.Common.{◌≡◌, ℕ, ◌≤◌, Bool, true, false, cond, List, [], ◌∷◌, ◌++◌, refl, sym, ◌∙◌, ap, subst, arith}
 use Rattle.std.specs.Prelude.{◌&&◌, not, All, Option, Some, None, option_map, find, filter, map, count_by}
 use Rattle.std.specs.List.{AllByRecursion}
 use Rattle.std.specs.List.Sorted.{IsSorted, IsStrictlySortedBy}
@@ -13,9 +13,10 @@ use Rattle.ds_base.specs.SortingLaws.{Ascends, Ascends-from_IsSorted, IsSorted-f
 use Rattle.ds_zigzag.specs.Spans.{is_from, is_within, count_from}
 use Rattle.ds_table.specs.Versions.{AreBytes, is_below, is_before, in_range}
 use Rattle.ds_scan.specs.Ranges.{Range, begins_with, rest, is_in, rests, rows_passed, end_of_range, later}
-use Rattle.ds_scan.proofs.Order.{first_true, second_true, both_true, was_false, not_false, not_both, true_unless, from_later, to_later, cmp-behind, begins-is, between}
+use Rattle.ds_scan.specs.RangeLaws.{begins-is}
+use Rattle.ds_scan.proofs.Order.{first_true, second_true, both_true, was_false, not_false, from_later, to_later, cmp-behind, between}
 use Rattle.ds_scan.proofs.Ends.{before_end, begins_before}
-use Rattle.ds_scan.proofs.Counts.{weight, weight_up, count_by-cons}
+use Rattle.ds_scan.proofs.Counts.{weight_up, count_by-cons}
 
 -- ---- lists of which some are kept, and what is made of them
 

@@ -1,5 +1,5 @@
 -- How a scan of a range keeps it: the prefix is the front of a buffer, and the end of the rows is made once.
-use Rattle.std.specs.Prelude.{◌≡◌, ℕ, ◌≤◌, Bool, true, false, List, length, take, drop, Option, Some, None}
+use Rattle.std.specs.Prelude.{◌≡◌, ℕ, ◌≤◌, Bool, true, false, List, length, take, drop, Option, None}
 use Rattle.std.specs.Option.{option_map}
 use Rattle.ds_scan.specs.Ranges.{Range, end_of_range}
 

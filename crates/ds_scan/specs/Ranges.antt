@@ -1,5 +1,6 @@
 -- Ranges of rows: the rows that begin with a prefix, and what follows it in each.
-use Rattle.std.specs.Prelude.{ℕ, ◌+◌, Bool, true, false, ◌&&◌, ◌==◌, nat_lt, if◌then◌else◌, List, [], ◌∷◌, ◌++◌, length, drop, map, filter, count_by, Option, Some, None}
+use Rattle.std.specs.Prelude.{ℕ, ◌+◌, Bool, true, false, ◌&&◌, ◌==◌, nat_lt, if◌then◌else◌, Option, Some, None}
+use Rattle.std.specs.Prelude.{List, [], ◌∷◌, ◌++◌, length, drop, map, filter, count_by}
 use Rattle.ds_zigzag.specs.Spans.{is_within}
 use Rattle.ds_table.specs.Versions.{is_below, in_range}
 

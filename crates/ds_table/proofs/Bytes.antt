@@ -1,13 +1,13 @@
 -- The rows of all versions are bytes, whatever is done with them.
 use Rattle.std.proofs.Common.{ℕ, ◌<◌, Bool, true, false, List, [], ◌∷◌, get_or, arith}
-use Rattle.std.specs.Prelude.{if◌then◌else◌, Option, Some, None, map}
+use Rattle.std.specs.Prelude.{if◌then◌else◌, Option, Some, None}
 use Rattle.std.specs.Option.{option_map}
-use Rattle.std.specs.List.{filter_map, cons_option}
+use Rattle.std.specs.List.{cons_option}
 use Rattle.std.proofs.lemmas.List.{get_or_default}
 use Rattle.ds_table.specs.declared.change.Change.{Change}
 use Rattle.ds_table.specs.Each.{Each}
 use Rattle.ds_table.specs.Versions.{Version, AreBytes, IsOfBytes, never, is_below, is_alive, ended_at, with_version, added, closed}
-use Rattle.ds_table.specs.Changes.{kept, kept_end, changed}
+use Rattle.ds_table.specs.Changes.{kept_end, changed}
 
 -- what is known of a slice of bytes
 pub slice_of_bytes : (row : List ℕ) → ((i : ℕ) → get_or row i 0 < 256) → AreBytes row

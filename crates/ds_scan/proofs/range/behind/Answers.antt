@@ -1,5 +1,4 @@
 use Rattle.std.proofs.Common.{rules, ◌≤◌, length, arith}
-use Rattle.ds_table.specs.Versions.{AreBytes}
 use Rattle.ds_scan.proofs.Kept.{slice_of_bytes}
 use Rattle.ds_scan.proofs.range.behind.Goals as goal
 

@@ -1,6 +1,6 @@
-use Rattle.std.proofs.Common.{rules, ◌≡◌, ◌+◌, ◌≤◌, ◌++◌, take, option_copied, refl, sym, ◌∙◌, ap, arith}
+use Rattle.std.proofs.Common.{◌≡◌, ◌++◌, take, option_copied, refl, sym, ◌∙◌, ap, arith}
 use Rattle.ds_table.specs.Versions.{AreBytes}
-use Rattle.ds_scan.specs.Ranges.{later, rests}
+use Rattle.ds_scan.specs.Ranges.{later}
 use Rattle.ds_scan.specs.Kept.{range_of}
 use Rattle.ds_scan.proofs.Rests.{rests-ascend, rests-do_not_fall}
 use Rattle.ds_scan.proofs.Kept.{if_some, some_if, same_rests, found_long, finds_first, passes_few}

@@ -1,4 +1,4 @@
-use Rattle.std.proofs.Common.{◌+◌, ◌≤◌, option_copied, arith}
+use Rattle.std.proofs.Common.{◌≤◌, option_copied, arith}
 use Rattle.ds_table.specs.Versions.{unseen_rows, unseen_before, versions_within}
 use Rattle.ds_scan.specs.Ranges.{rows_passed}
 use Rattle.ds_scan.proofs.Passed.{passed_within, unseen_are_bytes}
