@@ -7,7 +7,7 @@
 //! stamp: `TableRows` is that of a table of `ds_table`, and whoever keeps rows otherwise writes an own one. The crate stands
 //! on `ds_table` for the rows seen and unseen, on `ds_zigzag` for `Scan`, on `ds_io` for counted steps and on `ds_base` for
 //! byte strings. Begin with `Rows`, in `rows`, and `RangeScan`, in `range`. The definitions that the contracts cite are in
-//! `specs/Ranges`.
+//! `specs/Ranges`, and what follows from them, for whoever joins ranges, in `specs/RangeLaws`.
 #![tactic(auto)]
 
 mod end;
