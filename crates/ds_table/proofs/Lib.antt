@@ -8,3 +8,4 @@ pub mod Looking
 pub mod Lives
 pub mod Sorted
 pub mod Splitting
+pub mod Bytes

@@ -1,7 +1,7 @@
 -- How a table keeps its versions: in blocks, each with its rows and two columns of stamps.
 use Rattle.std.specs.Prelude.{◌≡◌, ℕ, ◌+◌, ◌<◌, ◌≤◌, false, List, [], ◌∷◌, ◌++◌, length}
 use Rattle.ds_table.specs.Each.{Each}
-use Rattle.ds_table.specs.Versions.{Version, is_below, never}
+use Rattle.ds_table.specs.Versions.{Version, IsOfBytes, is_below, never}
 
 -- what a table is seen as
 pub record Tabled : Type 0 where
@@ -65,6 +65,7 @@ IsSpaced (a ∷ b ∷ bs) = ((0 < length a) × (0 < length b) × (128 ≤ length
 -- what holds of the blocks of a table to which no stamp above `last` was given, and that counts its versions
 pub record IsTable (blocks : List (List Version)) (last count : ℕ) : Type 0 where
   pub ordered : IsOrdered (joined blocks)
+  pub of_bytes : Each IsOfBytes (joined blocks)
   pub given : Each (IsGiven last) (joined blocks)
   pub spaced : IsSpaced blocks
   pub filled : Each (λ b. 0 < length b) blocks

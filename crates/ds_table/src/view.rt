@@ -2,7 +2,7 @@
 ghost use Rattle.std.specs.Prelude.{◌≡◌, ℕ, ◌+◌, ◌<◌, ◌≤◌, suc, true, false, length, take, find, option_copied, IsTrue, IsSorted};
 ghost use Rattle.std.specs.List.Sorted.{IsStrictlySortedBy};
 ghost use Rattle.ds_base.specs.KeyOrder.{bytes_cmp};
-ghost use Rattle.ds_table.specs.Versions.{Version, in_range, is_before, seen_rows, unseen_rows, unseen_before, versions_within};
+ghost use Rattle.ds_table.specs.Versions.{Version, IsOfBytes, in_range, is_before, seen_rows, unseen_rows, unseen_before, versions_within};
 ghost use Rattle.ds_table.specs.Blocks.{joined, IsOrdered};
 ghost use Rattle.ds_table.specs.Places.{comes_before};
 ghost use Rattle.ds_table.specs.Seen.{Seen};
@@ -44,7 +44,7 @@ impl<'a> TableView<'a> {
     /// none. It takes no memory. It takes one step, and one more for each version of that range that isn't seen and that
     /// stands before the one found, or in the whole range where none is.
     ///
-    /// The rows seen ascend, and those of the versions that aren't seen don't fall.
+    /// The rows seen ascend, and those of the versions that aren't seen don't fall. All are bytes, and the versions stand in order.
     pub fn seek<L: Ledger>(
         &self,
         at_least: &[u8],
@@ -55,6 +55,8 @@ impl<'a> TableView<'a> {
         ensures steps { steps.new ≡ steps.old + 1 + unseen_before self.now.stamp (versions_within at_least.now (option_copied below.entry) self.now.versions) }
         ensures rows_ascend { IsStrictlySortedBy bytes_cmp (seen_rows self.now.stamp self.now.versions) }
         ensures passed_do_not_fall { IsSorted bytes_cmp (unseen_rows self.now.stamp self.now.versions) }
+        ensures in_order { IsOrdered self.now.versions }
+        ensures of_bytes { Each IsOfBytes self.now.versions }
     {
         let table = self.table;
         let start = block_of(table.as_blocks(), at_least, false);
@@ -75,6 +77,8 @@ impl<'a> TableView<'a> {
         ensures steps { steps.new ≡ steps.old + 1 + unseen_before self.now.stamp (versions_within at_least.now (option_copied below.entry) self.now.versions) }
         ensures rows_ascend { IsStrictlySortedBy bytes_cmp (seen_rows self.now.stamp self.now.versions) }
         ensures passed_do_not_fall { IsSorted bytes_cmp (unseen_rows self.now.stamp self.now.versions) }
+        ensures in_order { IsOrdered self.now.versions }
+        ensures of_bytes { Each IsOfBytes self.now.versions }
     {
         let table = self.table;
         let start = block_near(table.as_blocks(), at_least, *near as usize);
