@@ -1,13 +1,10 @@
 -- What is read of a text is a sentence: each token that takes a step is one more of what is left of a sentence.
 use Rattle.std.proofs.Common.{◌≡◌, ℕ, Bool, true, false, cond, List, [], ◌∷◌, ◌++◌, length, map, Option, Some, None, inl, inr, refl, sym, ap, ◌∙◌, subst, append_assoc, append-nil}
-use Rattle.std.specs.Prelude.{option_map, option_and_then, pos, nat_lt, nat_le, ◌||◌, bytes_eq, unwrap_or}
+use Rattle.std.specs.Prelude.{option_map, option_and_then, pos, nat_lt, ◌||◌, bytes_eq, unwrap_or}
 use Rattle.std.specs.List.{list_any}
 use Rattle.std.proofs.lemmas.Slice.Eq.{bytes_eq-Decides}
-use denote.Enum.Bare.{same_true}
-use Rattle.ds_base.specs.Limits.{most_elements, most_results}
-use Rattle.ds_base.specs.Keys.{KeyParts, is_name, is_ident, is_path}
-use Rattle.ds_base.specs.declared.key.Ident.{Ident}
-use Rattle.ds_base.specs.declared.key.Ident.TheVariants as ident
+use Rattle.ds_base.specs.Limits.{most_elements}
+use Rattle.ds_base.specs.Keys.{KeyParts, is_name, is_path}
 use Rattle.ds_base.specs.declared.key.Elem.{Elem}
 use Rattle.ds_base.specs.declared.value.Value.{Value}
 use Rattle.ds_base.specs.declared.value.Value.TheVariants as value
@@ -15,7 +12,6 @@ use Rattle.ds_base.specs.declared.column.Column.{Column}
 use Rattle.ds_query.specs.declared.query.Op.{Op}
 use Rattle.ds_query.specs.declared.query.Op.TheVariants as op
 use Rattle.ds_query.specs.declared.query.Select.TheVariants as select
-use Rattle.ds_gql.specs.contracts.token.Mark.{the_type}
 use Rattle.ds_gql.specs.declared.statement.Bindings.{Bindings}
 use Rattle.ds_gql.specs.declared.statement.Statement.{Statement}
 use Rattle.ds_gql.specs.declared.draft.Phase.{Phase}
@@ -26,7 +22,7 @@ use Rattle.ds_gql.specs.declared.draft.Draft.{Draft}
 use Rattle.ds_gql.specs.declared.token.Mark.{Mark}
 use Rattle.ds_gql.specs.declared.token.Mark.TheVariants as mark
 use Rattle.ds_gql.specs.Pieces.{Piece, fixed, name, integer, string, is, name_in}
-use Rattle.ds_gql.specs.Steps.{step, on_if, at_end, at_limits, at_orders, at_conditions, at_kind, at_direction_read, at_condition_read, select_named, next_named, kind_named, property_named, order_named, projected, key_name, no_ancestor, compare_by, compare_in, compare_of, operand_by, listed_by, ancestor_by, value_of, key_in, elem_kind_by, key_text, ident_by, ident_in, key_read, key_read_for, with_order, limit_by, offset_by, paired_by, count_in, count_of}
+use Rattle.ds_gql.specs.Steps.{step, on_if, at_end, at_limits, at_orders, at_conditions, at_kind, at_direction_read, at_condition_read, select_named, next_named, kind_named, property_named, order_named, projected, key_name, no_ancestor, compare_by, compare_in, operand_by, listed_by, ancestor_by, value_of, key_in, elem_kind_by, key_text, ident_by, ident_in, key_read, key_read_for, with_order, limit_by, offset_by, paired_by, count_in}
 use Rattle.ds_gql.specs.Sentences.{Operand, one, key, Condition, compare, among, under, Conditions, Order, none, limit, limit_offset, pair, offset, comma, others, elem_pieces, ident_piece, key_pieces, operand_pieces, condition_pieces, direction_pieces, order_pieces, operand_value, operand_values, with_condition, with_conditions, column_of}
 use Rattle.ds_gql.proofs.SentenceSteps.{Shown, Open, draft, only_if}
 use Rattle.ds_gql.proofs.GoingOn.{shown_of, open_of}

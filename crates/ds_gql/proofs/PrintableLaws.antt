@@ -1,12 +1,11 @@
 -- What a text says can be printed.
-use Rattle.std.proofs.Common.{◌≡◌, ℕ, suc, ◌≤◌, Bool, true, false, cond, not, List, [], ◌∷◌, ◌++◌, length, map, Option, Some, None, refl, sym, ap, ◌∙◌, subst, arith}
+use Rattle.std.proofs.Common.{◌≡◌, ℕ, true, cond, List, [], ◌∷◌, ◌++◌, length, Option, Some, None, refl, sym, ap, ◌∙◌, subst, arith}
 use Rattle.std.specs.Prelude.{pos, nat_le, option_map, option_and_then, ◌&&◌}
 use Rattle.std.specs.List.{list_all}
 use Rattle.std.proofs.lemmas.Bool.{and_parts}
 use Rattle.std.proofs.lemmas.List.Folds.{list_all-append}
 use borrow.Author.Tests.{le-leb}
 use Rattle.ds_base.specs.Limits.{most_results, most_name_bytes}
-use Rattle.ds_base.specs.Keys.{KeyParts, is_name}
 use Rattle.ds_base.specs.declared.value.Value.{Value}
 use Rattle.ds_query.specs.Filters.{enough_values, has_operands}
 use Rattle.ds_query.specs.declared.query.Op.{Op}
