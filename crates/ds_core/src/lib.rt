@@ -1,0 +1,4 @@
+//! The core: one store in one thread, which answers each request of each client by the definitions of `ds_model`.
+#![tactic(auto)]
+
+mod session;
