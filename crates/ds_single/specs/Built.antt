@@ -1,4 +1,5 @@
--- The rules that stand while operations are still missing: what isn't built is refused by the name of its member.
+-- The rules that stand while operations are still missing: what is well formed and isn't served is refused by the name of its member.
+-- The tables of requests come first, so a line that they refuse is told as they tell it.
 use Rattle.std.specs.Prelude.{ℕ, List, [], ◌∷◌, Bool, true, false, not, ◌==◌, cond, Option, Some, None, is_some, is_none, Result, Ok, Err}
 use Rattle.ds_query.specs.declared.query.Select.{Select}
 use Rattle.ds_query.specs.declared.query.Select.TheVariants as select
@@ -9,6 +10,10 @@ use Rattle.ds_query.specs.declared.field.Field.{Field}
 use Rattle.ds_query.specs.declared.field.Field.TheVariants as field
 use Rattle.ds_request.specs.declared.call.RequestRefused.{RequestRefused}
 use Rattle.ds_request.specs.declared.call.RequestRefused.TheVariants as refused
+use Rattle.ds_request.specs.Requests.{request_of}
+use Rattle.ds_reply.specs.declared.reply.Body.TheVariants as body
+use Rattle.ds_rounds.specs.Lines.{Content, Kept, TooLong}
+use Rattle.ds_model.specs.Asked.{Reading, request_within}
 
 abbrev pub is_empty : {A : Type 0} → List A → Bool
 is_empty [] = true
@@ -57,3 +62,8 @@ served (Err (refused.BadRequest client f)) = if_client_0 client (Err (refused.Ba
 served (Err (refused.BadKey client f)) = if_client_0 client (Err (refused.BadKey client f))
 served (Err (refused.BadValue client f)) = if_client_0 client (Err (refused.BadValue client f))
 served (Err refused.NoMemory) = Err refused.NoMemory
+
+-- what a line asks of one shard, while only this is served
+abbrev pub asked_here : Reading
+asked_here (Kept bytes) = request_within 1 (served (request_of bytes))
+asked_here TooLong = Err (0, body.LineTooLong)
