@@ -1,5 +1,5 @@
 -- The state of a core: the store, what its shards have applied of it, and what each client has seen.
-use Rattle.std.specs.Prelude.{◌≡◌, ℕ, ◌≤◌, List, [], ◌∷◌, Option, Some, None, length, All, ⊤}
+use Rattle.std.specs.Prelude.{◌≡◌, ℕ, ◌≤◌, List, [], ◌∷◌, ◌++◌, Option, Some, None, length, All, ⊤}
 use Rattle.ds_base.specs.Limits.{most_shards}
 use Rattle.ds_indexdef.specs.declared.IndexDef.{IndexDef}
 use Rattle.ds_log.specs.declared.Commit.{Commit}
@@ -59,3 +59,10 @@ pub record IsSession (st : StateParts) (s : Session) : Type 0 where
   pub counts_within : AreUpTo s.counts st.applied.counts
   pub next_within : s.next_id ≤ st.store.next
   pub transaction_within : IsTransaction st.store s.transaction
+
+-- of a state nothing is lost: commits, ids and entries are added
+pub record Grows (old new : StateParts) : Type 0 where
+  pub added : List Commit
+  pub journal : new.store.journal ≡ old.store.journal ++ added
+  pub next : old.store.next ≤ new.store.next
+  pub counts : AreUpTo old.applied.counts new.applied.counts

@@ -285,7 +285,7 @@ module _ (w : World) (more : List Commit) (lists : List (List Entry)) (h : AreLo
   asked-grown s (Err e) said later a = a
   asked-grown s (Ok r) said later a = request-grown r.client s r.call (search_of r.call) said later a
 
-  body-grown : (s : Session) (line : Result Request (ℕ × Body)) (said : Body) (later : Session) → BodyAnswers w s line said later → BodyAnswers (grown w more lists) s line said later
+  pub body-grown : (s : Session) (line : Result Request (ℕ × Body)) (said : Body) (later : Session) → BodyAnswers w s line said later → BodyAnswers (grown w more lists) s line said later
   body-grown s line body.NoMemory later a = a
   body-grown s line said later a = asked-grown s line said later a
 
