@@ -1,2 +1,5 @@
+mod Grown
+mod Lifted
+mod Meetings
 mod Raises
 mod TransactionRefusals

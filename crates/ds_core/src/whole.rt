@@ -9,7 +9,8 @@ ghost use Rattle.ds_protocol.specs.Saying.{no_memory_reply};
 ghost use Rattle.ds_core.specs.Answered.{HasAnswered};
 ghost use Rattle.ds_core.specs.States.{CoreParts};
 
-use crate::session::{Session, first_sessions};
+use crate::meeting::{first_sessions, meet, zeros};
+use crate::session::Session;
 use crate::state::State;
 use ds_base::{Buffer, NoMemory};
 use ds_indexdef::Defs;
@@ -51,11 +52,11 @@ impl Core {
         requires least { 1 ≤ shards }
         requires most { shards ≤ most_shards }
         ensures { IfOk result (λ c. c ≡ record {
-            definitions = defs;
-            shards = shards;
-            journal = [];
-            next = first_drawn_id;
-            sessions = first_sessions shards;
+          definitions = defs;
+          shards = shards;
+          journal = [];
+          next = first_drawn_id;
+          sessions = first_sessions shards;
         }) }
     {
         let state = State::make(alloc, shards, defs)?;
