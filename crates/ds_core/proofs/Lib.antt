@@ -4,5 +4,6 @@ mod Meetings
 mod Plans
 mod PutPlans
 mod Raises
+mod TransactionPlans
 mod TransactionRefusals
 mod WriteAnswers

@@ -101,6 +101,13 @@ impl Core {
             .answer(alloc, session, client, number, call, keep, out);
     }
 
+    /// How many shards there are, 1 to 16.
+    pub fn shards(&self) -> u32
+        ensures { result ≡ self.now.shards }
+    {
+        self.state.shards()
+    }
+
     /// The journal, moved out.
     pub fn end(self) -> Journal
         ensures { result ≡ self.journal }
