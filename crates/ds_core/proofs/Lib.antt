@@ -1,3 +1,4 @@
+mod Cores
 mod Grown
 mod Lifted
 mod Meetings

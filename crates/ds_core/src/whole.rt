@@ -73,6 +73,8 @@ impl Core {
     pub fn meet(&mut self)
         ensures { self.new ≡ record self.old { sessions = met self.old.sessions } }
     {
+        // For the proof alone: it tells that there is a count for each shard.
+        let _shards = self.state.shards();
         meet(&mut self.sessions, &mut self.greatest);
     }
 
