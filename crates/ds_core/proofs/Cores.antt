@@ -1,9 +1,9 @@
 -- What a core keeps: no session has seen what isn't there.
-use Rattle.std.proofs.Common.{◌≡◌, ℕ, zero, suc, ◌+◌, ◌<◌, ◌≤◌, List, [], ◌∷◌, ◌++◌, length, map, refl, ap, sym, ◌∙◌, subst, arith, Option, Some, None, get_or, append_assoc}
+use Rattle.std.proofs.Common.{◌≡◌, ℕ, zero, suc, ◌+◌, ◌<◌, ◌≤◌, List, [], ◌∷◌, ◌++◌, length, take, drop, map, refl, ap, sym, ◌∙◌, subst, arith, Option, Some, None, get_or, append_assoc}
 use Rattle.std.specs.Prelude.{All, max, fold, replicate, slice_get, slice_set}
-use Rattle.std.proofs.lemmas.List.{append-nil}
+use Rattle.std.proofs.lemmas.List.{append-nil, drop_all, take_all}
 use Rattle.std.proofs.lemmas.List.Elements.{All-replicate, All-nil, All-cons, All-set}
-use Rattle.ds_base.specs.Limits.{first_drawn_id, greatest_client}
+use Rattle.ds_base.specs.Limits.{first_drawn_id, greatest_client, most_shards}
 use Rattle.ds_indexdef.specs.declared.IndexDef.{IndexDef}
 use Rattle.ds_log.specs.declared.Commit.{Commit}
 use Rattle.ds_request.specs.declared.call.Request.{Request}
@@ -12,7 +12,9 @@ use Rattle.ds_reply.specs.Replies.{reply_text}
 use Rattle.ds_model.specs.Sessions.{Session, first_session, first_sessions, first_id, greater_counts, greatest_counts, greatest_place, greatest_next, raised_to, met}
 use Rattle.ds_core.specs.Answered.{CallAnswered, HasAnswered}
 use Rattle.ds_core.specs.Meetings.{HaveCounts}
-use Rattle.ds_core.specs.States.{StoreParts, StateParts, CoreParts, AreUpTo, IsSession, IsCore, Grows, store_of}
+use Rattle.ds_applied.specs.AppliedLists.{AppliedParts, Follows}
+use Rattle.ds_applied.proofs.FollowLaws.{Follows-made}
+use Rattle.ds_core.specs.States.{StoreParts, StateParts, CoreParts, IsState, AreUpTo, IsSession, IsCore, Grows, store_of}
 use Rattle.ds_core.proofs.Grown.{up_to-same, up_to-then, up_to-greater, session-grown}
 
 -- ---- planning and performing
@@ -54,7 +56,17 @@ had-at [] i d below = absurd (omega arith)
 had-at (s ∷ ss) zero d below = refl
 had-at (s ∷ ss) (suc i) d below = had-at ss i d (omega arith)
 
--- ---- the first sessions
+-- ---- the first state and sessions
+
+pub made-state : (definitions : List IndexDef) (shards : ℕ) (journal : List Commit) (next : ℕ) (applied : AppliedParts) → 1 ≤ shards → shards ≤ most_shards → journal ≡ [] →
+    applied ≡ record { shards = shards; commits = 0; lists = replicate shards []; counts = replicate shards 0 } →
+    IsState (record { store = record { definitions = definitions; shards = shards; journal = journal; next = next }; applied = applied })
+made-state definitions shards journal next applied least most empty same = record {
+  follows = subst (λ a. Follows journal a) (sym same) (subst (λ cs. Follows cs (record { shards = shards; commits = 0; lists = replicate shards []; counts = replicate shards 0 })) (sym empty) (Follows-made shards));
+  shards = ap (λ (a : AppliedParts). a.shards) same;
+  least = least;
+  most = most;
+}
 
 pub first-is : (st : StateParts) (shards : ℕ) → st.applied.counts ≡ replicate shards 0 → first_drawn_id ≤ st.store.next → IsSession st (first_session shards)
 first-is st shards counts next = record {
@@ -132,3 +144,15 @@ answered-core old new before after room i t same grows shards seen is = record {
   each = subst (λ ss. All (IsSession new) ss) (sym same) (All-set (IsSession new) before i t seen (each-grown old new before grows is.each));
   room = is.room ∙ sym shards;
 }
+
+abbrev pub core_parts : StoreParts → List Session → CoreParts
+core_parts st sessions = record { definitions = st.definitions; shards = st.shards; journal = st.journal; next = st.next; sessions = sessions }
+
+-- ---- a list that was lent whole
+
+pub whole_written : {A : Type 0} (len : ℕ) (new now old : List A) → length new ≡ length now → length now ≡ len → now ≡ old → take len (new ++ drop (length new) old) ≡ new
+whole_written len new now old kept all same =
+    let many : length now ≡ length old = ap (λ xs. length xs) same in
+    ap (λ xs. take len (new ++ xs)) (drop_all (length new) old (omega (arith, kept, many)))
+    ∙ ap (take len) (append-nil new)
+    ∙ take_all len new (omega (arith, kept, all))

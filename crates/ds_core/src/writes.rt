@@ -85,7 +85,7 @@ impl State {
     {
         match group_asked(alloc, entity.key(), incomplete) {
             Ok(group) => match session.refusal(alloc, group.as_ref()) {
-                Some(body) => Plan::refused(body),
+                Some(refusal) => Plan::refused(refusal),
                 None => self.plan_unrefused(alloc, session, client, entity, incomplete),
             },
             Err(_) => Plan::no_memory(),

@@ -10,9 +10,9 @@ use Rattle.ds_core.proofs.state.State.plan_counted.Goals as goal
 
 pub returns-in-Some : goal.returns-in-Some
 returns-in-Some c =
-    refused_as c.args.self.now c.args.session.now c.args.client (call.Put c.args.entity.key c.args.incomplete c.args.entity.properties) c.refused.result.body c.in-Some.body c.refused.result.effect
+    refused_as c.args.self.now c.args.session.now c.args.client (call.Put c.args.entity.key c.args.incomplete c.args.entity.properties) c.refused.result.body c.in-Some.refusal c.refused.result.effect
     c.refused.ensures.body c.refused.ensures.effect c.in-Some.ensures.quiet refl
-    (told_refusal c.args.self.now c.args.session.now c.args.client (call.Put c.args.entity.key c.args.incomplete c.args.entity.properties) _ c.in-Some.body
+    (told_refusal c.args.self.now c.args.session.now c.args.client (call.Put c.args.entity.key c.args.incomplete c.args.entity.properties) _ c.in-Some.refusal
     (put_after_rows c.args.self.now c.args.session.now c.args.client c.args.entity c.args.incomplete
     (subst (λ (e : EntityParts). entity_refusal e.key e.properties ≡ None) c.entity.view_is c.entity.invariant.not_refused) c.requires.few_rows
     ∙ ap (λ g. first_refusal (group_refusal c.args.session.now.transaction g ∷ write_refusal c.args.session.now.transaction ∷ []))
