@@ -64,7 +64,7 @@ raised_no_lower (suc shard) count (c ∷ cs) = (omega arith, raised_no_lower sha
 pub seen_same : (s : Session) → HasSeen s s
 seen_same s = record { place = omega arith; counts = same_counts s.counts; next = omega arith }
 
-seen_then : (s t u : Session) → HasSeen s t → HasSeen t u → HasSeen s u
+pub seen_then : (s t u : Session) → HasSeen s t → HasSeen t u → HasSeen s u
 seen_then s t u first second = record {
   place = omega (arith, first.place, second.place);
   counts = no_lower-then s.counts t.counts u.counts first.counts second.counts;
