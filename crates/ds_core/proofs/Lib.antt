@@ -1,5 +1,8 @@
 mod Grown
 mod Lifted
 mod Meetings
+mod Plans
+mod PutPlans
 mod Raises
 mod TransactionRefusals
+mod WriteAnswers

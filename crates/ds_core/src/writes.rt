@@ -3,6 +3,7 @@ ghost use Rattle.std.specs.Prelude.{◌≡◌, ◌+◌, ◌≤◌, ◌<◌, ◌�
 ghost use Rattle.std.specs.Option.{option_copied};
 ghost use Rattle.ds_base.specs.Entities.{EntityParts, names_ascend};
 ghost use Rattle.ds_base.specs.Keys.{ends_in_id};
+ghost use Rattle.ds_base.specs.Limits.{greatest_id};
 ghost use Rattle.ds_log.specs.declared.Write.TheVariants as write;
 ghost use Rattle.ds_log.specs.Ids.{first_unissued, unissued};
 ghost use Rattle.ds_request.specs.declared.call.Call.{Call};
@@ -107,17 +108,53 @@ impl State {
         ensures { IsPlan self.now session.now client (Call.Put entity.key incomplete entity.properties) result.body result.effect }
     {
         let next = self.book.next();
-        if let Some(id) = first_unissued(entity.key().elems().as_slice(), next) {
-            return Plan {
+        match first_unissued(entity.key().elems().as_slice(), next) {
+            Some(id) => Plan {
                 body: Body::IdNotIssued { id, next },
                 effect: Effect::SeeNext { next },
-            };
+            },
+            None => self.plan_issued(alloc, session, client, entity, incomplete),
         }
+    }
+
+    /// Its ids are issued.
+    fn plan_issued(
+        &self,
+        alloc: Global,
+        session: &Session,
+        client: u32,
+        entity: Entity,
+        incomplete: bool,
+    ) -> Plan
+        requires unrefused { refusal_of self.now.store.definitions session.now (Call.Put entity.key incomplete entity.properties) ≡ None }
+        requires issued { first_unissued self.now.store.next entity.key.elems ≡ None }
+        requires left { self.now.store.next ≤ greatest_id }
+        requires ends_in_id { IsTrue incomplete → IsTrue (ends_in_id entity.key.elems) }
+        requires seen { IsSession self.now session.now }
+        ensures { IsPlan self.now session.now client (Call.Put entity.key incomplete entity.properties) result.body result.effect }
+    {
         if incomplete {
             self.plan_completed(alloc, session, client, entity)
         } else {
-            self.say_put(alloc, session, client, entity, false)
+            self.plan_complete(alloc, session, client, entity)
         }
+    }
+
+    /// Its key is complete.
+    fn plan_complete(
+        &self,
+        alloc: Global,
+        session: &Session,
+        client: u32,
+        entity: Entity,
+    ) -> Plan
+        requires unrefused { refusal_of self.now.store.definitions session.now (Call.Put entity.key false entity.properties) ≡ None }
+        requires issued { first_unissued self.now.store.next entity.key.elems ≡ None }
+        requires left { self.now.store.next ≤ greatest_id }
+        requires seen { IsSession self.now session.now }
+        ensures { IsPlan self.now session.now client (Call.Put entity.key false entity.properties) result.body result.effect }
+    {
+        self.say_put(alloc, session, client, entity, false)
     }
 
     /// The next id completes its key.
@@ -192,13 +229,13 @@ impl State {
         ensures { IsPlan self.now session.now client (Call.Delete key) result.body result.effect }
     {
         let next = self.book.next();
-        if let Some(id) = first_unissued(key.elems().as_slice(), next) {
-            return Plan {
+        match first_unissued(key.elems().as_slice(), next) {
+            Some(id) => Plan {
                 body: Body::IdNotIssued { id, next },
                 effect: Effect::SeeNext { next },
-            };
+            },
+            None => self.say_delete(alloc, session, client, key),
         }
-        self.say_delete(alloc, session, client, key)
     }
 
     /// Says that the entity of a key is deleted.
