@@ -96,8 +96,8 @@ impl Applied {
     fn pull_commit(&mut self, alloc: Global, commit: &Commit) -> Result<(), NoMemory>
         requires { self.old.commits + 1 < 2 ^ 64 }
         ensures ok { OnOk result (self.new ≡ record self.old {
-            commits = self.old.commits + 1;
-            lists = added self.old.shards 0 self.old.lists (commit_entries (self.old.commits + 1) commit.now);
+          commits = self.old.commits + 1;
+          lists = added self.old.shards 0 self.old.lists (commit_entries (self.old.commits + 1) commit.now);
         }) }
         ensures err { OnErr result (self.new ≡ self.old) }
     {
@@ -163,7 +163,7 @@ impl Applied {
         requires { AreCounts self.now.lists counts.now }
         ensures { result ≡ counted_place self.now.lists counts.now }
     {
-        let mut place = 0;
+        let mut place: u64 = 0;
         for (shard, count) in counts.iter().enumerate() {
             place = place.max(self.shards[shard].last_commit(*count as usize));
         }
@@ -176,7 +176,8 @@ impl Applied {
         requires shard { shard < self.old.shards }
         requires left { count_of self.old.counts shard < length (list_of self.old.lists shard) }
         ensures ok { OnOk result (self.new ≡ record self.old {
-            counts = raised_at shard (count_of self.old.counts shard + 1) self.old.counts }) }
+          counts = raised_at shard (count_of self.old.counts shard + 1) self.old.counts;
+        }) }
         ensures err { OnErr result (self.new ≡ self.old) }
     {
         self.shards[shard as usize].apply_one(alloc)

@@ -24,5 +24,6 @@ loop-i-preserved c =
           (c.in_ok-reserve.ensures.kept.0 ∙ ap (λ (s : ShardParts). s.entries) c.index_mut.ensures.value) ∙ c.loop-i.invariant.1,
       map-set_same (λ (s : ShardParts). s.applied) c.loop-i.shards.items c.loop-i.i c.reserve.new.self c.index_mut.result.now
           (c.in_ok-reserve.ensures.kept.1 ∙ ap (λ (s : ShardParts). s.applied) c.index_mut.ensures.value) ∙ c.loop-i.invariant.2,
-      AllWithin-more_set c.loop-i.shards.items c.loop-i.i c.reserve.new.self below (HasRoom c.args.entries) c.loop-i.invariant.3 c.in_ok-reserve.ensures.ok,
+      AllWithin-more_set c.loop-i.shards.items c.loop-i.i c.reserve.new.self below
+          (HasRoom c.args.entries) c.loop-i.invariant.3 c.in_ok-reserve.ensures.ok,
     )

@@ -14,7 +14,8 @@ loop-alloc-smaller c =
 pub loop-alloc-preserved : goal.loop-alloc-preserved
 loop-alloc-preserved c =
     let left : count_of c.loop-alloc.self.counts c.args.shard < c.args.count = search rules in
-    raised_more c.args.shard c.args.count c.args.self.now c.loop-alloc.self c.apply_one.new.self c.count.ensures.listed c.loop-alloc.invariant left
+    raised_more c.args.shard c.args.count c.args.self.now c.loop-alloc.self c.apply_one.new.self c.count.ensures.listed
+    c.loop-alloc.invariant left
     c.in_ok-apply_one.ensures.ok
 
 pub returns-clause-ok : goal.returns-clause-ok
