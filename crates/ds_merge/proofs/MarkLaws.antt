@@ -1,7 +1,7 @@
 -- Two rows have one mark where their keys and their projected values are the same.
 use Rattle.std.proofs.Common.{◌≡◌, ℕ, ◌+◌, ◌≤◌, Bool, true, false, ◌&&◌, List, [], ◌∷◌, ◌++◌, map, cond, length}
 use Rattle.std.proofs.Common.{refl, sym, ap, subst, ◌∙◌, arith}
-use Rattle.std.proofs.Common.{append_assoc, append-nil, length-append, Option, Some, None, bytes_eq}
+use Rattle.std.proofs.Common.{append_assoc, append-nil, length-append, Some, None, bytes_eq}
 use Rattle.std.specs.Prelude.{slice_get, unwrap_or, suc, zero}
 use Rattle.std.specs.Cmp.Lexicographic.{slice_cmp, pointwise}
 use Rattle.std.specs.List.{position_from}
@@ -16,7 +16,7 @@ use Rattle.ds_base.specs.IndexOrder.{index_value_cmp}
 use Rattle.ds_bytes.specs.Rows.{RowParts}
 use Rattle.ds_model.specs.Rows.{value_columns}
 use Rattle.ds_model.specs.Results.{value_named, projected_values, same_mark}
-use Rattle.ds_merge.specs.Marks.{mark_cmp, mark_of, value_at, is_same}
+use Rattle.ds_merge.specs.Marks.{value_at, is_same}
 use Rattle.ds_merge.specs.Merging.{placed}
 use Rattle.ds_merge.specs.Slots.{slot_of}
 

@@ -1,5 +1,5 @@
 -- A page of rows with their places is the page of the rows.
-use Rattle.std.proofs.Common.{◌≡◌, ℕ, List, map, fold, take, drop, refl, sym, ap, ◌∙◌, Option, Some, None, Result, Ok, Err}
+use Rattle.std.proofs.Common.{◌≡◌, ℕ, List, map, drop, refl, ap, ◌∙◌, Option, Some, None, Result, Ok, Err}
 use Rattle.std.specs.Prelude.{All, IfOk}
 use Rattle.std.specs.List.{take-map}
 use Rattle.std.specs.List.Sorted.{IsSorted, IsPermutation}

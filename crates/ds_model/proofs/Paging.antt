@@ -16,7 +16,7 @@ use Rattle.ds_base.specs.declared.column.Column.{Column}
 use Rattle.ds_base.specs.declared.index_value.IndexValue.{IndexValue}
 use Rattle.ds_base.specs.IndexOrder.{index_value_cmp}
 use Rattle.ds_base.specs.IndexOrderLaws.{index_value_cmp-total}
-use Rattle.ds_base.specs.KeyOrder.{bytes_cmp, key_cmp}
+use Rattle.ds_base.specs.KeyOrder.{bytes_cmp}
 use Rattle.ds_base.specs.KeyOrderLaws.{bytes_cmp-same, key_cmp-total}
 use Rattle.ds_base.specs.Entities.{EntityParts}
 use Rattle.ds_base.specs.OrderLaws.{then-Equal}

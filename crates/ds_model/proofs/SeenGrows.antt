@@ -1,6 +1,6 @@
 -- What a client has seen never shrinks: no reply lowers its place, one of its counts, or its shown id counter.
-use Rattle.std.proofs.Common.{◌≡◌, ℕ, zero, suc, ◌≤◌, List, [], ◌∷◌, refl, sym, subst, Bool, true, false, arith, Option, Some, None}
-use Rattle.std.specs.Prelude.{max, Result, Ok, Err, ⊤}
+use Rattle.std.proofs.Common.{◌≡◌, ℕ, zero, suc, ◌≤◌, List, [], ◌∷◌, sym, subst, arith, Option, Some, None}
+use Rattle.std.specs.Prelude.{Result, Ok, Err, ⊤}
 use Rattle.ds_base.specs.declared.results.Item.{Item}
 use Rattle.ds_base.specs.declared.results.Seen.{Seen}
 use Rattle.ds_base.specs.declared.results.Seen.TheVariants as seen

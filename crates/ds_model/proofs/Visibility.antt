@@ -363,3 +363,21 @@ pub round_all_seen : (reading : Reading) (w : World) (k : ℕ) (round : List Num
 round_all_seen reading w k round sessions replies after counts steps =
     let seen = round_seen reading w round 0 (met sessions) replies after steps in
     (all_later sessions (met sessions) after seen (met_all k sessions sessions counts counts), counts_kept k (met sessions) after seen (met_have_counts k sessions sessions counts counts))
+
+-- ---- what a client finds of its own commits, and of others' that it was shown
+
+-- A commit whose number a reply told isn't above the place of the client's next get outside a transaction, whatever stands between.
+pub commit_then_get : (reading : Reading) → ReadingRefuses reading → (w : World) (t u later : Session) (n m : ℕ) (found : Option EntityParts) (line : NumberedLine) (client number : ℕ) → n ≤ t.place → HasSeen t u → u.transaction ≡ None →
+    Answers reading w u line (record { client = client; line = number; body = body.Get found m }) later → n ≤ m
+commit_then_get reading refuses w t u later n m found line client number shown between outside a =
+    omega (arith, shown, between.place, get_above_seen w u later found m reading refuses line client number outside a)
+
+-- After a settle it is counted by every later query without an ancestor: also by another client's, once the sessions have met.
+pub commit_then_settle : (reading : Reading) → ReadingRefuses reading → (w : World) (t u settled_at v later : Session) (n m : ℕ) (line other : NumberedLine) (client number second third : ℕ) (counts told : List ℕ)
+    (selected : Select) (results : List Item) (cursor : Option (List ℕ)) → n ≤ t.place → HasSeen t u →
+    Answers reading w u line (record { client = client; line = number; body = body.Settle m counts }) settled_at → HasSeen settled_at v →
+    Answers reading w v other (record { client = second; line = third; body = body.Query selected results (seen.Counts told) cursor }) later → Covers w n 0 told
+commit_then_settle reading refuses w t u settled_at v later n m line other client number second third counts told selected results cursor shown between settle after query =
+    let all = settled w u settled_at reading refuses line client number m counts settle in
+    let below : n ≤ m = omega (arith, shown, between.place, all.0) in
+    query_counts w v later selected results told cursor reading refuses other second third n query (later_covers w n m settled_at v after below all.1)

@@ -1,12 +1,11 @@
 -- A row has a value for each column other than `__key__`.
-use Rattle.std.proofs.Common.{◌≡◌, List, [], ◌∷◌, ◌++◌, map, length, refl, sym, ap, ◌∙◌, subst}
+use Rattle.std.proofs.Common.{◌≡◌, List, [], ◌∷◌, map, length, refl, sym, ap, ◌∙◌, subst}
 use Rattle.std.specs.Prelude.{filter, flat_map, All, suc}
 use Rattle.std.proofs.lemmas.List.{length-map}
 use Rattle.std.proofs.lemmas.List.Elements.{All-nil, All-cons, All-head, All-tail, All-append, All-filter}
 use Rattle.ds_base.specs.declared.column.Column.{Column}
 use Rattle.ds_base.specs.declared.index_value.IndexValue.{IndexValue}
 use Rattle.ds_base.specs.Entities.{EntityParts}
-use Rattle.ds_base.specs.Keys.{KeyParts}
 use Rattle.ds_bytes.specs.Rows.{RowParts}
 use Rattle.ds_cursor.specs.RowsOfColumns.{directions}
 use Rattle.ds_query.specs.declared.branch.Branch.{Branch}

@@ -182,9 +182,10 @@ fn rows_between(
     let mut rows = Vec::new(alloc);
     for found in found_rows(alloc, entities, branch)? {
         let row = placed(alloc, &directions, found)?;
-        if is_between(&row.place, window) {
-            rows.push(row)?;
+        if !is_between(&row.place, window) {
+            continue;
         }
+        rows.push(row)?;
     }
     Ok(rows)
 }

@@ -4,7 +4,7 @@ ghost use Rattle.std.specs.List.{list_all, list_any};
 ghost use Rattle.std.specs.Ordering.{is_eq};
 ghost use Rattle.ds_base.specs.IndexOrder.{index_value_cmp};
 ghost use Rattle.ds_base.specs.declared.index_value.IndexValue.TheVariants as index;
-ghost use Rattle.ds_model.specs.Rows.{is_of_kind, is_under, has_value, is_found, is_above, is_below, is_within};
+ghost use Rattle.ds_model.specs.Rows.{has_kind, is_under, has_value, is_found, is_above, is_below, is_within};
 
 use ds_base::{Entity, IndexValue, Key, NoMemory, TextString};
 use ds_query::{Bound, Branch, Pair, Range};
@@ -20,7 +20,7 @@ pub(crate) fn is_found(alloc: Global, branch: &Branch, entity: &Entity) -> Resul
     if key.namespace().text() != branch.namespace.text() {
         return Ok(false);
     }
-    if !is_of_kind(&branch.kind, key) {
+    if !has_kind(&branch.kind, key) {
         return Ok(false);
     }
     if !is_under(&branch.ancestor, key) {
@@ -29,8 +29,8 @@ pub(crate) fn is_found(alloc: Global, branch: &Branch, entity: &Entity) -> Resul
     has_values(alloc, entity, branch.equal.as_slice())
 }
 
-fn is_of_kind(kind: &Option<TextString>, key: &Key) -> bool
-    ensures { result ≡ is_of_kind kind.now key.now }
+fn has_kind(kind: &Option<TextString>, key: &Key) -> bool
+    ensures { result ≡ has_kind kind.now key.now }
 {
     match kind {
         Some(kind) => kind.bytes() == kind_of(key),

@@ -1,5 +1,4 @@
 use Rattle.std.proofs.Common.{◌≡◌, List, ◌∷◌, map, sym, ap, ◌∙◌}
-use Rattle.ds_base.specs.Entities.{EntityParts}
 use Rattle.ds_model.specs.Results.{extended}
 use Rattle.ds_query.specs.declared.row.Row.{Row}
 use Rattle.ds_merge.specs.Merging.{IsPlaced, placed}

@@ -1,4 +1,4 @@
-use Rattle.std.proofs.Common.{◌≡◌, List, ◌++◌, ◌∷◌, [], ◌<◌, map, length, get_or, sym, ap, subst, ◌∙◌}
+use Rattle.std.proofs.Common.{◌++◌, ◌∷◌, [], ◌<◌, map, length, get_or, sym, ap, subst, ◌∙◌}
 use Rattle.std.specs.Prelude.{All}
 use Rattle.ds_merge.specs.Merging.{IsPlaced, all_rows}
 use Rattle.ds_plain.specs.Answers.{branch_list}

@@ -1,6 +1,5 @@
-use Rattle.std.proofs.Common.{◌≡◌, ◌&&◌, true, false, List, ◌∷◌, map, cond, sym, ap, ◌∙◌}
+use Rattle.std.proofs.Common.{◌&&◌, List, ◌∷◌, map, cond, sym, ap, ◌∙◌}
 use Rattle.std.specs.Prelude.{filter}
-use Rattle.ds_bytes.specs.Rows.{RowParts}
 use Rattle.ds_cursor.specs.RowsOfColumns.{directions, key_descends}
 use Rattle.ds_model.specs.Rows.{rows}
 use Rattle.ds_model.specs.Results.{is_between, is_after, is_up_to}
@@ -11,8 +10,8 @@ use Rattle.ds_plain.specs.FoundRows.{found_parts, IsLong}
 use Rattle.ds_plain.proofs.AnswerLaws.{pushed, skipped, all_pushed, all_left}
 use Rattle.ds_plain.proofs.answering.rows_between.Goals as goal
 
-pub loop-found-preserved-in-Continue-branch-4 : goal.loop-found-preserved-in-Continue-branch-4
-loop-found-preserved-in-Continue-branch-4 c =
+pub loop-found-preserved : goal.loop-found-preserved
+loop-found-preserved c =
     let columns = c.args.branch.now.columns in
     let start = c.args.window.now.start in
     let end = c.args.window.now.end in
@@ -27,7 +26,7 @@ loop-found-preserved-in-Continue-branch-4 c =
           (map (placed columns) (filter (is_between columns start end) (rows c.args.branch.now (map (λ e. e.now) c.args.entities.now))))
           c.in-Some.ensures.steps.0 c.in_ok-push.ensures.items
           (ap (λ b. map (placed columns) (cond b (found_parts found ∷ filter (is_between columns start end) (map found_parts rest))
-          (filter (is_between columns start end) (map found_parts rest)))) (tells ∙ c.if-is_between.true)
+          (filter (is_between columns start end) (map found_parts rest)))) (tells ∙ c.if-not-is_between.false)
           ∙ ap (λ r. r ∷ F rest) (sym stands.0))
           c.loop-found.invariant.rows;
       placed = all_pushed (IsPlaced columns) c.loop-found.rows.items c.push.new.self.items c.in_ok-row.row c.in_ok-push.ensures.items
@@ -35,8 +34,8 @@ loop-found-preserved-in-Continue-branch-4 c =
       long = all_left (IsLong columns) c.loop-found.found-iterator.rest.items rest found c.in-Some.ensures.steps.0 c.loop-found.invariant.long;
     }
 
-pub loop-found-preserved : goal.loop-found-preserved
-loop-found-preserved c =
+pub loop-found-preserved-then-not-is_between : goal.loop-found-preserved-then-not-is_between
+loop-found-preserved-then-not-is_between c =
     let columns = c.args.branch.now.columns in
     let start = c.args.window.now.start in
     let end = c.args.window.now.end in
@@ -51,7 +50,7 @@ loop-found-preserved c =
           (map (placed columns) (filter (is_between columns start end) (rows c.args.branch.now (map (λ e. e.now) c.args.entities.now))))
           c.in-Some.ensures.steps.0
           (ap (λ b. map (placed columns) (cond b (found_parts found ∷ filter (is_between columns start end) (map found_parts rest))
-          (filter (is_between columns start end) (map found_parts rest)))) (tells ∙ c.if-is_between.false))
+          (filter (is_between columns start end) (map found_parts rest)))) (tells ∙ c.if-not-is_between.true))
           c.loop-found.invariant.rows;
       placed = c.loop-found.invariant.placed;
       long = all_left (IsLong columns) c.loop-found.found-iterator.rest.items rest found c.in-Some.ensures.steps.0 c.loop-found.invariant.long;

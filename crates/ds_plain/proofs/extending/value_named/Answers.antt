@@ -1,4 +1,4 @@
-use Rattle.std.proofs.Common.{◌≡◌, ◌∙◌, sym, arith}
+use Rattle.std.proofs.Common.{◌∙◌, sym, arith}
 use Rattle.std.specs.Prelude.{bytes_eq}
 use Rattle.ds_plain.proofs.ColumnLaws.{behind_other}
 use Rattle.ds_plain.proofs.extending.value_named.Goals as goal

@@ -1,4 +1,4 @@
-use Rattle.std.proofs.Common.{◌≡◌, ◌∙◌, ap, fold, [], ◌∷◌}
+use Rattle.std.proofs.Common.{◌∙◌, ap, fold, [], ◌∷◌}
 use Rattle.std.proofs.lemmas.List.{take_all}
 use Rattle.ds_plain.proofs.WayLaws.{grown, each_way-grown}
 use Rattle.ds_plain.proofs.ways.each_way.Goals as goal
