@@ -4,5 +4,6 @@ mod Meetings
 mod Plans
 mod PutPlans
 mod Raises
+mod ReadPlans
 mod TransactionRefusals
 mod WriteAnswers

@@ -224,7 +224,7 @@ module _ (st : StateParts) (s : Session) (client : ℕ) where
         allowed = plan.allowed;
       })
 
--- ---- what may be written
+  -- ---- what may be written
 
   pub put_writable : (e : EntityParts) → st.store.next ≤ greatest_id → refusal_of st.store.definitions s (call.Put e.key false e.properties) ≡ None → first_unissued st.store.next e.key.elems ≡ None → IsWritable st s (Put e) false
   put_writable e left none issued =
@@ -249,7 +249,7 @@ module _ (st : StateParts) (s : Session) (client : ℕ) where
       let d = refusals-none (write_refusal s.transaction) [] c.1 in
       record { group = c.0; few = d.0; left = omega arith; issued = first_unissued-rises st.store.next (st.store.next + 0) key.elems (omega arith) issued }
 
--- ---- refusals of puts and deletes
+  -- ---- refusals of puts and deletes
 
   -- the entity's own refusal is the first
   pub entity_refused : (key : KeyParts) (incomplete : Bool) (properties : List Property) (why : EntityRefused) (b : Body) → entity_body (Some why) ≡ Some b →
