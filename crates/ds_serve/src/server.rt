@@ -11,14 +11,14 @@ use crate::output::write_all;
 use ds_base::Buffer;
 use ds_io::{Gate, Sink, Source};
 use ds_rounds::{Line, Lines, Round, RoundRefused, Rounds, Unsent};
-use ds_single::{Single, no_memory_room};
+use ds_core::Core;
 use ds_words::Status;
 use std::alloc::{AllocError, Global};
 
 /// The state between rounds: the engine, and the buffer that holds the replies of one round.
 #[derive(Drop)]
 pub(crate) struct Server {
-    pub single: Single,
+    pub core: Core,
     pub text: Buffer,
 }
 
@@ -42,7 +42,7 @@ impl Server {
         ensures text { result.text.bytes ≡ [] }
     {
         Server {
-            single: Single::new(alloc),
+            core: Core::new(alloc),
             text: Buffer::new(alloc),
         }
     }
@@ -108,8 +108,8 @@ pub(crate) fn serve_round<I: Source, O: Sink, G: Gate>(
     }
 }
 
-/// Runs a round: its lines are answered, and the buffer then has the replies and nothing else. A refusal is want of memory, and
-/// comes before any line is answered.
+/// Runs a round: its lines are answered, client by client, and the buffer then has the replies and nothing else. A refusal is want of
+/// memory, and comes before any line is answered.
 fn run_round<G: Gate>(
     alloc: Global,
     round: &Round,
@@ -117,64 +117,95 @@ fn run_round<G: Gate>(
     gate: &G,
 ) -> Result<(), AllocError>
     requires { IsRound round.now }
-    ensures ok { OnOk result (Ran server.old.single server.new.single (lines_of_round round.now) server.new.text.bytes) }
-    ensures err { OnErr result (server.new.single ≡ server.old.single) }
+    ensures ok { OnOk result (Ran server.old.core server.new.core (lines_of_round round.now) server.new.text.bytes) }
+    ensures err { OnErr result (server.new.core ≡ server.old.core) }
 {
     server.text.clear();
-    let Some(room) = total_room(round.first, round.lines.len()) else {
+    let lists = asked_by_client(alloc, server.core.shards(), round)?;
+    let Some(room) = total_room(lists.as_slice()) else {
         return Err(AllocError);
     };
     server.text.make_room(room)?;
-    answer_each(alloc, round, room, server, gate);
+    server.core.meet();
+    answer_all(alloc, lists, room, server, gate);
     Ok(())
 }
 
-/// How many bytes a reply to each line takes that there was no memory, of so many lines from this number on; `None` where they
-/// are too many to count.
-fn total_room(first: u64, lines: usize) -> Option<usize>
-    requires { first + lines ≤ most_input_bytes + 1 }
-    ensures { IfSome result (λ total. total ≡ room_from first lines) }
+/// How many bytes a reply to each line takes that there was no memory; `None` where they are too many to count.
+fn total_room(lists: &[Vec<Asked>]) -> Option<usize>
+    ensures { IfSome result (λ total. total ≡ room_of_lists 0 lists.now) }
 {
     let mut total: usize = 0;
-    for i in 0..lines {
-        let room = no_memory_room(first + i as u64);
-        if room == usize::MAX {
-            return None;
-        }
-        total = total.checked_add(room)?;
+    for client in 0..lists.len() {
+        total = total.checked_add(room_of_client(client as u32, lists[client].as_slice())?)?;
     }
     Some(total)
 }
 
-/// Answers each line of a round. There must be room for a reply to each that there was no memory: `room` bytes.
-fn answer_each<G: Gate>(alloc: Global, round: &Round, room: usize, server: &mut Server, gate: &G)
-    requires numbers { round.now.first + length round.now.lines ≤ most_input_bytes + 1 }
-    requires all { room ≡ room_from round.now.first (length round.now.lines) }
-    requires taken { room ≤ server.old.text.spare }
-    requires empty { server.old.text.bytes ≡ [] }
-    ensures { Ran server.old.single server.new.single (lines_of_round round.now) server.new.text.bytes }
+/// How many bytes replies to a client's lines take that there was no memory; `None` where they are too many to count.
+fn room_of_client(client: u32, own: &[Asked]) -> Option<usize>
+    ensures { IfSome result (λ total. total ≡ room_of_lines client own.now) }
+{
+    let mut total: usize = 0;
+    for asked in own {
+        let needed = room(client, asked.number);
+        if needed == usize::MAX {
+            return None;
+        }
+        total = total.checked_add(needed)?;
+    }
+    Some(total)
+}
+
+/// Answers the lines of all clients, one client after another. There must be room for a reply to each that there was no memory.
+fn answer_all<G: Gate>(
+    alloc: Global,
+    lists: Vec<Vec<Asked>>,
+    room: usize,
+    server: &mut Server,
+    gate: &G,
+)
 {
     let mut keep = room;
-    for i in 0..round.lines.len() {
-        let number = round.first + i as u64;
-        keep -= no_memory_room(number);
-        let line = line_at(&round.lines, i);
-        gate.before(0, number);
-        server
-            .single
-            .answer(alloc, number, line, keep, &mut server.text);
-        gate.after(0, number);
+    let mut client = 0;
+    for own in lists {
+        keep = answer_client(alloc, client, own, keep, server, gate);
+        client += 1;
     }
 }
 
-/// The line at a place.
-fn line_at(lines: &Lines, i: usize) -> Line<'_>
-    requires { i < length lines.now }
-    ensures line { slice_get lines.now i ≡ Some (handed result) }
-    ensures within { IsWithinLimit result }
+/// Answers the lines of one client, in their order, and gives the room that is left for the others.
+fn answer_client<G: Gate>(
+    alloc: Global,
+    client: u32,
+    own: Vec<Asked>,
+    keep: usize,
+    server: &mut Server,
+    gate: &G,
+) -> usize
 {
-    match lines.get(i) {
-        Some(line) => line,
-        None => unreachable!(),
+    let mut keep = keep;
+    for asked in own {
+        let number = asked.number;
+        keep -= room(client, number);
+        gate.before(client, number);
+        answer_line(alloc, client, asked, keep, server);
+        gate.after(client, number);
+    }
+    keep
+}
+
+/// Answers one line of a client: its request, or that it is refused.
+fn answer_line(alloc: Global, client: u32, asked: Asked, keep: usize, server: &mut Server)
+{
+    match asked.request {
+        Ok(request) => {
+            server
+                .core
+                .answer(alloc, asked.number, request, keep, &mut server.text)
+        }
+        Err(body) => {
+            let _reply = say(client, asked.number, body, keep, &mut server.text);
+        }
     }
 }
