@@ -3,7 +3,7 @@ use Rattle.std.specs.Prelude.{◌≡◌, ℕ, List, [], ◌∷◌, ◌++◌, Opt
 use Rattle.ds_base.specs.declared.key.Ident.TheVariants.{Name}
 use Rattle.ds_base.specs.Entities.{EntityParts}
 use Rattle.ds_cursor.specs.declared.cursor.CursorRefused.TheVariants as refused
-use Rattle.ds_cursor.specs.Cursors.{CursorIs, cursor_bytes, cursor_text}
+use Rattle.ds_cursor.specs.Cursors.{PartsAre, cursor_bytes, parts_of_bytes}
 use Rattle.ds_query.specs.declared.query.Query.{Query}
 use Rattle.ds_query.specs.declared.query.Select.TheVariants as select
 use Rattle.ds_query.specs.declared.row.Place.{Place}
@@ -61,17 +61,11 @@ after_none = refl
 after_none_later : cursor (next_place (next_place None 0 None) 0 (Some 0)) ≡ at_task
 after_none_later = refl
 
--- ---- texts
-
-before_first : cursor_text (branch_of tasks unasked) None ≡ codes "AQAAABcBVGFzawABAAAAAV9fa2V5X18AAQAAAAA="
-before_first = refl
-
-behind_task : cursor_text (branch_of tasks unasked) (next_place None 0 None) ≡ codes "AQAAABcBVGFzawABAAAAAV9fa2V5X18AAQAAAAECVGFzawABIGEAAQE="
-behind_task = refl
+-- ---- what the bytes of a text are to a query
 
 -- another query's cursor is none of this one, and what is too short is none of any
-of_another_kind : CursorIs (branch_of (of_kind (codes "U")) unasked) (codes "AQAAABcBVGFzawABAAAAAV9fa2V5X18AAQAAAAECVGFzawABIGEAAQE=") (Err refused.CursorMismatch)
+of_another_kind : PartsAre (branch_of (of_kind (codes "U")) unasked) (parts_of_bytes at_task) (Err refused.CursorMismatch)
 of_another_kind = refl
 
-one_byte : CursorIs (branch_of tasks unasked) (codes "AQ==") (Err refused.BadCursor)
+one_byte : PartsAre (branch_of tasks unasked) (parts_of_bytes (0x01 ∷ [])) (Err refused.BadCursor)
 one_byte = refl

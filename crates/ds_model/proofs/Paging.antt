@@ -16,7 +16,7 @@ use Rattle.ds_base.specs.declared.column.Column.{Column}
 use Rattle.ds_base.specs.declared.index_value.IndexValue.{IndexValue}
 use Rattle.ds_base.specs.IndexOrder.{index_value_cmp}
 use Rattle.ds_base.specs.IndexOrderLaws.{index_value_cmp-total}
-use Rattle.ds_base.specs.KeyOrder.{bytes_cmp, key_cmp}
+use Rattle.ds_base.specs.KeyOrder.{bytes_cmp}
 use Rattle.ds_base.specs.KeyOrderLaws.{bytes_cmp-same, key_cmp-total}
 use Rattle.ds_base.specs.Entities.{EntityParts}
 use Rattle.ds_base.specs.OrderLaws.{then-Equal}
@@ -267,20 +267,20 @@ module _ (columns : List Column) where
   rest_of : (start end : Option Place) (s : List RowParts) (f : RowParts) (fs : List RowParts) → Rises columns s →
       filter (is_between columns start end) s ≡ f ∷ fs → filter (is_between columns (at_row f) end) s ≡ fs
   rest_of start end [] f fs rise is = cc
-  rest_of start end (x ∷ s) f fs rise is = by (is_between columns start end x) refl is where
-    by : (b : Bool) → is_between columns start end x ≡ b → cond b (x ∷ filter (is_between columns start end) s) (filter (is_between columns start end) s) ≡ f ∷ fs →
+  rest_of start end (x ∷ s) f fs rise is = by (rest_of start end s f fs rise.1) (is_between columns start end x) refl is where
+    by : (filter (is_between columns start end) s ≡ f ∷ fs → filter (is_between columns (at_row f) end) s ≡ fs) → (b : Bool) → is_between columns start end x ≡ b → cond b (x ∷ filter (is_between columns start end) s) (filter (is_between columns start end) s) ≡ f ∷ fs →
         filter (is_between columns (at_row f) end) (x ∷ s) ≡ fs
-    by true between same =
+    by later_rows true between same =
         let first : x ≡ f = cc in
         let later : filter (is_between columns start end) s ≡ fs = cc in
         subst (λ g. filter (is_between columns (at_row g) end) (x ∷ s) ≡ fs) first
         (ap (λ b. cond b (x ∷ filter (is_between columns (at_row x) end) s) (filter (is_between columns (at_row x) end) s)) (not_itself end x)
         ∙ from_row start end x s (both_true (is_after start (place_of columns x)) (is_up_to end (place_of columns x)) between) rise.0
         ∙ later)
-    by false between same =
+    by later_rows false between same =
         let all : AllBehind columns x (f ∷ fs) = subst (AllBehind columns x) same (AllBehind-filter (is_between columns start end) x s rise.0) in
         ap (λ b. cond b (x ∷ filter (is_between columns (at_row f) end) s) (filter (is_between columns (at_row f) end) s)) (not_behind end f x (first_behind x f fs all))
-        ∙ rest_of start end s f fs rise.1 same
+        ∙ later_rows same
 
   -- what stands behind the last row of a page is what the page leaves
   left_behind : (end : Option Place) (s : List RowParts) → Rises columns s → (limit : ℕ) (start : Option Place) (found : List RowParts) →

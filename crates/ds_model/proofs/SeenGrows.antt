@@ -1,6 +1,6 @@
 -- What a client has seen never shrinks: no reply lowers its place, one of its counts, or its shown id counter.
-use Rattle.std.proofs.Common.{◌≡◌, ℕ, zero, suc, ◌≤◌, List, [], ◌∷◌, refl, sym, subst, Bool, true, false, arith, Option, Some, None}
-use Rattle.std.specs.Prelude.{max, Result, Ok, Err, ⊤}
+use Rattle.std.proofs.Common.{◌≡◌, ℕ, zero, suc, ◌≤◌, List, [], ◌∷◌, sym, subst, arith, Option, Some, None}
+use Rattle.std.specs.Prelude.{Result, Ok, Err, ⊤}
 use Rattle.ds_base.specs.declared.results.Item.{Item}
 use Rattle.ds_base.specs.declared.results.Seen.{Seen}
 use Rattle.ds_base.specs.declared.results.Seen.TheVariants as seen
@@ -64,7 +64,7 @@ raised_no_lower (suc shard) count (c ∷ cs) = (omega arith, raised_no_lower sha
 pub seen_same : (s : Session) → HasSeen s s
 seen_same s = record { place = omega arith; counts = same_counts s.counts; next = omega arith }
 
-seen_then : (s t u : Session) → HasSeen s t → HasSeen t u → HasSeen s u
+pub seen_then : (s t u : Session) → HasSeen s t → HasSeen t u → HasSeen s u
 seen_then s t u first second = record {
   place = omega (arith, first.place, second.place);
   counts = no_lower-then s.counts t.counts u.counts first.counts second.counts;

@@ -153,7 +153,7 @@ module _ (reading : Reading) (refuses : ReadingRefuses reading) (w : World) wher
       both-held own others replies whole (round-held round 0 (met sessions) own between first) (rounds-held rounds between others after rest)
 
 at_range : (P : ℕ → Type 0) (first n i : ℕ) → All P (range_with_len first n) → i < n → P (first + i)
-at_range P first zero i all within = absurd (omega within)
+at_range P first zero i all within = absurd (omega (arith, within))
 at_range P first (suc n) zero all within =
     let same : first ≡ first + 0 = omega arith in subst P same (All-head P first (range_with_len (first + 1) n) all)
 at_range P first (suc n) (suc i) all within =
@@ -201,12 +201,12 @@ log_of g (d ∷ cs) zero zero c is within wrote none =
 log_of g (d ∷ cs) zero (suc i) c is within wrote none =
     log_of g cs zero i c is (omega arith) wrote
     (both_empty (group_writes g d.writes) (group_log cs g) (sym (filter-append (λ w. same_key (group_of w) g) d.writes (writes_of cs)) ∙ none)).1
-log_of g (d ∷ cs) (suc place) zero c is within wrote none = absurd (omega within)
+log_of g (d ∷ cs) (suc place) zero c is within wrote none = absurd (omega (arith, within))
 log_of g (d ∷ cs) (suc place) (suc i) c is within wrote none = log_of g cs place i c is (omega (arith, within)) wrote none
 
 slice-take : (cs : List Commit) (i j : ℕ) (c : Commit) → slice_get cs i ≡ Some c → i < j → slice_get (take j cs) i ≡ Some c
 slice-take [] i j c is before = cc
-slice-take (d ∷ cs) i zero c is before = absurd (omega before)
+slice-take (d ∷ cs) i zero c is before = absurd (omega (arith, before))
 slice-take (d ∷ cs) zero (suc j) c is before = is
 slice-take (d ∷ cs) (suc i) (suc j) c is before = slice-take cs i j c is (omega (arith, before))
 

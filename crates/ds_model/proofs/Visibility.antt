@@ -2,7 +2,7 @@
 -- seen; a settled commit is counted by every later query; and after the sessions have met each client has seen what any had.
 use Rattle.std.proofs.Common.{◌≡◌, ℕ, zero, suc, ◌+◌, ◌≤◌, inl, inr, List, [], ◌∷◌, ◌++◌, length, take, drop, fold, refl, ap, sym, ◌∙◌, subst}
 use Rattle.std.proofs.Common.{arith, append_assoc, Bool, length-append, Option, Some, None}
-use Rattle.std.specs.Prelude.{Result, Ok, Err, All, max, filter, ⊤, ◌==◌}
+use Rattle.std.specs.Prelude.{Result, Ok, Err, All, map, max, filter, ⊤, ◌==◌}
 use Rattle.std.proofs.lemmas.List.{length-take-le, take-append-drop}
 use Rattle.std.proofs.lemmas.List.Elements.{All-nil, All-cons, All-head, All-tail, filter-append}
 use Rattle.std.proofs.Math.Seq.{take-append_seam}
@@ -21,17 +21,19 @@ use Rattle.ds_request.specs.declared.call.Call.TheVariants as call
 use Rattle.ds_request.specs.declared.call.Request.{Request}
 use Rattle.ds_reply.specs.declared.reply.Body.{Body}
 use Rattle.ds_reply.specs.declared.reply.Body.TheVariants as body
+use Rattle.ds_reply.specs.declared.reply.Reply.{Reply}
 use Rattle.ds_rounds.specs.Rounds.{NumberedLine}
 use Rattle.ds_model.specs.Answers.{Answers, CallAnswers, SearchAnswers, TransactionAnswers, FoundOver, Finds, GetAnswers, CountsWithin}
-use Rattle.ds_model.specs.Asked.{Reading, Search}
+use Rattle.ds_model.specs.Asked.{Reading, Search, client_of}
 use Rattle.ds_model.specs.Groups.{StandsAt, place_in}
+use Rattle.ds_model.specs.Legal.{Steps, RoundSteps}
 use Rattle.ds_model.specs.Refusals.{Places}
 use Rattle.ds_model.specs.Results.{entity_of}
-use Rattle.ds_model.specs.Sessions.{Session, Transaction, greater_counts, greatest_counts, raised_to}
+use Rattle.ds_model.specs.Sessions.{Session, Transaction, greater_counts, greatest_counts, met, raised_to}
 use Rattle.ds_model.specs.Views.{strong_view}
 use Rattle.ds_model.specs.Worlds.{World, entries_up_to}
 use Rattle.ds_model.proofs.OkReplies.{OkAnswers, ReadingRefuses, ok_answers}
-use Rattle.ds_model.proofs.SeenGrows.{HasSeen, NoLower, no_lower-then, greater_no_lower, same_counts}
+use Rattle.ds_model.proofs.SeenGrows.{HasSeen, NoLower, no_lower-then, greater_no_lower, same_counts, seen_same, seen_then, never_shrinks}
 
 -- ---- strong reads
 
@@ -76,6 +78,8 @@ module _ (w : World) (s later : Session) (found : Option EntityParts) (m : ℕ) 
   by_call client _ outside a = absurd a
 
   by_search : (c : Call) (search : Search) (places : Places) → SearchAnswers w s c search places (body.Get found m) later → ⊥
+  by_search (call.Query namespace kind ancestor filters orders select offset limit start end cursor) search places a = a
+  by_search (call.Gql namespace text args names start end cursor) search places a = a
   by_search _ search places a = a
 
   by_asked : (line : Result Request (ℕ × Body)) → s.transaction ≡ None → OkAnswers w s line (body.Get found m) later → s.place ≤ m
@@ -107,7 +111,7 @@ entries_from-append n (x ∷ xs) ys =
 
 take-less : (n m : ℕ) (cs : List Commit) → n ≤ m → take n (take m cs) ≡ take n cs
 take-less zero m cs below = refl
-take-less (suc n) zero cs below = absurd (omega below)
+take-less (suc n) zero cs below = absurd (omega (arith, below))
 take-less (suc n) (suc m) [] below = refl
 take-less (suc n) (suc m) (c ∷ cs) below = ap (λ ds. c ∷ ds) (take-less n m cs (omega (arith, below)))
 
@@ -167,6 +171,8 @@ module _ (w : World) (s later : Session) where
   settle-call client _ m counts a = absurd a
 
   settle-search : (c : Call) (search : Search) (places : Places) (m : ℕ) (counts : List ℕ) → SearchAnswers w s c search places (body.Settle m counts) later → ⊥
+  settle-search (call.Query namespace kind ancestor filters orders select offset limit start end cursor) search places m counts a = a
+  settle-search (call.Gql namespace text args names start end cursor) search places m counts a = a
   settle-search _ search places m counts a = a
 
   settle-asked : (line : Result Request (ℕ × Body)) (m : ℕ) (counts : List ℕ) → OkAnswers w s line (body.Settle m counts) later → (s.place ≤ m) × Covers w m 0 later.counts
@@ -238,8 +244,8 @@ next-all m (s ∷ ss) =
 
 greater-second : (cs counts : List ℕ) → length cs ≡ length counts → NoLower counts (greater_counts cs counts)
 greater-second [] [] same = tt
-greater-second [] (a ∷ counts) same = absurd (omega same)
-greater-second (c ∷ cs) [] same = absurd (omega same)
+greater-second [] (a ∷ counts) same = absurd (omega (arith, same))
+greater-second (c ∷ cs) [] same = absurd (omega (arith, same))
 greater-second (c ∷ cs) (a ∷ counts) same = (omega arith, greater-second cs counts (omega (arith, same)))
 
 greater-length : (cs counts : List ℕ) → length (greater_counts cs counts) ≡ length cs
@@ -274,3 +280,104 @@ all_three u (s ∷ ss) places counts nexts =
 pub met_has_seen : (k : ℕ) (sessions : List Session) (t : Session) → All (λ (s : Session). length s.counts ≡ k) sessions → length t.counts ≡ k → All (λ (s : Session). HasSeen s (raised_to sessions t)) sessions
 met_has_seen k sessions t all own =
     all_three (raised_to sessions t) sessions (place-all 0 sessions) (counts-all k t.counts sessions own all) (next-all 0 sessions)
+
+-- ---- from round to round
+
+-- what a client has seen never shrinks from line to line
+pub steps_seen : (reading : Reading) (w : World) (s : Session) (lines : List NumberedLine) (replies : List Reply) (t : Session) → Steps reading w s lines replies t → HasSeen s t
+steps_seen reading w s [] [] t steps = subst (HasSeen s) (sym steps) (seen_same s)
+steps_seen reading w s [] (r ∷ replies) t steps = absurd steps
+steps_seen reading w s (l ∷ lines) [] t steps = absurd steps
+steps_seen reading w s (l ∷ lines) (r ∷ replies) t (next, first, rest) =
+    seen_then s next t (never_shrinks w s reading l r next first) (steps_seen reading w next lines replies t rest)
+
+-- each session has seen what the one at its place had
+abbrev pub HaveSeen : List Session → List Session → Type 0
+HaveSeen [] [] = ⊤
+HaveSeen (s ∷ ss) (t ∷ ts) = HasSeen s t × HaveSeen ss ts
+HaveSeen _ _ = ⊥
+
+pub round_seen : (reading : Reading) (w : World) (round : List NumberedLine) (client : ℕ) (sessions : List Session) (replies : List Reply) (after : List Session) →
+    RoundSteps reading w round client sessions replies after → HaveSeen sessions after
+round_seen reading w round client [] replies after steps = subst (HaveSeen []) (sym steps.1) tt
+round_seen reading w round client (s ∷ sessions) replies [] steps = absurd steps
+round_seen reading w round client (s ∷ sessions) replies (t ∷ after) (own, others, whole, first, rest) =
+    (steps_seen reading w s (filter (λ line. client_of reading line.content == client) round) own t first, round_seen reading w round (client + 1) sessions others after rest)
+
+same_length : (cs counts : List ℕ) → NoLower cs counts → length counts ≡ length cs
+same_length [] [] higher = refl
+same_length [] (a ∷ counts) higher = absurd higher
+same_length (c ∷ cs) [] higher = absurd higher
+same_length (c ∷ cs) (a ∷ counts) higher = omega (arith, same_length cs counts higher.1)
+
+-- all sessions have one count for each of so many shards
+abbrev HaveCounts : ℕ → List Session → Type 0
+HaveCounts k = All (λ (s : Session). length s.counts ≡ k)
+
+counts_kept : (k : ℕ) (ss ts : List Session) → HaveSeen ss ts → HaveCounts k ss → HaveCounts k ts
+counts_kept k [] [] seen all = all
+counts_kept k [] (t ∷ ts) seen all = absurd seen
+counts_kept k (s ∷ ss) [] seen all = absurd seen
+counts_kept k (s ∷ ss) (t ∷ ts) seen all =
+    All-cons (λ (s : Session). length s.counts ≡ k) t ts (same_length s.counts t.counts seen.0.counts ∙ All-head (λ (s : Session). length s.counts ≡ k) s ss all)
+    (counts_kept k ss ts seen.1 (All-tail (λ (s : Session). length s.counts ≡ k) s ss all))
+
+met_have_counts : (k : ℕ) (sessions ss : List Session) → HaveCounts k sessions → HaveCounts k ss → HaveCounts k (map (raised_to sessions) ss)
+met_have_counts k sessions [] all own = All-nil (λ (s : Session). length s.counts ≡ k)
+met_have_counts k sessions (s ∷ ss) all own =
+    All-cons (λ (s : Session). length s.counts ≡ k) (raised_to sessions s) (map (raised_to sessions) ss)
+    (greatest-length s.counts sessions ∙ All-head (λ (s : Session). length s.counts ≡ k) s ss own)
+    (met_have_counts k sessions ss all (All-tail (λ (s : Session). length s.counts ≡ k) s ss own)) where
+      greatest-length : (cs : List ℕ) (all : List Session) → length (greatest_counts cs all) ≡ length cs
+      greatest-length cs [] = refl
+      greatest-length cs (t ∷ all) = greatest-length (greater_counts cs t.counts) all ∙ greater-length cs t.counts
+
+-- each of these sessions has seen all that these had
+abbrev pub AllHaveSeen : List Session → List Session → Type 0
+AllHaveSeen sessions = All (λ (u : Session). All (λ (s : Session). HasSeen s u) sessions)
+
+met_all : (k : ℕ) (sessions ss : List Session) → HaveCounts k sessions → HaveCounts k ss → AllHaveSeen sessions (map (raised_to sessions) ss)
+met_all k sessions [] all own = All-nil (λ (u : Session). All (λ (s : Session). HasSeen s u) sessions)
+met_all k sessions (t ∷ ss) all own =
+    All-cons (λ (u : Session). All (λ (s : Session). HasSeen s u) sessions) (raised_to sessions t) (map (raised_to sessions) ss)
+    (met_has_seen k sessions t all (All-head (λ (s : Session). length s.counts ≡ k) t ss own)) (met_all k sessions ss all (All-tail (λ (s : Session). length s.counts ≡ k) t ss own))
+
+seen_more : (sessions : List Session) (u v : Session) → HasSeen u v → All (λ (s : Session). HasSeen s u) sessions → All (λ (s : Session). HasSeen s v) sessions
+seen_more [] u v h all = All-nil (λ (s : Session). HasSeen s v)
+seen_more (s ∷ sessions) u v h all =
+    All-cons (λ (s : Session). HasSeen s v) s sessions (seen_then s u v (All-head (λ (s : Session). HasSeen s u) s sessions all) h)
+    (seen_more sessions u v h (All-tail (λ (s : Session). HasSeen s u) s sessions all))
+
+all_later : (sessions us vs : List Session) → HaveSeen us vs → AllHaveSeen sessions us → AllHaveSeen sessions vs
+all_later sessions [] [] seen all = all
+all_later sessions [] (v ∷ vs) seen all = absurd seen
+all_later sessions (u ∷ us) [] seen all = absurd seen
+all_later sessions (u ∷ us) (v ∷ vs) seen all =
+    All-cons (λ (u : Session). All (λ (s : Session). HasSeen s u) sessions) v vs
+    (seen_more sessions u v seen.0 (All-head (λ (u : Session). All (λ (s : Session). HasSeen s u) sessions) u us all))
+    (all_later sessions us vs seen.1 (All-tail (λ (u : Session). All (λ (s : Session). HasSeen s u) sessions) u us all))
+
+-- After a round each client has seen what any client had seen before it.
+pub round_all_seen : (reading : Reading) (w : World) (k : ℕ) (round : List NumberedLine) (sessions : List Session) (replies : List Reply) (after : List Session) → HaveCounts k sessions →
+    RoundSteps reading w round 0 (met sessions) replies after → AllHaveSeen sessions after × HaveCounts k after
+round_all_seen reading w k round sessions replies after counts steps =
+    let seen = round_seen reading w round 0 (met sessions) replies after steps in
+    (all_later sessions (met sessions) after seen (met_all k sessions sessions counts counts), counts_kept k (met sessions) after seen (met_have_counts k sessions sessions counts counts))
+
+-- ---- what a client finds of its own commits, and of others' that it was shown
+
+-- A commit whose number a reply told isn't above the place of the client's next get outside a transaction, whatever stands between.
+pub commit_then_get : (reading : Reading) → ReadingRefuses reading → (w : World) (t u later : Session) (n m : ℕ) (found : Option EntityParts) (line : NumberedLine) (client number : ℕ) → n ≤ t.place → HasSeen t u → u.transaction ≡ None →
+    Answers reading w u line (record { client = client; line = number; body = body.Get found m }) later → n ≤ m
+commit_then_get reading refuses w t u later n m found line client number shown between outside a =
+    omega (arith, shown, between.place, get_above_seen w u later found m reading refuses line client number outside a)
+
+-- After a settle it is counted by every later query without an ancestor: also by another client's, once the sessions have met.
+pub commit_then_settle : (reading : Reading) → ReadingRefuses reading → (w : World) (t u settled_at v later : Session) (n m : ℕ) (line other : NumberedLine) (client number second third : ℕ) (counts told : List ℕ)
+    (selected : Select) (results : List Item) (cursor : Option (List ℕ)) → n ≤ t.place → HasSeen t u →
+    Answers reading w u line (record { client = client; line = number; body = body.Settle m counts }) settled_at → HasSeen settled_at v →
+    Answers reading w v other (record { client = second; line = third; body = body.Query selected results (seen.Counts told) cursor }) later → Covers w n 0 told
+commit_then_settle reading refuses w t u settled_at v later n m line other client number second third counts told selected results cursor shown between settle after query =
+    let all = settled w u settled_at reading refuses line client number m counts settle in
+    let below : n ≤ m = omega (arith, shown, between.place, all.0) in
+    query_counts w v later selected results told cursor reading refuses other second third n query (later_covers w n m settled_at v after below all.1)

@@ -12,7 +12,7 @@ use Rattle.ds_request.specs.declared.call.RequestRefused.{RequestRefused}
 use Rattle.ds_request.specs.declared.call.RequestRefused.TheVariants as refused
 use Rattle.ds_request.specs.Requests.{request_of}
 use Rattle.ds_reply.specs.declared.reply.Body.TheVariants as body
-use Rattle.ds_rounds.specs.Lines.{Content, Kept, TooLong}
+use Rattle.ds_rounds.specs.Lines.{Kept, TooLong}
 use Rattle.ds_model.specs.Asked.{Reading, request_within}
 
 abbrev pub is_empty : {A : Type 0} → List A → Bool
