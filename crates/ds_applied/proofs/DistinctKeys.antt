@@ -16,7 +16,7 @@ use Rattle.ds_log.specs.After.{after, apply_write, without}
 use Rattle.ds_model.specs.Results.{entity_of}
 use Rattle.ds_applied.specs.ByKey.{entity_cmp, sorted_by_key, NoneAt, KeysDiffer}
 
-same_key-itself : (k : KeyParts) → same_key k k ≡ true
+pub same_key-itself : (k : KeyParts) → same_key k k ≡ true
 same_key-itself k = ap is_eq (tied_itself key_cmp-total k)
 
 reversed : (r : Ordering) → is_eq (ordering_reverse r) ≡ is_eq r
@@ -94,7 +94,7 @@ KeysDiffer-insert (f ∷ es) e differ none = by (KeysDiffer-insert es e differ.1
   by rest Equal = (none, differ)
   by rest Greater = (NoneAt-insert f.key es e differ.0 (same_key-turned f.key e.key ∙ none.0), rest)
 
-AreApart-insert : (before es : List EntityParts) (e : EntityParts) → AreApart before es → NoneAt e.key es → AreApart (insert_by entity_cmp before e) es
+pub AreApart-insert : (before es : List EntityParts) (e : EntityParts) → AreApart before es → NoneAt e.key es → AreApart (insert_by entity_cmp before e) es
 AreApart-insert before [] e apart none = tt
 AreApart-insert before (f ∷ es) e apart none =
     (NoneAt-insert f.key before e apart.0 (same_key-turned f.key e.key ∙ none.0), AreApart-insert before es e apart.1 none.1)

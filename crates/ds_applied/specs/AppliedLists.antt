@@ -1,13 +1,13 @@
 -- What the shards of one process have applied: per shard the entries that the journal gives it, how many are applied, and the
 -- entities that those leave.
-use Rattle.std.specs.Prelude.{◌≡◌, ℕ, ◌≤◌, List, [], ◌∷◌, ◌++◌, length, take, Option, Some, None, slice_get, map, ⊤}
+use Rattle.std.specs.Prelude.{◌≡◌, ℕ, zero, suc, ◌≤◌, List, [], ◌∷◌, ◌++◌, length, take, map, ⊤}
 use Rattle.ds_base.specs.Entities.{EntityParts}
 use Rattle.ds_log.specs.declared.Commit.{Commit}
 use Rattle.ds_log.specs.declared.Entry.{Entry}
 use Rattle.ds_log.specs.declared.Write.{Write}
 use Rattle.ds_log.specs.After.{after}
 use Rattle.ds_log.specs.Logs.{entry_writes, shard_list}
-use Rattle.ds_model.specs.Sessions.{list_of}
+use Rattle.ds_model.specs.Sessions.{list_of, raised_at}
 use Rattle.ds_model.specs.Worlds.{shard_lists}
 use Rattle.ds_applied.specs.ByKey.{sorted_by_key}
 
@@ -50,6 +50,10 @@ AreCounts [] [] = ⊤
 AreCounts (entries ∷ lists) (count ∷ counts) = (count ≤ length entries) × AreCounts lists counts
 AreCounts _ _ = ⊥
 
+-- the second has applied as many entries of a shard as the first, or more up to a count; all else is the same
+abbrev pub Raised : ℕ → ℕ → AppliedParts → AppliedParts → Type 0
+Raised shard count a b = (k : ℕ) × ((k ≤ count) × (b ≡ record a { counts = raised_at shard k a.counts }))
+
 -- ---- one shard
 
 -- what a shard keeps: its entries, how many of them are applied, and how many writes of the next entry, which is begun where an
@@ -66,12 +70,11 @@ entries_of = map (λ s. s.entries)
 abbrev pub applied_of : List ShardParts → List ℕ
 applied_of = map (λ s. s.applied)
 
--- the writes of the entry at a place; none behind the last
+-- the writes of the entry at a place, counted from 0; none behind the last
 abbrev pub writes_at : List Entry → ℕ → List Write
-writes_at entries i = of_entry (slice_get entries i) where
-  of_entry : Option Entry → List Write
-  of_entry None = []
-  of_entry (Some e) = e.writes
+writes_at [] i = []
+writes_at (e ∷ es) zero = e.writes
+writes_at (e ∷ es) (suc i) = writes_at es i
 
 -- the kept entities are those that the applied entries and the begun writes leave, by key
 pub record IsShard (entries : List Entry) (applied begun : ℕ) (entities : List EntityParts) : Type 0 where

@@ -1,13 +1,13 @@
 //! What all shards have applied.
-ghost use Rattle.std.specs.Prelude.{◌≡◌, ◌+◌, ◌≤◌, ◌<◌, ◌^◌, ℕ, List, [], length, take, replicate, IfOk, OnOk, OnErr};
+ghost use Rattle.std.specs.Prelude.{◌≡◌, ◌+◌, ◌≤◌, ◌<◌, ◌^◌, List, [], length, take, replicate, IfOk, OnOk, OnErr};
 ghost use Rattle.ds_base.specs.Limits.{most_shards};
 ghost use Rattle.ds_log.specs.declared.Commit.{Commit};
 ghost use Rattle.ds_log.specs.Logs.{commit_entries};
-ghost use Rattle.ds_model.specs.Sessions.{count_of, list_of, last_commit, raised_at};
-ghost use Rattle.ds_applied.specs.AppliedLists.{AppliedParts, Follows, AreCounts, entries_by, shard_view, shard_views};
+ghost use Rattle.ds_model.specs.Sessions.{count_of, counted_place, list_of, last_commit, raised_at};
+ghost use Rattle.ds_applied.specs.AppliedLists.{AppliedParts, Follows, AreCounts, Raised, entries_by, shard_view, shard_views};
 ghost use Rattle.ds_applied.specs.Routing.{added};
 
-use crate::routing::{make_room, put_all, routed};
+use crate::routing::{make_room, put_all, route};
 use crate::shard::Shard;
 use crate::visible::{AllVisible, Visible};
 use ds_base::{Counts, NoMemory};
@@ -58,14 +58,13 @@ impl Applied {
         })
     }
 
-    /// How many shards there are, 1 to 16.
+    /// How many shards there are, 1 to 16, with a list and a count for each.
     pub fn shards(&self) -> u32
         ensures value { result ≡ self.now.shards }
         ensures least { 1 ≤ self.now.shards }
         ensures most { self.now.shards ≤ most_shards }
         ensures lists { length self.now.lists ≡ self.now.shards }
         ensures counts { length self.now.counts ≡ self.now.shards }
-        ensures within { AreCounts self.now.lists self.now.counts }
     {
         self.shards.len() as u32
     }
@@ -103,7 +102,7 @@ impl Applied {
         ensures err { OnErr result (self.new ≡ self.old) }
     {
         let number = self.commits as u64 + 1;
-        let routed = routed(alloc, number, commit, self.shards.len() as u32)?;
+        let routed = route(alloc, number, commit, self.shards.len() as u32)?;
         make_room(&mut self.shards, routed.len())?;
         put_all(&mut self.shards, routed);
         self.commits += 1;
@@ -121,7 +120,8 @@ impl Applied {
 
     /// How many entries of each shard are applied, shard 0 first. A refusal is want of memory.
     pub fn counts(&self, alloc: Global) -> Result<Counts, NoMemory>
-        ensures { IfOk result (λ counts. counts ≡ self.now.counts) }
+        ensures value { IfOk result (λ counts. counts ≡ self.now.counts) }
+        ensures within { IfOk result (λ counts. AreCounts self.now.lists counts) }
     {
         let mut counts = Vec::with_capacity(alloc, self.shards.len())?;
         for shard in self.shards.as_slice() {
@@ -157,6 +157,18 @@ impl Applied {
         self.shards[shard as usize].last_commit(count as usize)
     }
 
+    /// The greatest commit of the shards' last counted entries, at a count for each shard, shard 0 first; 0 where none is counted.
+    pub fn counted_place(&self, counts: &[u64]) -> u64
+        requires { AreCounts self.now.lists counts.now }
+        ensures { result ≡ counted_place self.now.lists counts.now }
+    {
+        let mut place = 0;
+        for (shard, count) in counts.iter().enumerate() {
+            place = place.max(self.shards[shard].last_commit(*count as usize));
+        }
+        place
+    }
+
     /// Applies the next entry of a shard. A refusal, which is want of memory, applies none. It takes time by the entry's writes and
     /// the logarithm of the shard's entities.
     pub fn apply_one(&mut self, alloc: Global, shard: u32) -> Result<(), NoMemory>
@@ -175,7 +187,7 @@ impl Applied {
         requires shard { shard < self.old.shards }
         requires count { count ≤ length (list_of self.old.lists shard) }
         ensures ok { OnOk result (self.new ≡ record self.old { counts = raised_at shard count self.old.counts }) }
-        ensures between { (k : ℕ) × (k ≤ count) × (self.new ≡ record self.old { counts = raised_at shard k self.old.counts }) }
+        ensures between { Raised shard count self.old self.new }
     {
         while self.count(shard) < count {
             self.apply_one(alloc, shard)?;
@@ -199,8 +211,9 @@ impl Applied {
         ensures { IfOk result (λ v. v ≡ shard_views self.now.lists counts.now) }
     {
         let mut shards = Vec::with_capacity(alloc, counts.len())?;
-        for (shard, count) in self.shards.as_slice().iter().zip(counts) {
-            shards.push(shard.visible(alloc, *count as usize)?)?;
+        for (shard, count) in counts.iter().enumerate() {
+            let visible = self.shards[shard].visible(alloc, *count as usize)?;
+            shards.push(visible)?;
         }
         Ok(AllVisible::of_shards(shards))
     }

@@ -19,7 +19,7 @@ use std::marker::Model;
 /// Entities, each kept by its key. Contracts see them as a list in the order of the keys.
 #[derive(Drop)]
 pub struct EntityMap {
-    map: BTreeMap<Key, Entity>,
+    by_key: BTreeMap<Key, Entity>,
 }
 
 impl Model for EntityMap {
@@ -29,9 +29,9 @@ impl Model for EntityMap {
 
     ghost Value = { List EntityParts };
 
-    ghost view = { λ m. entities_in m.map.entries };
+    ghost view = { λ m. entities_in m.by_key.entries };
 
-    ghost invariant = { λ m. m.map.entries ≡ map keyed (entities_in m.map.entries) };
+    ghost invariant = { λ m. m.by_key.entries ≡ map keyed (entities_in m.by_key.entries) };
 }
 
 impl EntityMap {
@@ -40,7 +40,7 @@ impl EntityMap {
         ensures { result ≡ [] }
     {
         EntityMap {
-            map: BTreeMap::new(alloc),
+            by_key: BTreeMap::new(alloc),
         }
     }
 
@@ -48,21 +48,21 @@ impl EntityMap {
     pub fn get(&self, key: &Key) -> Option<&Entity>
         ensures { option_copied result ≡ entity_of self.now key.now }
     {
-        self.map.get(key)
+        self.by_key.get(key)
     }
 
     /// How many entities there are. It takes no memory.
     pub fn len(&self) -> usize
         ensures { result ≡ length self.now }
     {
-        self.map.len()
+        self.by_key.len()
     }
 
     /// Puts a reference to each entity at the end, in the order of the keys. A refusal, which is want of memory, leaves some of them there.
     pub fn put_all<'a>(&'a self, entities: &mut Vec<&'a Entity>) -> Result<(), NoMemory>
         ensures { OnOk result (map (λ e. e.now) entities.new.items ≡ map (λ e. e.now) entities.old.items ++ self.now) }
     {
-        for entity in self.map.values() {
+        for entity in self.by_key.values() {
             entities.push(entity)?;
         }
         Ok(())
@@ -76,9 +76,9 @@ impl EntityMap {
         ensures err { OnErr result (self.new ≡ self.old) }
     {
         match write {
-            Write::Put(entity) => put(alloc, &mut self.map, entity),
+            Write::Put(entity) => put(alloc, &mut self.by_key, entity),
             Write::Delete(key) => {
-                delete(&mut self.map, key);
+                delete(&mut self.by_key, key);
                 Ok(())
             }
         }

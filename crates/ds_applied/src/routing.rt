@@ -1,5 +1,5 @@
 //! The entries of one commit, each put behind those of its shard.
-ghost use Rattle.std.specs.Prelude.{◌≡◌, ◌+◌, ◌≤◌, ◌<◌, ◌×◌, length, map, All, IfOk, OnOk};
+ghost use Rattle.std.specs.Prelude.{◌≡◌, ◌+◌, ◌≤◌, ◌<◌, length, map, All, IfOk, OnOk};
 ghost use Rattle.ds_base.specs.Limits.{most_shards};
 ghost use Rattle.ds_log.specs.Logs.{commit_entries};
 ghost use Rattle.ds_applied.specs.AppliedLists.{ShardParts, entries_of, applied_of};
@@ -18,7 +18,7 @@ pub(crate) struct Routed {
 }
 
 /// The entries of commit `number`, one per group that it writes, each with its shard out of `shards`.
-pub(crate) fn routed(
+pub(crate) fn route(
     alloc: Global,
     number: u64,
     commit: &Commit,
@@ -49,8 +49,8 @@ pub(crate) fn make_room(shards: &mut Vec<Shard>, entries: usize) -> Result<(), N
     ensures entries { entries_of shards.new.items ≡ entries_of shards.old.items }
     ensures applied { applied_of shards.new.items ≡ applied_of shards.old.items }
 {
-    for shard in shards.as_mut_slice() {
-        shard.reserve(entries)?;
+    for i in 0..shards.len() {
+        shards[i].reserve(entries)?;
     }
     Ok(())
 }

@@ -1,5 +1,5 @@
 //! One shard: its entries, and the entities that the applied ones leave.
-ghost use Rattle.std.specs.Prelude.{◌≡◌, ◌+◌, ◌≤◌, ◌<◌, ◌∷◌, ◌++◌, [], length, take, IfOk, OnOk, OnErr, List, ℕ};
+ghost use Rattle.std.specs.Prelude.{◌≡◌, ◌+◌, ◌≤◌, ◌<◌, ◌∷◌, ◌++◌, [], length, take, IfOk, OnOk, OnErr, List, ℕ, nat_lt};
 ghost use Rattle.ds_log.specs.declared.Commit.{Commit};
 ghost use Rattle.ds_log.specs.Logs.{shard_list};
 ghost use Rattle.ds_model.specs.Sessions.{last_commit};
@@ -8,7 +8,7 @@ ghost use Rattle.ds_applied.specs.AppliedLists.{ShardParts, writes_at, left_by};
 use crate::entity_map::EntityMap;
 use crate::visible::Visible;
 use ds_base::NoMemory;
-use ds_log::Entry;
+use ds_log::{Entry, Write};
 use std::alloc::Global;
 use std::marker::Model;
 
@@ -93,24 +93,43 @@ impl Shard {
         ensures err { OnErr result (self.new.applied ≡ self.old.applied) }
         ensures entries { self.new.entries ≡ self.old.entries }
     {
-        while self.begun < self.entries[self.applied].writes.len() {
+        while self.has_writes_left() {
             self.apply_write(alloc)?;
         }
-        self.begun = 0;
-        self.applied += 1;
+        self.end_entry();
         Ok(())
+    }
+
+    /// Whether a write of the next entry isn't applied yet.
+    fn has_writes_left(&self) -> bool
+        requires { self.now.applied < length self.now.entries }
+        ensures value { result ≡ nat_lt self.now.begun (length (writes_at self.now.entries self.now.applied)) }
+        ensures within { self.now.begun ≤ length (writes_at self.now.entries self.now.applied) }
+    {
+        self.begun < writes_at(self.entries.as_slice(), self.applied).len()
     }
 
     /// Applies the next write of the next entry. A refusal changes nothing.
     fn apply_write(&mut self, alloc: Global) -> Result<(), NoMemory>
-        requires { self.old.begun < length (writes_at self.old.entries self.old.applied) }
+        requires next { self.old.applied < length self.old.entries }
+        requires left { self.old.begun < length (writes_at self.old.entries self.old.applied) }
         ensures ok { OnOk result (self.new ≡ record self.old { begun = self.old.begun + 1 }) }
         ensures err { OnErr result (self.new ≡ self.old) }
     {
-        let writes = self.entries[self.applied].writes.as_slice();
+        let writes = writes_at(self.entries.as_slice(), self.applied);
         self.entities.apply(alloc, &writes[self.begun])?;
         self.begun += 1;
         Ok(())
+    }
+
+    /// Goes on to the entry behind the next one, whose writes are all applied.
+    fn end_entry(&mut self)
+        requires next { self.old.applied < length self.old.entries }
+        requires all { self.old.begun ≡ length (writes_at self.old.entries self.old.applied) }
+        ensures { self.new ≡ record self.old { applied = self.old.applied + 1; begun = 0 } }
+    {
+        self.applied += 1;
+        self.begun = 0;
     }
 
     /// How many of the entries are of the first `place` commits, by bisection.
@@ -148,4 +167,12 @@ impl Shard {
             Visible::rebuilt(alloc, &self.entries.as_slice()[..count])
         }
     }
+}
+
+/// The writes of the entry at a place, counted from 0.
+fn writes_at(entries: &[Entry], place: usize) -> &[Write]
+    requires { place < length entries.now }
+    ensures { result.now ≡ writes_at entries.now place }
+{
+    entries[place].writes.as_slice()
 }

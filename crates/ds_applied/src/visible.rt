@@ -26,7 +26,7 @@ pub struct Visible<'a> {
     source: Source<'a>,
 }
 
-impl Model for Visible<'_> {
+impl<'a> Model for Visible<'a> {
     ghost use Rattle.std.specs.Prelude.{List};
     ghost use Rattle.ds_base.specs.Entities.{EntityParts};
 
@@ -89,7 +89,7 @@ pub struct AllVisible<'a> {
     shards: Vec<Visible<'a>>,
 }
 
-impl Model for AllVisible<'_> {
+impl<'a> Model for AllVisible<'a> {
     ghost use Rattle.std.specs.Prelude.{List};
     ghost use Rattle.ds_base.specs.Entities.{EntityParts};
     ghost use Rattle.ds_applied.specs.ByKey.{joined};
@@ -102,7 +102,7 @@ impl Model for AllVisible<'_> {
 impl<'a> AllVisible<'a> {
     /// Those of shards, shard 0 first. It takes no memory.
     pub(crate) fn of_shards(shards: Vec<Visible<'a>>) -> AllVisible<'a>
-        ensures { result ≡ joined shards.items }
+        ensures { result ≡ joined shards.entry.items }
     {
         AllVisible { shards }
     }
@@ -131,7 +131,7 @@ ghost use Rattle.ds_applied.specs.ByKey.{joined};
 
 /// Entities of distinct keys in the order of their keys.
 fn sorted<'a>(entities: Vec<&'a Entity>) -> Result<Vec<&'a Entity>, NoMemory>
-    ensures { KeysDiffer (map (λ e. e.now) entities.items) → IfOk result (λ es. map (λ e. e.now) es.items ≡ sorted_by_key (map (λ e. e.now) entities.items)) }
+    ensures { KeysDiffer (map (λ e. e.now) entities.entry.items) → IfOk result (λ es. map (λ e. e.now) es.items ≡ sorted_by_key (map (λ e. e.now) entities.entry.items)) }
 {
     let mut entities = entities;
     entities.sort_by(|a, b| a.key().cmp(b.key()))?;

@@ -1,0 +1,110 @@
+-- The counts of applied entries, step by step.
+use Rattle.std.proofs.Common.{◌≡◌, ℕ, zero, suc, ◌+◌, ◌<◌, ◌≤◌, List, [], ◌∷◌, length, take, map, get_or, set, refl, ap, sym, ◌∙◌, arith}
+use Rattle.std.specs.Prelude.{max, slice_get, unwrap_or, fold, replicate}
+use Rattle.std.proofs.Math.Nat.{le-max_left, le-max_right, max-le, max-eq_left}
+use Rattle.std.proofs.Math.Seq.{map-set_same}
+use Rattle.std.proofs.lemmas.List.{length-set}
+use Rattle.ds_log.specs.declared.Entry.{Entry}
+use Rattle.ds_model.specs.Sessions.{count_of, list_of, last_commit, raised_at}
+use Rattle.ds_applied.specs.AppliedLists.{AppliedParts, ShardParts, entries_of, applied_of, Raised, AreCounts}
+
+-- ---- one count
+
+both_le : (m n : ℕ) → m ≤ n → n ≤ m → m ≡ n
+both_le m n p q = omega (arith, p, q)
+
+max_right : (m n : ℕ) → m ≤ n → max m n ≡ n
+max_right m n p = both_le (max m n) n (max-le p (let w : n ≤ n = omega arith in w)) (le-max_right m n)
+
+max_zero : (m : ℕ) → max m 0 ≡ m
+max_zero m = max-eq_left (let w : 0 ≤ m = omega arith in w)
+
+max_twice : (c k n : ℕ) → k ≤ n → max (max c k) n ≡ max c n
+max_twice c k n p =
+    both_le (max (max c k) n) (max c n)
+    (max-le (max-le (le-max_left c n) (let high = le-max_right c n in let w : k ≤ max c n = omega (arith, p, high) in w)) (le-max_right c n))
+    (max-le (let high = le-max_left (max c k) n in let low = le-max_left c k in let w : c ≤ max (max c k) n = omega (arith, high, low) in w) (le-max_right (max c k) n))
+
+pub raised_none : (shard : ℕ) (cs : List ℕ) → raised_at shard 0 cs ≡ cs
+raised_none shard [] = refl
+raised_none zero (c ∷ cs) = ap (λ d. d ∷ cs) (max_zero c)
+raised_none (suc shard) (c ∷ cs) = ap (λ ds. c ∷ ds) (raised_none shard cs)
+
+raised_twice : (shard k n : ℕ) (cs : List ℕ) → k ≤ n → raised_at shard n (raised_at shard k cs) ≡ raised_at shard n cs
+raised_twice shard k n [] p = refl
+raised_twice zero k n (c ∷ cs) p = ap (λ d. d ∷ cs) (max_twice c k n p)
+raised_twice (suc shard) k n (c ∷ cs) p = ap (λ ds. c ∷ ds) (raised_twice shard k n cs p)
+
+raised_above : (shard k : ℕ) (cs : List ℕ) → shard < length cs → k ≤ count_of (raised_at shard k cs) shard
+raised_above shard k [] below = absurd (omega (arith, below))
+raised_above zero k (c ∷ cs) below = le-max_right c k
+raised_above (suc shard) k (c ∷ cs) below = raised_above shard k cs (let w : shard < length cs = omega (arith, below) in w)
+
+raised_reached : (shard k n : ℕ) (cs : List ℕ) → k ≤ n → n ≤ count_of (raised_at shard k cs) shard → raised_at shard k cs ≡ raised_at shard n cs
+raised_reached shard k n [] p q = refl
+raised_reached zero k n (c ∷ cs) p q =
+    ap (λ d. d ∷ cs) (both_le (max c k) (max c n) (max-le (le-max_left c n) (let high = le-max_right c n in let w : k ≤ max c n = omega (arith, p, high) in w)) (max-le (le-max_left c k) q))
+raised_reached (suc shard) k n (c ∷ cs) p q = ap (λ ds. c ∷ ds) (raised_reached shard k n cs p q)
+
+-- ---- one shard among all
+
+pub applied_raised : (ss : List ShardParts) (i : ℕ) (d s : ShardParts) → i < length ss → s.applied ≡ (get_or ss i d).applied + 1
+    → applied_of (set ss i s) ≡ raised_at i (count_of (applied_of ss) i + 1) (applied_of ss)
+applied_raised [] i d s below is = absurd (omega (arith, below))
+applied_raised (t ∷ ts) zero d s below is =
+    ap (λ n. n ∷ applied_of ts) (is ∙ sym (max_right t.applied (t.applied + 1) (let w : t.applied ≤ t.applied + 1 = omega arith in w)))
+applied_raised (t ∷ ts) (suc i) d s below is =
+    ap (λ ns. t.applied ∷ ns) (applied_raised ts i d s (let w : i < length ts = omega (arith, below) in w) is)
+
+pub entries_kept : (ss : List ShardParts) (i : ℕ) (d s : ShardParts) → s.entries ≡ (get_or ss i d).entries → entries_of (set ss i s) ≡ entries_of ss
+entries_kept ss i d s same = map-set_same (λ (t : ShardParts). t.entries) ss i s d same
+
+pub count_index : (ss : List ShardParts) (i : ℕ) (s : ShardParts) → i < length ss → s ≡ get_or ss i s → s.applied ≡ count_of (applied_of ss) i
+count_index [] i s below is = absurd (omega (arith, below))
+count_index (t ∷ ts) zero s below is = ap (λ (u : ShardParts). u.applied) is
+count_index (t ∷ ts) (suc i) s below is = count_index ts i s (let w : i < length ts = omega (arith, below) in w) is
+
+pub list_index : (ss : List ShardParts) (i : ℕ) (s : ShardParts) → i < length ss → s ≡ get_or ss i s → s.entries ≡ list_of (entries_of ss) i
+list_index [] i s below is = absurd (omega (arith, below))
+list_index (t ∷ ts) zero s below is = ap (λ (u : ShardParts). u.entries) is
+list_index (t ∷ ts) (suc i) s below is = list_index ts i s (let w : i < length ts = omega (arith, below) in w) is
+
+-- ---- up to a count
+
+pub raised_begun : (shard count : ℕ) (a : AppliedParts) → Raised shard count a a
+raised_begun shard count a = (0, (omega arith, λ i. record a { counts = sym (raised_none shard a.counts) i }))
+
+pub raised_more : (shard count : ℕ) (a b c : AppliedParts) → shard < length a.counts → Raised shard count a b → count_of b.counts shard < count
+    → c ≡ record b { counts = raised_at shard (count_of b.counts shard + 1) b.counts } → Raised shard count a c
+raised_more shard count a b c below so_far left next =
+    let k : ℕ = so_far.0 in
+    let now : b ≡ record a { counts = raised_at shard k a.counts } = so_far.1.1 in
+    let counts : b.counts ≡ raised_at shard k a.counts = ap (λ (p : AppliedParts). p.counts) now in
+    let above : k ≤ count_of b.counts shard =
+    let high = raised_above shard k a.counts below in omega (arith, high, ap (λ cs. count_of cs shard) counts) in
+    let n : ℕ = count_of b.counts shard + 1 in
+    let higher : k ≤ n = omega (arith, above) in
+    let reached : c ≡ record a { counts = raised_at shard n a.counts } =
+    next ∙ (λ i. record (now i) { counts = raised_at shard n (counts i) }) ∙ (λ i. record a { counts = raised_twice shard k n a.counts higher i }) in
+    (n, (omega (arith, left), reached))
+
+pub raised_done : (shard count : ℕ) (a b : AppliedParts) → Raised shard count a b → count ≤ count_of b.counts shard
+    → b ≡ record a { counts = raised_at shard count a.counts }
+raised_done shard count a b so_far reached =
+    let k : ℕ = so_far.0 in
+    let now : b ≡ record a { counts = raised_at shard k a.counts } = so_far.1.1 in
+    let counts : b.counts ≡ raised_at shard k a.counts = ap (λ (p : AppliedParts). p.counts) now in
+    now ∙ (λ i. record a { counts = raised_reached shard k count a.counts so_far.1.0
+        (let w : count ≤ count_of (raised_at shard k a.counts) shard = omega (arith, reached, ap (λ cs. count_of cs shard) counts) in w) i })
+
+-- ---- the last entry
+
+last_from : (m : ℕ) (es : List Entry) (n : ℕ) (e : Entry) → n < length es → e ≡ get_or es n e
+    → fold (λ m (f : Entry). f.commit) m (take (suc n) es) ≡ e.commit
+last_from m [] n e below is = absurd (omega (arith, below))
+last_from m (f ∷ es) zero e below is = ap (λ (g : Entry). g.commit) (sym is)
+last_from m (f ∷ es) (suc n) e below is = last_from f.commit es n e (let w : n < length es = omega (arith, below) in w) is
+
+pub last_index : (es : List Entry) (count n : ℕ) (e : Entry) → n < length es → count ≡ n + 1 → e ≡ get_or es n e → e.commit ≡ last_commit (take count es)
+last_index es count n e below next is =
+    sym (ap (λ c. last_commit (take c es)) (let w : count ≡ suc n = omega (arith, next) in w) ∙ last_from 0 es n e below is)
