@@ -9,3 +9,4 @@ pub mod ReadingLemmas
 pub mod RunLemmas
 pub mod SentenceLaws
 pub mod SentenceSteps
+pub mod StatementValues

@@ -1,5 +1,7 @@
 -- What is proved of the reading of texts, beside that the code meets it.
-use Rattle.std.specs.Prelude.{◌≡◌, ℕ, List, ◌∷◌, ◌++◌, map, Ok, Err}
+use Rattle.std.specs.Prelude.{◌≡◌, ℕ, List, ◌∷◌, ◌++◌, map, Ok, Err, IsTrue}
+use Rattle.std.specs.List.{list_all}
+use Rattle.ds_query.specs.Filters.{has_operands}
 use Rattle.ds_gql.specs.declared.statement.Bindings.{Bindings}
 use Rattle.ds_gql.specs.declared.statement.Statement.{Statement}
 use Rattle.ds_gql.specs.Pieces.{Piece}
@@ -42,3 +44,8 @@ pub record GoesOnTo (given : Bindings) (tokens : List Token) (place : ℕ) : Typ
 -- where a text stops being a statement, the tokens before that place could have gone on
 abbrev pub TokensBeforeGoOn : Type 0
 TokensBeforeGoOn = (given : Bindings) (text : List ℕ) (place : ℕ) → statement_of text given ≡ Err place → GoesOnTo given (tokens_of text) place
+
+-- each filter of a statement has the values of its operator: one, and at least one behind IN
+abbrev pub StatementsHaveValues : Type 0
+StatementsHaveValues =
+    (given : Bindings) (text : List ℕ) (st : Statement) → statement_of text given ≡ Ok st → IsTrue (list_all has_operands st.query.filters)
