@@ -1,1 +1,2 @@
 mod Raises
+mod TransactionRefusals

@@ -55,13 +55,3 @@ pub record IsPlan (st : StateParts) (s : Session) (client : ℕ) (c : Call) (sai
       → BodyAnswers (world (store_after change st.store) window) s (Ok (record { client = client; call = c })) said (session_after change st.store s)
   pub told : Tells st.store (store_after change st.store) c said
   pub allowed : IsAllowed change st s
-
--- an answer that acknowledges no commit, tells no id, and prints no counter
-abbrev pub is_quiet : Body → Bool
-is_quiet (body.Put key at) = false
-is_quiet (body.Delete key at) = false
-is_quiet (body.Commit n) = false
-is_quiet (body.AllocateIds first count) = false
-is_quiet (body.IdNotIssued id next) = false
-is_quiet (body.IdsExhausted next) = false
-is_quiet _ = true

@@ -1,6 +1,6 @@
 -- The state of a core: the store, what its shards have applied of it, and what each client has seen.
-use Rattle.std.specs.Prelude.{◌≡◌, ℕ, ◌≤◌, List, [], ◌∷◌, Option, Some, None, length, All, ⊤}
-use Rattle.ds_base.specs.Limits.{most_shards}
+use Rattle.std.specs.Prelude.{◌≡◌, ℕ, ◌+◌, ◌≤◌, List, [], ◌∷◌, ◌++◌, Option, Some, None, length, All, ⊤}
+use Rattle.ds_base.specs.Limits.{greatest_client, most_shards}
 use Rattle.ds_indexdef.specs.declared.IndexDef.{IndexDef}
 use Rattle.ds_log.specs.declared.Commit.{Commit}
 use Rattle.ds_log.specs.Ids.{AreIssued}
@@ -59,3 +59,16 @@ pub record IsSession (st : StateParts) (s : Session) : Type 0 where
   pub counts_within : AreUpTo s.counts st.applied.counts
   pub next_within : s.next_id ≤ st.store.next
   pub transaction_within : IsTransaction st.store s.transaction
+
+-- of a state nothing is lost: commits, ids and entries are added
+pub record Grows (old new : StateParts) : Type 0 where
+  pub added : List Commit
+  pub journal : new.store.journal ≡ old.store.journal ++ added
+  pub next : old.store.next ≤ new.store.next
+  pub counts : AreUpTo old.applied.counts new.applied.counts
+
+-- a core keeps one session per client, each of which has seen nothing that isn't there, and room for a count per shard
+pub record IsCore (st : StateParts) (sessions : List Session) (room : List ℕ) : Type 0 where
+  pub clients : length sessions ≡ greatest_client + 1
+  pub each : All (IsSession st) sessions
+  pub room : length room ≡ st.store.shards

@@ -1,15 +1,16 @@
 //! What one client has seen, and its transaction.
-ghost use Rattle.std.specs.Prelude.{◌≡◌, ◌<◌, ◌≤◌, None, Some, length, map, All, IfOk, OnOk, OnErr};
+ghost use Rattle.std.specs.Prelude.{◌≡◌, ◌<◌, ◌≤◌, None, Some, length, IfOk, OnOk, OnErr};
 ghost use Rattle.ds_base.specs.Limits.{most_writes};
-ghost use Rattle.ds_log.specs.declared.Write.{Write as WriteParts};
 ghost use Rattle.ds_model.specs.Answers.{begun};
-ghost use Rattle.ds_model.specs.Groups.{place_in, touching, writing, with_transaction};
+ghost use Rattle.ds_model.specs.Groups.{place_in, touching, touching_if, writing, with_transaction};
 ghost use Rattle.ds_model.specs.Sessions.{first_session, greater_counts, raised_at, saw_place, saw_next, saw_entries};
 
-use ds_base::limits::FIRST_DRAWN_ID;
-use ds_base::{Key, NoMemory};
+use crate::effect::{CountSeen, CountsSeen, GroupRead};
+use ds_base::limits::{FIRST_DRAWN_ID, MAX_WRITES};
+use ds_base::{Key, NoMemory, TryCopy};
 use ds_log::Write;
-use ds_txn::Txn;
+use ds_reply::Body;
+use ds_txn::{Txn, TxnRefused};
 use std::alloc::{AllocError, Global};
 use std::marker::Model;
 
@@ -103,6 +104,228 @@ impl Session {
         ensures { self.new ≡ record self.old { counts = greater_counts self.old.counts counts.now } }
     {
         raise_all(&mut self.counts, counts);
+    }
+}
+
+impl Session {
+    ghost use Rattle.std.specs.Prelude.{is_some};
+    ghost use Rattle.std.specs.Option.{option_copied, option_map};
+    ghost use Rattle.ds_model.specs.Groups.{group_refusal, write_refusal};
+    ghost use Rattle.ds_core.specs.Effects.{MayWrite};
+    ghost use Rattle.ds_core.specs.Refused.{IsRefusal, is_quiet};
+
+    /// Whether there is a transaction.
+    pub(crate) fn in_transaction(&self) -> bool
+        ensures { result ≡ is_some self.now.transaction }
+    {
+        self.transaction.is_some()
+    }
+
+    /// The open transaction.
+    pub(crate) fn transaction(&self) -> Option<&Txn>
+        ensures { self.now.transaction ≡ option_map transaction_of (option_copied result) }
+    {
+        self.transaction.as_ref()
+    }
+
+    /// A transaction begins.
+    pub(crate) fn begin(&mut self, alloc: Global, several_groups: bool)
+        ensures { self.new ≡ with_transaction (Some (begun several_groups)) self.old }
+    {
+        self.transaction = Some(Txn::begin(alloc, several_groups));
+    }
+
+    /// The transaction ends, if there is one.
+    pub(crate) fn end(&mut self)
+        ensures { self.new ≡ with_transaction None self.old }
+    {
+        self.transaction = None;
+    }
+
+    /// The transaction ends, and the client is shown a place.
+    pub(crate) fn end_at(&mut self, place: u64)
+        ensures { self.new ≡ saw_place place (with_transaction None self.old) }
+    {
+        self.end();
+        self.see_place(place);
+    }
+
+    /// A group is read, and the transaction, if there is one, touches it. A refusal is want of memory and changes nothing.
+    pub(crate) fn read_group(&mut self, read: GroupRead) -> Result<(), NoMemory>
+        requires { group_refusal self.old.transaction (Some read.group) ≡ None }
+        ensures ok { OnOk result (self.new
+            ≡ saw_entries read.shard read.entries (saw_place read.place (with_transaction (touching_if read.group read.place self.old.transaction) self.old))) }
+        ensures err { OnErr result (self.new ≡ self.old) }
+    {
+        self.touch(read.group, read.place)?;
+        self.see_place(read.place);
+        self.see_count(read.shard as usize, read.entries);
+        Ok(())
+    }
+
+    /// The client was shown a count of each shard.
+    pub(crate) fn see_all(&mut self, seen: &CountsSeen)
+        ensures { self.new ≡ saw_place seen.now.commit (record self.old { counts = greater_counts self.old.counts seen.now.counts }) }
+    {
+        self.see_counts(seen.counts.as_slice());
+        self.see_place(seen.commit);
+    }
+
+    /// The client was shown a place and a count of each shard.
+    pub(crate) fn settle(&mut self, place: u64, seen: &CountsSeen)
+        ensures { self.new
+            ≡ saw_place seen.now.commit (record (saw_place place self.old) { counts = greater_counts self.old.counts seen.now.counts }) }
+    {
+        self.see_place(place);
+        self.see_all(seen);
+    }
+
+    /// The client was shown a place and a count of one shard.
+    pub(crate) fn see_one(&mut self, seen: &CountSeen)
+        ensures { self.new
+            ≡ saw_place seen.now.commit (saw_entries seen.now.shard seen.now.count (saw_place seen.now.place self.old)) }
+    {
+        self.see_place(seen.place);
+        self.see_count(seen.shard as usize, seen.count);
+        self.see_place(seen.commit);
+    }
+
+    /// The transaction, if there is one, touches a group, at this place where it hasn't touched it before. A refusal is want of memory
+    /// and changes nothing.
+    pub(crate) fn touch(&mut self, group: Key, place: u64) -> Result<(), NoMemory>
+        requires { group_refusal self.old.transaction (Some group) ≡ None }
+        ensures ok { OnOk result (self.new ≡ with_transaction (touching_if group place self.old.transaction) self.old) }
+        ensures err { OnErr result (self.new ≡ self.old) }
+    {
+        match &mut self.transaction {
+            Some(txn) => touch(txn, group, place),
+            None => Ok(()),
+        }
+    }
+
+    /// The transaction touches a group and takes a write. A refusal is want of memory and changes nothing.
+    pub(crate) fn write(&mut self, group: Key, place: u64, write: Write) -> Result<(), NoMemory>
+        requires { MayWrite self.old.transaction group }
+        ensures ok { OnOk result (self.new ≡ with_transaction (option_map (λ t. writing write (touching group place t)) self.old.transaction) self.old) }
+        ensures err { OnErr result (self.new ≡ self.old) }
+    {
+        match &mut self.transaction {
+            Some(txn) => touch_and_write(txn, group, place, write),
+            None => Ok(()),
+        }
+    }
+
+    /// The place at which the group was touched.
+    pub(crate) fn touch_place(&self, group: &Key) -> Option<u64>
+        ensures { result ≡ place_in self.now.transaction group.now }
+    {
+        match &self.transaction {
+            Some(txn) => txn.place(group),
+            None => None,
+        }
+    }
+
+    /// Why the transaction, if there is one, may not touch the group, `None` standing for one of a new root; or that there is no memory
+    /// to tell it.
+    pub(crate) fn group_refusal(&self, alloc: Global, group: Option<&Key>) -> Option<Body>
+        ensures told { IsRefusal (group_refusal self.now.transaction (option_copied group.entry)) result }
+        ensures quiet { IfSome result (λ b. IsTrue (is_quiet b)) }
+    {
+        match &self.transaction {
+            Some(txn) => match txn.may_touch(group) {
+                Ok(()) => None,
+                Err(refused) => Some(group_body(alloc, refused, group)),
+            },
+            None => None,
+        }
+    }
+
+    /// Why the transaction, if there is one, takes no further write.
+    pub(crate) fn write_refusal(&self) -> Option<Body>
+        ensures told { result ≡ write_refusal self.now.transaction }
+        ensures quiet { IfSome result (λ b. IsTrue (is_quiet b)) }
+    {
+        match &self.transaction {
+            Some(txn) if txn.writes() >= MAX_WRITES as u64 => Some(Body::TooManyWrites),
+            _ => None,
+        }
+    }
+}
+
+ghost use Rattle.std.specs.Prelude.{◌⊎◌, IfSome, IsTrue};
+ghost use Rattle.std.specs.Option.{option_copied};
+ghost use Rattle.ds_base.specs.Keys.{KeyParts};
+ghost use Rattle.ds_model.specs.Groups.{group_refusal};
+ghost use Rattle.ds_core.specs.Effects.{MayWrite};
+ghost use Rattle.ds_core.specs.Refused.{group_body, is_quiet};
+ghost use Rattle.ds_core.specs.Transactions.{transaction_of};
+
+/// What the reply says of a group that may not be touched.
+fn group_body(alloc: Global, refused: TxnRefused, group: Option<&Key>) -> Body
+    ensures told { (result ≡ group_body (option_copied group.entry) refused) ⊎ (result ≡ Body.NoMemory) }
+    ensures quiet { IsTrue (is_quiet result) }
+{
+    match refused {
+        TxnRefused::SecondGroup => second_group(alloc, group),
+        TxnRefused::TooManyGroups => Body::TooManyGroups,
+        TxnRefused::NoMemory => Body::NoMemory,
+    }
+}
+
+fn second_group(alloc: Global, group: Option<&Key>) -> Body
+    ensures told { (result ≡ Body.SecondGroup (option_copied group.entry)) ⊎ (result ≡ Body.NoMemory) }
+    ensures quiet { IsTrue (is_quiet result) }
+{
+    match group {
+        Some(group) => match group.copy(alloc) {
+            Ok(group) => Body::SecondGroup { group: Some(group) },
+            Err(_) => Body::NoMemory,
+        },
+        None => Body::SecondGroup { group: None },
+    }
+}
+
+/// Touches a group that may be touched. A refusal is want of memory and changes nothing.
+fn touch(txn: &mut Txn, group: Key, place: u64) -> Result<(), NoMemory>
+    requires { group_refusal (Some (transaction_of txn.old)) (Some group) ≡ None }
+    ensures ok { OnOk result (transaction_of txn.new ≡ touching group place (transaction_of txn.old)) }
+    ensures err { OnErr result (transaction_of txn.new ≡ transaction_of txn.old) }
+{
+    txn.make_room()?;
+    match txn.touch(group, place) {
+        Ok(_) => Ok(()),
+        Err(_) => Err(AllocError),
+    }
+}
+
+/// Touches a group and takes a write, both of which are allowed. A refusal is want of memory and changes nothing.
+fn touch_and_write(txn: &mut Txn, group: Key, place: u64, write: Write) -> Result<(), NoMemory>
+    requires { MayWrite (Some (transaction_of txn.old)) group }
+    ensures ok { OnOk result (transaction_of txn.new ≡ writing write (touching group place (transaction_of txn.old))) }
+    ensures err { OnErr result (transaction_of txn.new ≡ transaction_of txn.old) }
+{
+    txn.make_room()?;
+    match txn.touch(group, place) {
+        Ok(_) => {
+            add_write(txn, write);
+            Ok(())
+        }
+        Err(_) => Err(AllocError),
+    }
+}
+
+/// Takes a write, for which there is room.
+fn add_write(txn: &mut Txn, write: Write)
+    requires room { 0 < txn.old.write_spare }
+    requires few { length txn.old.writes < most_writes }
+    ensures { transaction_of txn.new ≡ writing write (transaction_of txn.old) }
+{
+    let taken = match write {
+        Write::Put(entity) => txn.put(entity).is_ok(),
+        Write::Delete(key) => txn.delete(key).is_ok(),
+    };
+    if !taken {
+        unreachable!();
     }
 }
 
