@@ -1,14 +1,14 @@
 //! A round's requests, by client.
-ghost use Rattle.std.specs.Prelude.{◌≡◌, ◌≤◌, ◌<◌, Some, length, slice_get, IfOk};
+ghost use Rattle.std.specs.Prelude.{◌≡◌, ◌+◌, ◌≤◌, ◌<◌, ◌∷◌, [], Some, length, replicate, slice_get, slice_set, IfOk};
 ghost use Rattle.ds_base.specs.Limits.{greatest_client};
 ghost use Rattle.ds_rounds.specs.Lines.{IsWithinLimit, handed};
 ghost use Rattle.ds_rounds.specs.Rounds.{lines_of_round};
 ghost use Rattle.ds_rounds.specs.Reading.{IsRound};
-ghost use Rattle.ds_model.specs.Asked.{asked, client_of};
 ghost use Rattle.ds_serve.specs.AskedLines.{AreAskedBy, Asks};
 
+use ds_base::Sequence;
 use ds_base::limits::MAX_CLIENT;
-use ds_protocol::{Refused, ask};
+use ds_protocol::ask;
 use ds_reply::Body;
 use ds_request::Request;
 use ds_rounds::{Line, Lines, Round};
@@ -17,63 +17,65 @@ use std::alloc::{AllocError, Global};
 /// What a line asks, or what its reply says instead.
 #[derive(Drop)]
 pub(crate) struct Asked {
+    /// Whose line it is.
+    pub client: u32,
+    /// The line's number, counted from 1 through the whole input.
     pub number: u64,
     pub request: Result<Request, Body>,
 }
 
-/// What the lines of a round ask, one list for each client from 0 on, each in the order of the lines. It reads every line once.
+/// What the lines of a round ask, one list for each client from 0 on, each in the order of the lines. Every line is read once.
 /// A refusal is want of memory: whose line it was isn't known then.
 pub(crate) fn asked_by_client(
     alloc: Global,
     shards: u32,
     round: &Round,
-) -> Result<Vec<Vec<Asked>>, AllocError>
+) -> Result<Vec<Sequence<Asked>>, AllocError>
     requires { IsRound round.now }
     ensures { IfOk result (λ lists. AreAskedBy shards (lines_of_round round.now) lists.items) }
 {
-    let mut lists = Vec::with_capacity(alloc, MAX_CLIENT as usize + 1)?;
-    for _client in 0..MAX_CLIENT + 1 {
-        lists.push(Vec::new(alloc))?;
-    }
+    let mut lists = empty_lists(alloc)?;
     for i in 0..round.lines.len() {
         let number = round.first + i as u64;
-        let (client, asked) = asked_line(alloc, shards, number, line_at(&round.lines, i))?;
-        lists[client as usize].push(asked)?;
+        let asked = asked_line(alloc, shards, number, line_at(&round.lines, i))?;
+        let client = asked.client as usize;
+        if lists[client].push(asked).is_err() {
+            return Err(AllocError);
+        }
     }
     Ok(lists)
 }
 
-/// What one line asks, and whose it is. A refusal is want of memory.
-fn asked_line(
-    alloc: Global,
-    shards: u32,
-    number: u64,
-    line: Line<'_>,
-) -> Result<(u32, Asked), AllocError>
+/// An empty list for each client.
+fn empty_lists(alloc: Global) -> Result<Vec<Sequence<Asked>>, AllocError>
+    ensures { IfOk result (λ lists. lists.items ≡ replicate (greatest_client + 1) []) }
+{
+    let mut lists = Vec::with_capacity(alloc, MAX_CLIENT as usize + 1)?;
+    for _client in 0..MAX_CLIENT + 1 {
+        lists.push(Sequence::new(alloc))?;
+    }
+    Ok(lists)
+}
+
+/// What one line asks. A refusal is want of memory.
+fn asked_line(alloc: Global, shards: u32, number: u64, line: Line<'_>) -> Result<Asked, AllocError>
     requires { IsWithinLimit line }
-    ensures client { IfOk result (λ both. both.0 ≤ greatest_client) }
-    ensures own { IfOk result (λ both. client_of (asked shards) (handed line.entry) ≡ both.0) }
-    ensures asks { IfOk result (λ both. Asks shards both.0 (record { number = number; content = handed line.entry }) both.1) }
+    ensures { IfOk result (λ a. Asks shards (record { number = number; content = handed line.entry }) a) }
 {
     match ask(alloc, shards, line) {
-        Ok(request) => Ok((
-            request.client,
-            Asked {
-                number,
-                request: Ok(request),
-            },
-        )),
-        Err(Refused {
-            body: Body::NoMemory,
-            ..
-        }) => Err(AllocError),
-        Err(Refused { client, body }) => Ok((
-            client,
-            Asked {
+        Ok(request) => Ok(Asked {
+            client: request.client,
+            number,
+            request: Ok(request),
+        }),
+        Err(refused) => match refused.body {
+            Body::NoMemory => Err(AllocError),
+            body => Ok(Asked {
+                client: refused.client,
                 number,
                 request: Err(body),
-            },
-        )),
+            }),
+        },
     }
 }
 
