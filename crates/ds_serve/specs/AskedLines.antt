@@ -1,5 +1,5 @@
 -- A round's lines by client, and what each asks.
-use Rattle.std.specs.Prelude.{◌≡◌, ℕ, ◌+◌, ◌≤◌, List, [], ◌∷◌, Ok, Err, Result, filter, length, ◌==◌, IsTrue, All, ⊤}
+use Rattle.std.specs.Prelude.{◌≡◌, ℕ, zero, suc, ◌+◌, ◌≤◌, List, [], ◌∷◌, ◌++◌, Ok, Err, Result, filter, length, ◌==◌, IsTrue, ⊤}
 use Rattle.ds_base.specs.Limits.{greatest_client}
 use Rattle.ds_reply.specs.declared.reply.Body.{Body}
 use Rattle.ds_request.specs.declared.call.Request.{Request}
@@ -53,3 +53,9 @@ AreAskedFrom shards client lines (own ∷ lists) =
 pub record AreAskedBy (shards : ℕ) (lines : List NumberedLine) (lists : List (List Asked)) : Type 0 where
   pub clients : length lists ≡ greatest_client + 1
   pub each : AreAskedFrom shards 0 lines lists
+
+-- the clients' lists, with one more at the end of this client's
+abbrev pub with_asked : List (List Asked) → ℕ → Asked → List (List Asked)
+with_asked [] client a = []
+with_asked (own ∷ lists) zero a = (own ++ a ∷ []) ∷ lists
+with_asked (own ∷ lists) (suc client) a = own ∷ with_asked lists client a

@@ -1,10 +1,10 @@
 //! A round's requests, by client.
-ghost use Rattle.std.specs.Prelude.{◌≡◌, ◌+◌, ◌≤◌, ◌<◌, ◌∷◌, [], Some, length, replicate, slice_get, slice_set, IfOk};
+ghost use Rattle.std.specs.Prelude.{◌≡◌, ◌+◌, ◌≤◌, ◌<◌, [], Some, length, replicate, slice_get, vec_len, IfOk, OnOk};
 ghost use Rattle.ds_base.specs.Limits.{greatest_client};
 ghost use Rattle.ds_rounds.specs.Lines.{IsWithinLimit, handed};
 ghost use Rattle.ds_rounds.specs.Rounds.{lines_of_round};
 ghost use Rattle.ds_rounds.specs.Reading.{IsRound};
-ghost use Rattle.ds_serve.specs.AskedLines.{AreAskedBy, Asks};
+ghost use Rattle.ds_serve.specs.AskedLines.{AreAskedBy, Asks, with_asked};
 
 use ds_base::Sequence;
 use ds_base::limits::MAX_CLIENT;
@@ -38,10 +38,7 @@ pub(crate) fn asked_by_client(
     for i in 0..round.lines.len() {
         let number = round.first + i as u64;
         let asked = asked_line(alloc, shards, number, line_at(&round.lines, i))?;
-        let client = asked.client as usize;
-        if lists[client].push(asked).is_err() {
-            return Err(AllocError);
-        }
+        put(&mut lists, asked)?;
     }
     Ok(lists)
 }
@@ -51,10 +48,21 @@ fn empty_lists(alloc: Global) -> Result<Vec<Sequence<Asked>>, AllocError>
     ensures { IfOk result (λ lists. lists.items ≡ replicate (greatest_client + 1) []) }
 {
     let mut lists = Vec::with_capacity(alloc, MAX_CLIENT as usize + 1)?;
-    for _client in 0..MAX_CLIENT + 1 {
+    'fill: for _client in 0..MAX_CLIENT + 1 {
         lists.push(Sequence::new(alloc))?;
     }
     Ok(lists)
+}
+
+/// Puts what a line asks behind what its client asks already. A refusal is want of memory.
+fn put(lists: &mut Vec<Sequence<Asked>>, asked: Asked) -> Result<(), AllocError>
+    requires { asked.client < vec_len lists.old }
+    ensures { OnOk result (lists.new.items ≡ with_asked lists.old.items asked.client asked) }
+{
+    match lists[asked.client as usize].push(asked) {
+        Ok(()) => Ok(()),
+        Err(_) => Err(AllocError),
+    }
 }
 
 /// What one line asks. A refusal is want of memory.
