@@ -160,6 +160,14 @@ ends_at_once how words content s left held journal unsent run set_up same_status
     (subst (λ (rest : List ℕ). IsLegalRun words content how left left [] held held rest) (sym none)
     (ends how none_set [] false set_up (run_nothing none_set.defs none_set.shards) (Consumes-none left) (λ is. false_true is) run (all_wrote held held [] (Appends-none held)))))
 
+-- what is given at the end of a run
+pub told-end : (words : List (List ℕ)) (content : List ℕ → Option (List ℕ)) (how s : Status) (left rest held held_next : Option (List ℕ)) (journal : List Commit) (given_journal : Option (List Commit)) (unsent given_unsent : List ℕ) → s ≡ how → given_journal ≡ Some journal → given_unsent ≡ unsent →
+    IsLegalRun words content how left rest journal held held_next unsent → IfSome given_journal (λ journal. IsLegalRun words content s left rest journal held held_next given_unsent)
+told-end words content how s left rest held held_next journal given_journal unsent given_unsent same_status same_journal same_unsent legal =
+    subst (λ (o : Option (List Commit)). IfSome o (λ j. IsLegalRun words content s left rest j held held_next given_unsent)) (sym same_journal)
+    (subst (λ (t : Status). IsLegalRun words content t left rest journal held held_next given_unsent) (sym same_status)
+    (subst (λ (u : List ℕ). IsLegalRun words content how left rest journal held held_next u) (sym same_unsent) legal))
+
 -- ---- what else a legal run tells of its end
 
 -- at the limit just so many bytes were taken
