@@ -5,4 +5,5 @@ pub mod Rests
 pub mod ShardBounds
 pub mod SoFar
 pub mod Turns
+pub mod Unset
 pub mod Written

@@ -1,4 +1,4 @@
-use Rattle.std.proofs.Common.{◌∙◌, sym, ap, subst, refl, arith}
+use Rattle.std.proofs.Common.{◌∙◌, [], sym, ap, drop, subst, refl, arith}
 use Rattle.ds_rounds.specs.Reading.{ReaderParts, first_reader}
 use Rattle.ds_core.specs.States.{CoreParts}
 use Rattle.ds_serve.specs.RunSteps.{HasServed, status_of}
@@ -31,10 +31,19 @@ serve-preserved g c = record {
 }
 
 pub returns-in-Done-clause-legal : goal.returns-in-Done-clause-legal
-returns-in-Done-clause-legal g c = let h = c in ?
+returns-in-Done-clause-legal g c = λ words content window is_set.
+    told-end words content status.Done c.end.result.status (g.I.Source.left c.args.input.now) (g.I.Source.left c.serve_round.new.input) (g.O.Sink.held c.args.output.now) (g.O.Sink.held c.serve_round.new.output) c.serve_round.new.server.core.journal
+    c.end.result.journal [] c.end.result.unsent c.end.ensures.status c.end.ensures.journal c.end.ensures.unsent
+    (c.in-Done.ensures.leaves words content (g.I.Source.left c.args.input.now) (g.O.Sink.held c.args.output.now) (c.serve.invariant.served words content window is_set))
 
 pub returns-in-Refused-clause-legal : goal.returns-in-Refused-clause-legal
-returns-in-Refused-clause-legal g c = let h = c in ?
+returns-in-Refused-clause-legal g c = λ words content window is_set.
+    told-end words content (status_of c.in-Refused.refused) c.end-in-Refused.result.status (g.I.Source.left c.args.input.now) (g.I.Source.left c.serve_round.new.input) (g.O.Sink.held c.args.output.now) (g.O.Sink.held c.serve_round.new.output) c.serve_round.new.server.core.journal
+    c.end-in-Refused.result.journal [] c.end-in-Refused.result.unsent (c.end-in-Refused.ensures.status ∙ c.status_of.ensures) c.end-in-Refused.ensures.journal c.end-in-Refused.ensures.unsent
+    (c.in-Refused.ensures.leaves words content (g.I.Source.left c.args.input.now) (g.O.Sink.held c.args.output.now) (c.serve.invariant.served words content window is_set))
 
 pub returns-in-Unsent-clause-legal : goal.returns-in-Unsent-clause-legal
-returns-in-Unsent-clause-legal g c = let h = c in ?
+returns-in-Unsent-clause-legal g c = λ words content window is_set.
+    told-end words content status.WriteFault c.end_unsent.result.status (g.I.Source.left c.args.input.now) (g.I.Source.left c.serve_round.new.input) (g.O.Sink.held c.args.output.now) (g.O.Sink.held c.serve_round.new.output) c.serve_round.new.server.core.journal
+    c.end_unsent.result.journal (drop c.in-Unsent.sent c.serve_round.new.server.text.bytes) c.end_unsent.result.unsent c.end_unsent.ensures.status c.end_unsent.ensures.journal c.end_unsent.ensures.unsent
+    (c.in-Unsent.ensures.leaves words content (g.I.Source.left c.args.input.now) (g.O.Sink.held c.args.output.now) (c.serve.invariant.served words content window is_set))
