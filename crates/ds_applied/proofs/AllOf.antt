@@ -52,7 +52,8 @@ all-insert : {X : Type 0} (P : X → Type 0) (cmp : X → X → Ordering) (xs : 
     → AllByRecursion P (insert_by cmp xs x)
 all-insert P cmp [] x p q = (p, tt)
 all-insert P cmp (y ∷ ys) x p q = by (all-insert P cmp ys x p q.1) (cmp x y) where
-  by : AllByRecursion P (insert_by cmp ys x) → (r : Ordering) → AllByRecursion P (match_ordering r (x ∷ y ∷ ys) (x ∷ y ∷ ys) (y ∷ insert_by cmp ys x))
+  by : AllByRecursion P (insert_by cmp ys x) → (r : Ordering)
+      → AllByRecursion P (match_ordering r (x ∷ y ∷ ys) (x ∷ y ∷ ys) (y ∷ insert_by cmp ys x))
   by rest Less = (p, q)
   by rest Equal = (p, q)
   by rest Greater = (q.0, rest)
@@ -62,5 +63,6 @@ all-folded : {X : Type 0} (P : X → Type 0) (cmp : X → X → Ordering) (done 
 all-folded P cmp done [] p q = p
 all-folded P cmp done (x ∷ xs) p q = all-folded P cmp (insert_by cmp done x) xs (all-insert P cmp done x q.0 p) q.1
 
-pub all-sorted : {X : Type 0} (P : X → Type 0) (cmp : X → X → Ordering) (xs : List X) → AllByRecursion P xs → AllByRecursion P (sorted_by cmp xs)
+pub all-sorted : {X : Type 0} (P : X → Type 0) (cmp : X → X → Ordering) (xs : List X) → AllByRecursion P xs
+    → AllByRecursion P (sorted_by cmp xs)
 all-sorted P cmp xs q = all-folded P cmp [] xs tt q

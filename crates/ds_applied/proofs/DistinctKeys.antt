@@ -48,7 +48,8 @@ KeysDiffer-filter p (e ∷ es) differ = by (KeysDiffer-filter p es differ.1) (p 
   by rest true = (NoneAt-filter p e.key es differ.0, rest)
   by rest false = rest
 
-pub NoneAt-push : (k : KeyParts) (es : List EntityParts) (e : EntityParts) → NoneAt k es → same_key e.key k ≡ false → NoneAt k (es ++ e ∷ [])
+pub NoneAt-push : (k : KeyParts) (es : List EntityParts) (e : EntityParts) → NoneAt k es → same_key e.key k ≡ false
+    → NoneAt k (es ++ e ∷ [])
 NoneAt-push k [] e none other = (other, tt)
 NoneAt-push k (f ∷ es) e none other = (none.0, NoneAt-push k es e none.1 other)
 
@@ -78,10 +79,12 @@ KeysDiffer-after ws = all_written [] ws tt
 
 -- ---- sorted
 
-NoneAt-insert : (k : KeyParts) (es : List EntityParts) (e : EntityParts) → NoneAt k es → same_key e.key k ≡ false → NoneAt k (insert_by entity_cmp es e)
+NoneAt-insert : (k : KeyParts) (es : List EntityParts) (e : EntityParts) → NoneAt k es → same_key e.key k ≡ false
+    → NoneAt k (insert_by entity_cmp es e)
 NoneAt-insert k [] e none other = (other, tt)
 NoneAt-insert k (f ∷ es) e none other = by (NoneAt-insert k es e none.1 other) (entity_cmp e f) where
-  by : NoneAt k (insert_by entity_cmp es e) → (r : Ordering) → NoneAt k (match_ordering r (e ∷ f ∷ es) (e ∷ f ∷ es) (f ∷ insert_by entity_cmp es e))
+  by : NoneAt k (insert_by entity_cmp es e) → (r : Ordering)
+      → NoneAt k (match_ordering r (e ∷ f ∷ es) (e ∷ f ∷ es) (f ∷ insert_by entity_cmp es e))
   by rest Less = (other, none)
   by rest Equal = (other, none)
   by rest Greater = (none.0, rest)
@@ -89,20 +92,24 @@ NoneAt-insert k (f ∷ es) e none other = by (NoneAt-insert k es e none.1 other)
 KeysDiffer-insert : (es : List EntityParts) (e : EntityParts) → KeysDiffer es → NoneAt e.key es → KeysDiffer (insert_by entity_cmp es e)
 KeysDiffer-insert [] e differ none = (tt, tt)
 KeysDiffer-insert (f ∷ es) e differ none = by (KeysDiffer-insert es e differ.1 none.1) (entity_cmp e f) where
-  by : KeysDiffer (insert_by entity_cmp es e) → (r : Ordering) → KeysDiffer (match_ordering r (e ∷ f ∷ es) (e ∷ f ∷ es) (f ∷ insert_by entity_cmp es e))
+  by : KeysDiffer (insert_by entity_cmp es e) → (r : Ordering)
+      → KeysDiffer (match_ordering r (e ∷ f ∷ es) (e ∷ f ∷ es) (f ∷ insert_by entity_cmp es e))
   by rest Less = (none, differ)
   by rest Equal = (none, differ)
   by rest Greater = (NoneAt-insert f.key es e differ.0 (same_key-turned f.key e.key ∙ none.0), rest)
 
-pub AreApart-insert : (before es : List EntityParts) (e : EntityParts) → AreApart before es → NoneAt e.key es → AreApart (insert_by entity_cmp before e) es
+pub AreApart-insert : (before es : List EntityParts) (e : EntityParts) → AreApart before es → NoneAt e.key es
+    → AreApart (insert_by entity_cmp before e) es
 AreApart-insert before [] e apart none = tt
 AreApart-insert before (f ∷ es) e apart none =
     (NoneAt-insert f.key before e apart.0 (same_key-turned f.key e.key ∙ none.0), AreApart-insert before es e apart.1 none.1)
 
-KeysDiffer-inserted : (before es : List EntityParts) → KeysDiffer before → KeysDiffer es → AreApart before es → KeysDiffer (fold (insert_by entity_cmp) before es)
+KeysDiffer-inserted : (before es : List EntityParts) → KeysDiffer before → KeysDiffer es → AreApart before es
+    → KeysDiffer (fold (insert_by entity_cmp) before es)
 KeysDiffer-inserted before [] first differ apart = first
 KeysDiffer-inserted before (e ∷ es) first differ apart =
-    KeysDiffer-inserted (insert_by entity_cmp before e) es (KeysDiffer-insert before e first apart.0) differ.1 (AreApart-insert before es e apart.1 differ.0)
+    KeysDiffer-inserted (insert_by entity_cmp before e) es (KeysDiffer-insert before e first apart.0) differ.1
+    (AreApart-insert before es e apart.1 differ.0)
 
 pub AreApart-none : (es : List EntityParts) → AreApart [] es
 AreApart-none [] = tt
@@ -134,15 +141,18 @@ AreFound-filter p all (e ∷ es) found = by (AreFound-filter p all es found.1) (
   by rest true = (found.0, rest)
   by rest false = rest
 
-AreFound-insert : (all es : List EntityParts) (e : EntityParts) → AreFound all es → entity_of all e.key ≡ Some e → AreFound all (insert_by entity_cmp es e)
+AreFound-insert : (all es : List EntityParts) (e : EntityParts) → AreFound all es → entity_of all e.key ≡ Some e
+    → AreFound all (insert_by entity_cmp es e)
 AreFound-insert all [] e found here = (here, tt)
 AreFound-insert all (f ∷ es) e found here = by (AreFound-insert all es e found.1 here) (entity_cmp e f) where
-  by : AreFound all (insert_by entity_cmp es e) → (r : Ordering) → AreFound all (match_ordering r (e ∷ f ∷ es) (e ∷ f ∷ es) (f ∷ insert_by entity_cmp es e))
+  by : AreFound all (insert_by entity_cmp es e) → (r : Ordering)
+      → AreFound all (match_ordering r (e ∷ f ∷ es) (e ∷ f ∷ es) (f ∷ insert_by entity_cmp es e))
   by rest Less = (here, found)
   by rest Equal = (here, found)
   by rest Greater = (found.0, rest)
 
-AreFound-inserted : (all before es : List EntityParts) → AreFound all before → AreFound all es → AreFound all (fold (insert_by entity_cmp) before es)
+AreFound-inserted : (all before es : List EntityParts) → AreFound all before → AreFound all es
+    → AreFound all (fold (insert_by entity_cmp) before es)
 AreFound-inserted all before [] first found = first
 AreFound-inserted all before (e ∷ es) first found =
     AreFound-inserted all (insert_by entity_cmp before e) es (AreFound-insert all before e first found.0) found.1

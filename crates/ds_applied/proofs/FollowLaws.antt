@@ -1,5 +1,6 @@
 -- Lists that follow a journal: those of no commit, of a longer journal, and the part of them that the first commits give.
-use Rattle.std.proofs.Common.{◌≡◌, ℕ, zero, suc, ◌+◌, ◌<◌, ◌≤◌, List, [], ◌∷◌, ◌++◌, length, take, drop, map, refl, ap, sym, ◌∙◌, append_assoc, arith}
+use Rattle.std.proofs.Common.{◌≡◌, ℕ, zero, suc, ◌+◌, ◌<◌, ◌≤◌, List, [], ◌∷◌, ◌++◌, length, take, drop, map, refl, ap, sym, ◌∙◌}
+use Rattle.std.proofs.Common.{append_assoc, arith}
 use Rattle.std.specs.Prelude.{filter, ◌==◌, Some, slice_get, unwrap_or, replicate, Bool, true, false, cond}
 use Rattle.std.specs.List.{range_with_len}
 use Rattle.std.proofs.Math.Seq.{take-append_seam}
@@ -34,7 +35,8 @@ no_lists shards first zero = refl
 no_lists shards first (suc n) = ap (λ (lists : List (List Entry)). [] ∷ lists) (no_lists shards (first + 1) n)
 
 -- Shards without entries follow the empty journal.
-pub Follows-made : (shards : ℕ) → Follows [] (record { shards = shards; commits = 0; lists = replicate shards []; counts = replicate shards 0 })
+pub Follows-made : (shards : ℕ)
+    → Follows [] (record { shards = shards; commits = 0; lists = replicate shards []; counts = replicate shards 0 })
 Follows-made shards = record { within = omega arith; lists = no_lists shards 0 shards }
 
 -- ---- the entries of the first commits
@@ -44,7 +46,8 @@ entries_from-append n [] ds = ap (λ m. entries_from m ds) (let e : n ≡ n + 0 
 entries_from-append n (c ∷ cs) ds =
     ap (λ es. commit_entries n c ++ es) (entries_from-append (n + 1) cs ds)
     ∙ sym (append_assoc (commit_entries n c) (entries_from (n + 1) cs) (entries_from (n + 1 + length cs) ds))
-    ∙ ap (λ m. (commit_entries n c ++ entries_from (n + 1) cs) ++ entries_from m ds) (let e : n + 1 + length cs ≡ n + length (c ∷ cs) = omega arith in e)
+    ∙ ap (λ m. (commit_entries n c ++ entries_from (n + 1) cs) ++ entries_from m ds)
+    (let e : n + 1 + length cs ≡ n + length (c ∷ cs) = omega arith in e)
 
 -- the entries of a shard of later commits, numbered from n
 abbrev pub later_entries : ℕ → ℕ → ℕ → List Commit → List Entry
@@ -64,7 +67,8 @@ taken (suc m) (suc n) (c ∷ cs) within = ap (λ ds. c ∷ ds) (taken m n cs (le
 
 -- of the entries of n commits the first are those of the first m
 pub shard_list-first : (m n : ℕ) (journal : List Commit) (shard shards : ℕ) → m ≤ n
-    → take (length (shard_list (take m journal) shard shards)) (shard_list (take n journal) shard shards) ≡ shard_list (take m journal) shard shards
+    → take (length (shard_list (take m journal) shard shards)) (shard_list (take n journal) shard shards)
+    ≡ shard_list (take m journal) shard shards
 shard_list-first m n journal shard shards within =
     let before : List Commit = take m journal in
     let after : List Commit = drop m (take n journal) in
@@ -79,7 +83,8 @@ shard_list-first m n journal shard shards within =
 of_shard : (journal : List Commit) (shards first n i : ℕ) → i < n
     → slice_get (map (λ shard. shard_list journal shard shards) (range_with_len first n)) i ≡ Some (shard_list journal (first + i) shards)
 of_shard journal shards first zero i below = absurd (omega (arith, below))
-of_shard journal shards first (suc n) zero below = ap (λ s. Some (shard_list journal s shards)) (let e : first ≡ first + 0 = omega arith in e)
+of_shard journal shards first (suc n) zero below =
+    ap (λ s. Some (shard_list journal s shards)) (let e : first ≡ first + 0 = omega arith in e)
 of_shard journal shards first (suc n) (suc i) below =
     of_shard journal shards (first + 1) n i (let w : i < n = omega (arith, below) in w)
     ∙ ap (λ s. Some (shard_list journal s shards)) (let e : first + 1 + i ≡ first + suc i = omega arith in e)

@@ -16,11 +16,13 @@ use Rattle.ds_applied.proofs.GlobalViews.{global_sorted}
 use Rattle.ds_applied.proofs.ResultOrder.{result_sorted, items_sorted}
 
 module _ (journal : List Commit) (a : AppliedParts) (counts : List ℕ) (follows : Follows journal a) where
-  pub global_result : (n : Normal) (w : Window) → result n w (sorted_by_key (shard_views a.lists counts)) ≡ result n w (global_view a.lists counts)
+  pub global_result : (n : Normal) (w : Window)
+      → result n w (sorted_by_key (shard_views a.lists counts)) ≡ result n w (global_view a.lists counts)
   global_result n w = ap (result n w) (global_sorted journal a counts follows) ∙ result_sorted n w (global_view a.lists counts)
 
   pub global_items : (columns : List Column) (selected : Select) (rs : List RowParts)
-      → items_of columns selected (sorted_by_key (shard_views a.lists counts)) rs ≡ items_of columns selected (global_view a.lists counts) rs
+      → items_of columns selected (sorted_by_key (shard_views a.lists counts)) rs
+      ≡ items_of columns selected (global_view a.lists counts) rs
   global_items columns selected rs =
       ap (λ es. items_of columns selected es rs) (global_sorted journal a counts follows)
       ∙ items_sorted columns selected (global_view a.lists counts) rs (KeysDiffer-after (entry_writes (counted a.lists counts)))

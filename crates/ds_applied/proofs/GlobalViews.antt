@@ -1,6 +1,7 @@
 -- The entities of all shards are those of the global view: shards have no entity group in common, so what the writes of all shards
 -- leave is what those of each shard leave, side by side.
-use Rattle.std.proofs.Common.{◌≡◌, ℕ, zero, suc, ◌+◌, ◌<◌, ◌≤◌, List, [], ◌∷◌, ◌++◌, length, take, map, fold, refl, ap, sym, ◌∙◌, subst, Bool, true, false, cond, not}
+use Rattle.std.proofs.Common.{◌≡◌, ℕ, zero, suc, ◌+◌, ◌<◌, ◌≤◌, List, [], ◌∷◌, ◌++◌, length, take, map, fold, refl, ap, sym, ◌∙◌, subst}
+use Rattle.std.proofs.Common.{Bool, true, false, cond, not}
 use Rattle.std.proofs.Common.{append_assoc, append-nil, Some, arith}
 use Rattle.std.specs.Prelude.{filter, flat_map, ◌==◌}
 use Rattle.std.specs.List.{AllByRecursion, range_with_len}
@@ -48,13 +49,15 @@ module _ (shards : ℕ) where
   abbrev Before : ℕ → List EntityParts → Type 0
   Before shard = AllByRecursion (λ (e : EntityParts). shard_of (root_of e.key) shards < shard)
 
-  written_in : (shard : ℕ) (es : List EntityParts) (w : Write) → InShard shard (key_of w) → EntitiesIn shard es → EntitiesIn shard (apply_write es w)
+  written_in : (shard : ℕ) (es : List EntityParts) (w : Write) → InShard shard (key_of w) → EntitiesIn shard es
+      → EntitiesIn shard (apply_write es w)
   written_in shard es (Put e) own p =
       all-append (λ (x : EntityParts). InShard shard x.key) (without e.key es) (e ∷ [])
       (all-filter (λ (x : EntityParts). InShard shard x.key) (λ x. not (same_key x.key e.key)) es p) (own, tt)
   written_in shard es (Delete k) own p = all-filter (λ (x : EntityParts). InShard shard x.key) (λ x. not (same_key x.key k)) es p
 
-  all_written_in : (shard : ℕ) (es : List EntityParts) (ws : List Write) → WritesIn shard ws → EntitiesIn shard es → EntitiesIn shard (fold apply_write es ws)
+  all_written_in : (shard : ℕ) (es : List EntityParts) (ws : List Write) → WritesIn shard ws → EntitiesIn shard es
+      → EntitiesIn shard (fold apply_write es ws)
   all_written_in shard es [] own p = p
   all_written_in shard es (w ∷ ws) own p = all_written_in shard (apply_write es w) ws own.1 (written_in shard es w own.0 p)
 
@@ -63,7 +66,8 @@ module _ (shards : ℕ) where
   apart : false ≡ true → ⊥
   apart e = cc
 
-  other_key : (shard : ℕ) (e : EntityParts) (k : KeyParts) → shard_of (root_of e.key) shards < shard → InShard shard k → same_key e.key k ≡ false
+  other_key : (shard : ℕ) (e : EntityParts) (k : KeyParts) → shard_of (root_of e.key) shards < shard → InShard shard k
+      → same_key e.key k ≡ false
   other_key shard e k before own = by (same_key e.key k) refl where
     by : (b : Bool) → same_key e.key k ≡ b → b ≡ false
     by true same =
@@ -72,7 +76,8 @@ module _ (shards : ℕ) where
         absurd (omega (arith, before, is))
     by false other = refl
 
-  without_beside : (shard : ℕ) (es fs : List EntityParts) (k : KeyParts) → Before shard es → InShard shard k → without k (es ++ fs) ≡ es ++ without k fs
+  without_beside : (shard : ℕ) (es fs : List EntityParts) (k : KeyParts) → Before shard es → InShard shard k
+      → without k (es ++ fs) ≡ es ++ without k fs
   without_beside shard [] fs k before own = refl
   without_beside shard (e ∷ es) fs k before own =
       ap (λ b. cond (not b) (e ∷ without k (es ++ fs)) (without k (es ++ fs))) (other_key shard e k before.0 own)
@@ -114,7 +119,8 @@ module _ (shards : ℕ) where
   IsOwn shard e = WritesIn shard e.writes
 
   own_entry : (n : ℕ) (ws : List Write) (gs : List KeyParts)
-      → AllByRecursion (λ (e : Entry). IsOwn (shard_of e.group shards) e) (map (λ g. record { commit = n; group = g; writes = group_writes g ws }) gs)
+      → AllByRecursion (λ (e : Entry). IsOwn (shard_of e.group shards) e)
+      (map (λ g. record { commit = n; group = g; writes = group_writes g ws }) gs)
   own_entry n ws [] = tt
   own_entry n ws (g ∷ gs) = (own_writes g ws, own_entry n ws gs)
 
@@ -128,8 +134,11 @@ module _ (shards : ℕ) where
       → AllByRecursion (IsOwn shard) (filter (λ (e : Entry). shard_of e.group shards == shard) es)
   own_filtered shard [] p = tt
   own_filtered shard (e ∷ es) p = by (own_filtered shard es p.1) (shard_of e.group shards == shard) refl where
-    by : AllByRecursion (IsOwn shard) (filter (λ (f : Entry). shard_of f.group shards == shard) es) → (b : Bool) → (shard_of e.group shards == shard) ≡ b
-        → AllByRecursion (IsOwn shard) (cond b (e ∷ filter (λ (f : Entry). shard_of f.group shards == shard) es) (filter (λ (f : Entry). shard_of f.group shards == shard) es))
+    by : AllByRecursion (IsOwn shard) (filter (λ (f : Entry). shard_of f.group shards == shard) es) → (b : Bool)
+        → (shard_of e.group shards == shard) ≡ b
+        → AllByRecursion (IsOwn shard)
+        (cond b (e ∷ filter (λ (f : Entry). shard_of f.group shards == shard) es)
+        (filter (λ (f : Entry). shard_of f.group shards == shard) es))
     by rest true own = (subst (λ s. IsOwn s e) (eqb-true (shard_of e.group shards) shard own) p.0, rest)
     by rest false other = rest
 
@@ -174,7 +183,8 @@ module _ (shards : ℕ) where
       ∙ append_assoc es left (beside (lists_from journal (first + 1) n) counts)
 
   -- the global view is what each shard's counted entries leave, side by side
-  pub global_beside : (journal : List Commit) (counts : List ℕ) → global_view (shard_lists shards journal) counts ≡ beside (shard_lists shards journal) counts
+  pub global_beside : (journal : List Commit) (counts : List ℕ)
+      → global_view (shard_lists shards journal) counts ≡ beside (shard_lists shards journal) counts
   global_beside journal counts = global_from journal 0 shards counts [] tt
 
 -- ---- no two entities have one key
@@ -198,7 +208,8 @@ module _ (shards : ℕ) where
   none_joined k [] ys p q = q
   none_joined k (x ∷ xs) ys p q = (p.0, none_joined k xs ys p.1 q)
 
-  differ_joined : (shard : ℕ) (xs ys : List EntityParts) → KeysDiffer xs → EntitiesIn shards shard xs → KeysDiffer ys → NotBefore (shard + 1) ys
+  differ_joined : (shard : ℕ) (xs ys : List EntityParts) → KeysDiffer xs → EntitiesIn shards shard xs → KeysDiffer ys
+      → NotBefore (shard + 1) ys
       → KeysDiffer (xs ++ ys)
   differ_joined shard [] ys p own q later = q
   differ_joined shard (x ∷ xs) ys p own q later =
@@ -213,7 +224,8 @@ module _ (shards : ℕ) where
   from_later shard (e ∷ es) p = (let own = p.0 in omega (arith, own), from_later shard es p.1)
 
   views_from : (journal : List Commit) (first n : ℕ) (counts : List ℕ)
-      → KeysDiffer (shard_views (lists_from shards journal first n) counts) × NotBefore first (shard_views (lists_from shards journal first n) counts)
+      → KeysDiffer (shard_views (lists_from shards journal first n) counts) × NotBefore first
+      (shard_views (lists_from shards journal first n) counts)
   views_from journal first zero counts = (tt, tt)
   views_from journal first (suc n) [] = (tt, tt)
   views_from journal first (suc n) (count ∷ counts) =
@@ -226,13 +238,16 @@ module _ (shards : ℕ) where
             (KeysDiffer-sorted (after writes) (KeysDiffer-after writes)) own rest.0 rest.1,
         all-append (λ (e : EntityParts). first ≤ shard_of (root_of e.key) shards) (sorted_by_key (after writes))
             (shard_views (lists_from shards journal (first + 1) n) counts)
-            (from_here first (sorted_by_key (after writes)) own) (from_later first (shard_views (lists_from shards journal (first + 1) n) counts) rest.1),
+            (from_here first (sorted_by_key (after writes)) own)
+            (from_later first (shard_views (lists_from shards journal (first + 1) n) counts) rest.1),
       )
 
 -- No two of the entities of all shards have one key.
-pub global_differ : (journal : List Commit) (a : AppliedParts) (counts : List ℕ) → Follows journal a → KeysDiffer (shard_views a.lists counts)
+pub global_differ : (journal : List Commit) (a : AppliedParts) (counts : List ℕ) → Follows journal a
+    → KeysDiffer (shard_views a.lists counts)
 global_differ journal a counts follows =
-    subst (λ lists. KeysDiffer (shard_views lists counts)) (sym follows.lists) (views_from a.shards (take a.commits journal) 0 a.shards counts).0
+    subst (λ lists. KeysDiffer (shard_views lists counts)) (sym follows.lists)
+    (views_from a.shards (take a.commits journal) 0 a.shards counts).0
 
 -- ---- in order
 
@@ -266,11 +281,13 @@ module _ (all : List EntityParts) where
       ∙ put-sorted entity_total IsFound found-same entity_cmp (λ e. e ∷ []) done es (as_gives es p)
       ∙ ap (put done) (one_each es)
 
-  first_part : (P : EntityParts → Type 0) (es fs : List EntityParts) → AllByRecursion P (es ++ fs) → AllByRecursion P es × AllByRecursion P fs
+  first_part : (P : EntityParts → Type 0) (es fs : List EntityParts) → AllByRecursion P (es ++ fs)
+      → AllByRecursion P es × AllByRecursion P fs
   first_part P [] fs p = (tt, p)
   first_part P (e ∷ es) fs p = let rest = first_part P es fs p.1 in ((p.0, rest.0), rest.1)
 
-  views-put : (shards : ℕ) (lists : List (List Entry)) (counts : List ℕ) (done : List EntityParts) → AllByRecursion IsFound (beside shards lists counts)
+  views-put : (shards : ℕ) (lists : List (List Entry)) (counts : List ℕ) (done : List EntityParts)
+      → AllByRecursion IsFound (beside shards lists counts)
       → put done (shard_views lists counts) ≡ put done (beside shards lists counts)
   views-put shards [] counts done p = refl
   views-put shards (entries ∷ lists) [] done p = refl

@@ -29,16 +29,19 @@ IsKeyed xs = xs ≡ map keyed (entities_in xs)
 of_entities : (xs : List (KeyParts × EntityParts)) (es : List EntityParts) → xs ≡ map keyed es → IsKeyed xs
 of_entities xs es is = is ∙ ap (map keyed) (sym (entities-keyed es) ∙ ap entities_in (sym is))
 
-inserted : (es : List EntityParts) (e : EntityParts) → (fs : List EntityParts) × (insert_entry key_cmp (map keyed es) e.key e ≡ map keyed fs)
+inserted : (es : List EntityParts) (e : EntityParts)
+    → (fs : List EntityParts) × (insert_entry key_cmp (map keyed es) e.key e ≡ map keyed fs)
 inserted [] e = (e ∷ [], refl)
 inserted (f ∷ es) e = by (key_cmp e.key f.key) refl (inserted es e) where
   by : (r : Ordering) → key_cmp e.key f.key ≡ r → (fs : List EntityParts) × (insert_entry key_cmp (map keyed es) e.key e ≡ map keyed fs)
-      → (fs : List EntityParts) × (match_ordering r ((e.key, e) ∷ keyed f ∷ map keyed es) ((f.key, e) ∷ map keyed es) (keyed f ∷ insert_entry key_cmp (map keyed es) e.key e) ≡ map keyed fs)
+      → (fs : List EntityParts) × (match_ordering r ((e.key, e) ∷ keyed f ∷ map keyed es) ((f.key, e) ∷ map keyed es)
+      (keyed f ∷ insert_entry key_cmp (map keyed es) e.key e) ≡ map keyed fs)
   by Less is rest = (e ∷ f ∷ es, refl)
   by Equal is rest = (e ∷ es, ap (λ k. (k, e) ∷ map keyed es) (sym (key_cmp-same e.key f.key is)))
   by Greater is rest = (f ∷ rest.0, ap (λ xs. keyed f ∷ xs) rest.1)
 
-removed : (es : List EntityParts) (k : KeyParts) → (fs : List EntityParts) × (remove_entry (is_at (key_cmp k)) (map keyed es) ≡ map keyed fs)
+removed : (es : List EntityParts) (k : KeyParts)
+    → (fs : List EntityParts) × (remove_entry (is_at (key_cmp k)) (map keyed es) ≡ map keyed fs)
 removed [] k = ([], refl)
 removed (f ∷ es) k = by (is_eq (key_cmp k f.key)) (removed es k) where
   by : (b : Bool) → (fs : List EntityParts) × (remove_entry (is_at (key_cmp k)) (map keyed es) ≡ map keyed fs)
@@ -47,7 +50,8 @@ removed (f ∷ es) k = by (is_eq (key_cmp k f.key)) (removed es k) where
   by false rest = (f ∷ rest.0, ap (λ xs. keyed f ∷ xs) rest.1)
 
 module _ (old new : List (KeyParts × EntityParts)) (was : IsKeyed old) where
-  pub keyed_put : (e : EntityParts) (r : Result (Unit {0}) AllocError) → OnOk r (new ≡ insert_entry key_cmp old e.key e) → OnErr r (new ≡ old) → IsKeyed new
+  pub keyed_put : (e : EntityParts) (r : Result (Unit {0}) AllocError) → OnOk r (new ≡ insert_entry key_cmp old e.key e)
+      → OnErr r (new ≡ old) → IsKeyed new
   keyed_put e (Ok x) ok err =
       let next = inserted (entities_in old) e in
       of_entities new next.0 (ok ∙ ap (λ xs. insert_entry key_cmp xs e.key e) was ∙ next.1)
@@ -63,7 +67,8 @@ module _ (old new : List (KeyParts × EntityParts)) (was : IsKeyed old) where
     entries_are : (es : List EntityParts) → now ≡ sorted_by_key es → old ≡ map keyed (sorted_by_key es)
     entries_are es is = was ∙ ap (map keyed) (view ∙ is)
 
-    pub put_applied : (e : EntityParts) (w : Write) (r : Result (Unit {0}) AllocError) → w ≡ Put e → OnOk r (new ≡ insert_entry key_cmp old e.key e)
+    pub put_applied : (e : EntityParts) (w : Write) (r : Result (Unit {0}) AllocError) → w ≡ Put e
+        → OnOk r (new ≡ insert_entry key_cmp old e.key e)
         → OnOk r (IsStrictlySortedBy key_cmp (map (λ (x : KeyParts × EntityParts). x.0) old))
         → OnOk r ((es : List EntityParts) → now ≡ sorted_by_key es → entities_in new ≡ sorted_by_key (apply_write es w))
     put_applied e w (Ok x) is put ordered = λ es before.

@@ -20,7 +20,8 @@ use Rattle.ds_query.specs.declared.query.Select.TheVariants as select
 use Rattle.ds_query.specs.declared.row.Place.{Place}
 use Rattle.ds_query.specs.Filters.{projected}
 use Rattle.ds_rows.specs.IndexedValues.{indexed_values, each_way}
-use Rattle.ds_model.specs.Results.{first_of_each, same_mark, first_rows, is_between, page_of, branch_results, extended, united, query_rows, result, item_of, items_of}
+use Rattle.ds_model.specs.Results.{first_of_each, same_mark, first_rows, is_between, page_of, branch_results, extended, united}
+use Rattle.ds_model.specs.Results.{query_rows, result, item_of, items_of}
 use Rattle.ds_model.specs.Rows.{rows, entity_rows, value_columns, is_found, is_within, first_value, compare_rows}
 use Rattle.ds_applied.specs.ByKey.{entity_cmp, sorted_by_key, KeysDiffer}
 use Rattle.ds_applied.proofs.AllOf.{all_of, all-append, all-filter, all-map, all-flat_map, filter-flat_map, map-flat_map}
@@ -35,19 +36,23 @@ ways_long [] = (refl, tt)
 ways_long (values ∷ lists) =
     all-flat_map (λ (way : List IndexValue). length way ≡ length (values ∷ lists)) (λ v. map (λ vs. v ∷ vs) (each_way lists)) values
     (all_of (λ v. AllByRecursion (λ (way : List IndexValue). length way ≡ length (values ∷ lists)) (map (λ vs. v ∷ vs) (each_way lists)))
-    (λ v. all-map (λ (way : List IndexValue). length way ≡ length lists) (λ (way : List IndexValue). length way ≡ length (values ∷ lists)) (λ vs. v ∷ vs) (λ way is. ap suc is) (each_way lists) (ways_long lists))
+    (λ v. all-map (λ (way : List IndexValue). length way ≡ length lists)
+    (λ (way : List IndexValue). length way ≡ length (values ∷ lists)) (λ vs. v ∷ vs) (λ way is. ap suc is) (each_way lists)
+    (ways_long lists))
     values)
 
 long_rows : (columns : List Column) (e : EntityParts) → AllByRecursion (IsLongRow columns) (entity_rows columns e)
 long_rows columns e =
     let lists : List (List IndexValue) = map (λ (c : Column). indexed_values e c.name) (value_columns columns) in
     all-map (λ (way : List IndexValue). length way ≡ length lists) (IsLongRow columns) (λ vs. record { values = vs; key = e.key })
-    (λ way is. is ∙ length-map (value_columns columns) (λ (c : Column). indexed_values e c.name) ∙ sym (length-map (value_columns columns) (λ (c : Column). c.descending)))
+    (λ way is. is ∙ length-map (value_columns columns) (λ (c : Column). indexed_values e c.name) ∙ sym
+    (length-map (value_columns columns) (λ (c : Column). c.descending)))
     (each_way lists) (ways_long lists)
 
 long_branch : (q : Branch) (es : List EntityParts) → AllByRecursion (IsLongRow q.columns) (rows q es)
 long_branch q es =
-    all-filter (IsLongRow q.columns) (λ row. is_within q.range (first_value row)) (flat_map (entity_rows q.columns) (filter (is_found q) es))
+    all-filter (IsLongRow q.columns) (λ row. is_within q.range (first_value row))
+    (flat_map (entity_rows q.columns) (filter (is_found q) es))
     (all-flat_map (IsLongRow q.columns) (entity_rows q.columns) (filter (is_found q) es)
     (all_of (λ e. AllByRecursion (IsLongRow q.columns) (entity_rows q.columns e)) (long_rows q.columns) (filter (is_found q) es)))
 
@@ -69,13 +74,15 @@ by_entity q [] = refl
 by_entity q (e ∷ es) = by (is_found q e) ∙ ap (λ rs. own_rows q e ++ rs) (by_entity q es) where
   by : (b : Bool) → given q (cond b (e ∷ filter (is_found q) es) (filter (is_found q) es)) ≡ given q (cond b (e ∷ []) []) ++ rows q es
   by true =
-      filter-append (λ row. is_within q.range (first_value row)) (entity_rows q.columns e) (flat_map (entity_rows q.columns) (filter (is_found q) es))
+      filter-append (λ row. is_within q.range (first_value row)) (entity_rows q.columns e)
+      (flat_map (entity_rows q.columns) (filter (is_found q) es))
       ∙ ap (λ rs. filter (λ row. is_within q.range (first_value row)) rs ++ rows q es) (sym (append-nil (entity_rows q.columns e)))
   by false = refl
 
 -- ---- rows in order
 
-module _ (columns : List Column) (f : EntityParts → List RowParts) (long : (e : EntityParts) → AllByRecursion (IsLongRow columns) (f e)) where
+module _ (columns : List Column) (f : EntityParts → List RowParts)
+    (long : (e : EntityParts) → AllByRecursion (IsLongRow columns) (f e)) where
   abbrev put : List RowParts → List RowParts → List RowParts
   put done rs = fold (insert_by (filled_row_cmp columns)) done rs
 
@@ -109,7 +116,8 @@ module _ (q : Branch) (start end : Option Place) where
   branch-same es =
       ap (first_of_each (same_mark q.columns (projected q.select)))
       (ap (sorted_by (compare_rows q.columns)) (between (sorted_by_key es))
-      ∙ same_order q.columns between_rows (λ e. all-filter (IsLongRow q.columns) (is_between q.columns start end) (own_rows q e) (long_branch q (e ∷ []))) es
+      ∙ same_order q.columns between_rows
+      (λ e. all-filter (IsLongRow q.columns) (is_between q.columns start end) (own_rows q e) (long_branch q (e ∷ []))) es
       ∙ ap (sorted_by (compare_rows q.columns)) (sym (between es)))
 
 branches-same : (start end : Option Place) (qs : List Branch) (es : List EntityParts)
@@ -131,7 +139,8 @@ module _ (merged : List Column) where
   long_own : (q : Branch) (e : EntityParts) → AllByRecursion (IsLongRow merged) (own_extended q e)
   unfolding own_extended
   long_own q e =
-      all-map (IsLongRow q.columns) (IsLongRow merged) (extended merged q) (λ row is. long_extended merged q row) (own_rows q e) (long_branch q (e ∷ []))
+      all-map (IsLongRow q.columns) (IsLongRow merged) (extended merged q) (λ row is. long_extended merged q row) (own_rows q e)
+      (long_branch q (e ∷ []))
 
   extended_each : (q : Branch) (es : List EntityParts) → extended_rows q es ≡ flat_map (own_extended q) es
   unfolding own_extended
@@ -144,9 +153,11 @@ module _ (merged : List Column) where
       → put_rows done (flat_map (λ q. extended_rows q (sorted_by_key es)) qs) ≡ put_rows done (flat_map (λ q. extended_rows q es) qs)
   united-put [] es done = refl
   united-put (q ∷ qs) es done =
-      fold-append (insert_by (filled_row_cmp merged)) done (extended_rows q (sorted_by_key es)) (flat_map (λ p. extended_rows p (sorted_by_key es)) qs)
+      fold-append (insert_by (filled_row_cmp merged)) done (extended_rows q (sorted_by_key es))
+      (flat_map (λ p. extended_rows p (sorted_by_key es)) qs)
       ∙ ap (λ d. put_rows d (flat_map (λ p. extended_rows p (sorted_by_key es)) qs))
-      (ap (put_rows done) (extended_each q (sorted_by_key es)) ∙ put-same merged (own_extended q) (long_own q) done es ∙ ap (put_rows done) (sym (extended_each q es)))
+      (ap (put_rows done) (extended_each q (sorted_by_key es)) ∙ put-same merged (own_extended q) (long_own q) done es ∙ ap
+      (put_rows done) (sym (extended_each q es)))
       ∙ united-put qs es (put_rows done (extended_rows q es))
       ∙ sym (fold-append (insert_by (filled_row_cmp merged)) done (extended_rows q es) (flat_map (λ p. extended_rows p es) qs))
 
@@ -154,7 +165,8 @@ module _ (merged : List Column) where
   all_extended qs es =
       all-flat_map (IsLongRow merged) (λ q. extended_rows q es) qs
       (all_of (λ q. AllByRecursion (IsLongRow merged) (extended_rows q es))
-      (λ q. all-map (IsLongRow q.columns) (IsLongRow merged) (extended merged q) (λ row is. long_extended merged q row) (rows q es) (long_branch q es)) qs)
+      (λ q. all-map (IsLongRow q.columns) (IsLongRow merged) (extended merged q) (λ row is. long_extended merged q row) (rows q es)
+      (long_branch q es)) qs)
 
   united-same : (qs : List Branch) (es : List EntityParts)
       → sorted_by (compare_rows merged) (flat_map (λ q. extended_rows q (sorted_by_key es)) qs)
@@ -168,7 +180,8 @@ module _ (merged : List Column) where
 
 pub query_rows-sorted : (n : Normal) (w : Window) (es : List EntityParts) → query_rows n w (sorted_by_key es) ≡ query_rows n w es
 query_rows-sorted n w es =
-    ap (λ rs. cond n.several (first_of_each (same_mark n.merged []) rs) (flat_map (λ q. branch_results q w.start w.end (sorted_by_key es)) n.branches))
+    ap (λ rs. cond n.several (first_of_each (same_mark n.merged []) rs)
+    (flat_map (λ q. branch_results q w.start w.end (sorted_by_key es)) n.branches))
     (united-same n.merged n.branches es)
     ∙ ap (λ rs. cond n.several (first_rows n.merged [] (united n es)) rs) (branches-same w.start w.end n.branches es)
 
@@ -178,7 +191,8 @@ result_sorted n w es = ap (page_of n.merged w) (query_rows-sorted n w es)
 
 item-sorted : (columns : List Column) (selected : Select) (es : List EntityParts) (row : RowParts) → KeysDiffer es
     → item_of columns selected (sorted_by_key es) row ≡ item_of columns selected es row
-item-sorted columns select.Entities es row differ = ap (λ o. record { key = row.key; entity = o; projected = [] }) (entity_of-sorted es row.key differ)
+item-sorted columns select.Entities es row differ =
+    ap (λ o. record { key = row.key; entity = o; projected = [] }) (entity_of-sorted es row.key differ)
 item-sorted columns select.Keys es row differ = refl
 item-sorted columns (select.Projection names) es row differ = refl
 

@@ -38,7 +38,8 @@ tail_of (v ∷ vs) = vs
 
 abbrev filled_cmp : List Bool → List IndexValue → List IndexValue → Ordering
 filled_cmp [] vs ws = Equal
-filled_cmp (d ∷ ds) vs ws = ordering_then (directed_cmp d index_value_cmp (head_of vs) (head_of ws)) (filled_cmp ds (tail_of vs) (tail_of ws))
+filled_cmp (d ∷ ds) vs ws =
+    ordering_then (directed_cmp d index_value_cmp (head_of vs) (head_of ws)) (filled_cmp ds (tail_of vs) (tail_of ws))
 
 filled-total : (ds : List Bool) → IsTotalOrder (filled_cmp ds)
 filled-total [] = record { antisymm = λ x y. refl; trans = λ x y z p q. p; congr = λ x y z p. refl }
@@ -59,7 +60,8 @@ filled_row-total columns =
 abbrev pub IsLongRow : List Column → RowParts → Type 0
 IsLongRow columns r = length r.values ≡ length (directions columns)
 
-as_filled : (ds : List Bool) (vs ws : List IndexValue) → length vs ≡ length ds → length ws ≡ length ds → columns_cmp ds vs ws ≡ filled_cmp ds vs ws
+as_filled : (ds : List Bool) (vs ws : List IndexValue) → length vs ≡ length ds → length ws ≡ length ds
+    → columns_cmp ds vs ws ≡ filled_cmp ds vs ws
 as_filled [] vs ws p q = refl
 as_filled (d ∷ ds) [] ws p q = absurd (omega (arith, p))
 as_filled (d ∷ ds) (v ∷ vs) [] p q = absurd (omega (arith, q))
@@ -70,9 +72,11 @@ as_filled (d ∷ ds) (v ∷ vs) (w ∷ ws) p q =
 pub row-filled : (columns : List Column) (x y : RowParts) → IsLongRow columns x → IsLongRow columns y
     → compare_rows columns x y ≡ filled_row_cmp columns x y
 row-filled columns x y p q =
-    ap (λ r. ordering_then r (directed_cmp (key_descends columns) key_cmp x.key y.key)) (as_filled (directions columns) x.values y.values p q)
+    ap (λ r. ordering_then r (directed_cmp (key_descends columns) key_cmp x.key y.key))
+    (as_filled (directions columns) x.values y.values p q)
 
-same_values : (ds : List Bool) (vs ws : List IndexValue) → length vs ≡ length ds → length ws ≡ length ds → filled_cmp ds vs ws ≡ Equal → vs ≡ ws
+same_values : (ds : List Bool) (vs ws : List IndexValue) → length vs ≡ length ds → length ws ≡ length ds → filled_cmp ds vs ws ≡ Equal
+    → vs ≡ ws
 same_values [] [] [] p q e = refl
 same_values [] (v ∷ vs) ws p q e = absurd (omega (arith, p))
 same_values [] [] (w ∷ ws) p q e = absurd (omega (arith, q))
@@ -82,14 +86,16 @@ same_values (d ∷ ds) (v ∷ vs) (w ∷ ws) p q e =
     let parts = both_Equal (directed_cmp d index_value_cmp v w) (filled_cmp ds vs ws) e in
     let first : v ≡ w = directed_cmp-same d index_value_cmp-same v w parts.0 in
     let rest : vs ≡ ws =
-    same_values ds vs ws (let e : length vs ≡ length ds = omega (arith, p) in e) (let e : length ws ≡ length ds = omega (arith, q) in e) parts.1 in
+    same_values ds vs ws (let e : length vs ≡ length ds = omega (arith, p) in e)
+    (let e : length ws ≡ length ds = omega (arith, q) in e) parts.1 in
     ap (λ x. x ∷ vs) first ∙ ap (λ xs. w ∷ xs) rest
 
 -- only equal rows tie
 pub row-same : (columns : List Column) (x y : RowParts) → IsLongRow columns x → IsLongRow columns y
     → filled_row_cmp columns x y ≡ Equal → x ≡ y
 row-same columns x y p q e =
-    let parts = both_Equal (filled_cmp (directions columns) x.values y.values) (directed_cmp (key_descends columns) key_cmp x.key y.key) e in
+    let parts = both_Equal (filled_cmp (directions columns) x.values y.values)
+    (directed_cmp (key_descends columns) key_cmp x.key y.key) e in
     let values : x.values ≡ y.values = same_values (directions columns) x.values y.values p q parts.0 in
     let key : x.key ≡ y.key = directed_cmp-same (key_descends columns) key_cmp-same x.key y.key parts.1 in
     λ i. record { values = values i; key = key i }

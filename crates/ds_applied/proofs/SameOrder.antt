@@ -53,7 +53,8 @@ module _ {X : Type 0} {R : X → X → Ordering} (o : IsTotalOrder R) where
       → insert_by R (insert_by R done x) y ≡ insert_by R (insert_by R done y) x
   inserts_swapped [] x y tie = both [] x y tie refl refl
   inserts_swapped (d ∷ ds) x y tie = by (inserts_swapped ds x y tie) (is_gt (R x d)) refl (is_gt (R y d)) refl where
-    by : insert_by R (insert_by R ds x) y ≡ insert_by R (insert_by R ds y) x → (a : Bool) → is_gt (R x d) ≡ a → (b : Bool) → is_gt (R y d) ≡ b
+    by : insert_by R (insert_by R ds x) y ≡ insert_by R (insert_by R ds y) x → (a : Bool) → is_gt (R x d) ≡ a → (b : Bool)
+        → is_gt (R y d) ≡ b
         → insert_by R (insert_by R (d ∷ ds) x) y ≡ insert_by R (insert_by R (d ∷ ds) y) x
     by later false ex false ey =
         ap (λ zs. insert_by R zs y) (front d ds x ex) ∙ both (d ∷ ds) x y tie (front d ds x ex) (front d ds y ey)
@@ -63,7 +64,8 @@ module _ {X : Type 0} {R : X → X → Ordering} (o : IsTotalOrder R) where
         ∙ sym (ap (λ zs. insert_by R zs x) (behind d ds y ey) ∙ front d (insert_by R ds y) x ex)
     by later true ex false ey =
         ap (λ zs. insert_by R zs y) (behind d ds x ex) ∙ front d (insert_by R ds x) y ey
-        ∙ sym (ap (λ zs. insert_by R zs x) (front d ds y ey) ∙ behind y (d ∷ ds) x (crossed d y x ey ex) ∙ ap (λ zs. y ∷ zs) (behind d ds x ex))
+        ∙ sym (ap (λ zs. insert_by R zs x) (front d ds y ey) ∙ behind y (d ∷ ds) x (crossed d y x ey ex) ∙ ap (λ zs. y ∷ zs)
+        (behind d ds x ex))
     by later true ex true ey =
         ap (λ zs. insert_by R zs y) (behind d ds x ex) ∙ behind d (insert_by R ds x) y ey ∙ ap (λ zs. d ∷ zs) later
         ∙ sym (ap (λ zs. insert_by R zs x) (behind d ds y ey) ∙ behind d (insert_by R ds y) x ex)
@@ -135,7 +137,8 @@ module _ {X : Type 0} {R : X → X → Ordering} (o : IsTotalOrder R) where
       put-folded done before (e ∷ es) p q =
           put-folded done (insert_by cmp before e) es (given_inserted before e q.0 p) q.1
           ∙ fold-append (insert_by R) done (flat_map f (insert_by cmp before e)) (flat_map f es)
-          ∙ ap (λ d. put d (flat_map f es)) (put-inserted done before e q.0 p ∙ put-turned done (f e) (flat_map f before) q.0 (given before p))
+          ∙ ap (λ d. put d (flat_map f es))
+          (put-inserted done before e q.0 p ∙ put-turned done (f e) (flat_map f before) q.0 (given before p))
           ∙ sym (fold-append (insert_by R) done (flat_map f before ++ f e) (flat_map f es))
           ∙ ap (put done) (append_assoc (flat_map f before) (f e) (flat_map f es))
 

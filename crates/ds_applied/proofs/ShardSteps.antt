@@ -1,5 +1,6 @@
 -- What a shard keeps, step by step.
-use Rattle.std.proofs.Common.{◌≡◌, ℕ, zero, suc, ◌+◌, ◌<◌, ◌≤◌, List, [], ◌∷◌, ◌++◌, length, take, fold, get_or, refl, ap, sym, ◌∙◌, append_assoc, append-nil, arith}
+use Rattle.std.proofs.Common.{◌≡◌, ℕ, zero, suc, ◌+◌, ◌<◌, ◌≤◌, List, [], ◌∷◌, ◌++◌, length, take, fold, get_or, refl, ap, sym, ◌∙◌}
+use Rattle.std.proofs.Common.{append_assoc, append-nil, arith}
 use Rattle.std.specs.Prelude.{flat_map}
 use Rattle.std.proofs.lemmas.List.{take_more, take_all, take-append-le}
 use Rattle.std.proofs.lemmas.List.Sums.{fold-append}
@@ -57,10 +58,10 @@ shard_written es applied begun old new w was below is applies = record {
   begun_within = omega (arith, below);
   kept =
       applies (after (entry_writes (take applied es) ++ take begun (writes_at es applied))) was.kept
-          ∙ ap sorted_by_key (sym (after-append (entry_writes (take applied es) ++ take begun (writes_at es applied)) (w ∷ []))
-          ∙ ap after (append_assoc (entry_writes (take applied es)) (take begun (writes_at es applied)) (w ∷ [])
-          ∙ ap (λ vs. entry_writes (take applied es) ++ vs)
-          (sym (take_more (writes_at es applied) begun w below ∙ ap (λ v. take begun (writes_at es applied) ++ v ∷ []) (sym is)))));
+      ∙ ap sorted_by_key (sym (after-append (entry_writes (take applied es) ++ take begun (writes_at es applied)) (w ∷ []))
+      ∙ ap after (append_assoc (entry_writes (take applied es)) (take begun (writes_at es applied)) (w ∷ [])
+      ∙ ap (λ vs. entry_writes (take applied es) ++ vs)
+      (sym (take_more (writes_at es applied) begun w below ∙ ap (λ v. take begun (writes_at es applied) ++ v ∷ []) (sym is)))));
 }
 
 -- the entry's end
@@ -71,8 +72,10 @@ shard_ended es applied begun kept was below all = record {
   begun_within = omega arith;
   kept =
       was.kept
-          ∙ ap (λ ws. sorted_by_key (after (entry_writes (take applied es) ++ ws))) (take_all begun (writes_at es applied) (omega (arith, all)))
-          ∙ ap (λ ws. sorted_by_key (after ws)) (sym (writes_more es applied below) ∙ sym (append-nil (entry_writes (take (applied + 1) es))));
+      ∙ ap (λ ws. sorted_by_key (after (entry_writes (take applied es) ++ ws)))
+      (take_all begun (writes_at es applied) (omega (arith, all)))
+      ∙ ap (λ ws. sorted_by_key (after ws))
+      (sym (writes_more es applied below) ∙ sym (append-nil (entry_writes (take (applied + 1) es))));
 }
 
 -- one entry more behind the others
@@ -83,15 +86,17 @@ shard_pushed es e applied begun kept was = record {
   begun_within = omega (arith, was.begun_within, still);
   kept =
       was.kept
-          ∙ ap (λ ws. sorted_by_key (after (entry_writes ws ++ take begun (writes_at es applied)))) (sym (take-append-le {A = Entry} applied es (e ∷ []) was.within))
-          ∙ ap (λ ws. sorted_by_key (after (entry_writes (take applied (es ++ e ∷ [])) ++ ws))) (sym same);
+      ∙ ap (λ ws. sorted_by_key (after (entry_writes ws ++ take begun (writes_at es applied))))
+      (sym (take-append-le {A = Entry} applied es (e ∷ []) was.within))
+      ∙ ap (λ ws. sorted_by_key (after (entry_writes (take applied (es ++ e ∷ [])) ++ ws))) (sym same);
 } where
   longer : (fs : List Entry) → length fs ≤ length (fs ++ e ∷ [])
   longer [] = omega arith
   longer (f ∷ fs) = let rest = longer fs in omega (arith, rest)
 
   begun_same : (fs : List Entry) (i : ℕ) → begun ≤ length (writes_at fs i)
-      → (length (writes_at fs i) ≤ length (writes_at (fs ++ e ∷ []) i)) × (take begun (writes_at (fs ++ e ∷ []) i) ≡ take begun (writes_at fs i))
+      → (length (writes_at fs i) ≤ length (writes_at (fs ++ e ∷ []) i)) ×
+      (take begun (writes_at (fs ++ e ∷ []) i) ≡ take begun (writes_at fs i))
   begun_same [] i none = (omega arith, at_none begun (omega (arith, none))) where
     at_none : (b : ℕ) → b ≤ 0 → take b (writes_at (e ∷ []) i) ≡ take b []
     at_none zero none = refl

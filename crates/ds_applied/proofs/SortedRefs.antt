@@ -11,7 +11,8 @@ use Rattle.ds_base.specs.Keys.{KeyParts}
 use Rattle.ds_base.specs.KeyOrder.{key_cmp}
 use Rattle.ds_base.specs.KeyOrderLaws.{key_cmp-total, key_cmp-same}
 use Rattle.ds_base.specs.Entities.{EntityParts}
-use Rattle.ds_base.specs.SortingLaws.{NoneBefore, Ascends, Ascends-from_IsSorted, IsSorted-from_Ascends, Ascends-sorted_by, IsPermutation-sorted_by, same_sorted}
+use Rattle.ds_base.specs.SortingLaws.{NoneBefore, Ascends, Ascends-from_IsSorted, IsSorted-from_Ascends, Ascends-sorted_by}
+use Rattle.ds_base.specs.SortingLaws.{IsPermutation-sorted_by, same_sorted}
 use Rattle.ds_model.specs.Results.{entity_of}
 use Rattle.ds_applied.specs.ByKey.{entity_cmp, sorted_by_key, KeysDiffer}
 use Rattle.ds_applied.proofs.DistinctKeys.{AreFound, AreFound-all}
@@ -25,7 +26,6 @@ module _ {X K : Type 0} (f : X → K) (R : K → K → Ordering) where
   ascends-map [] p = tt
   ascends-map (x ∷ xs) p = (none_before-map x xs p.0, ascends-map xs p.1)
 
-
 module _ (all : List EntityParts) where
   abbrev IsFound : EntityParts → Type 0
   IsFound e = entity_of all e.key ≡ Some e
@@ -34,7 +34,8 @@ module _ (all : List EntityParts) where
   as_all [] p = All-nil IsFound
   as_all (e ∷ es) p = All-cons IsFound e es p.0 (as_all es p.1)
 
-  equal_by_key : (es fs : List EntityParts) → All IsFound es → All IsFound fs → map (λ (e : EntityParts). e.key) es ≡ map (λ (e : EntityParts). e.key) fs → es ≡ fs
+  equal_by_key : (es fs : List EntityParts) → All IsFound es → All IsFound fs
+      → map (λ (e : EntityParts). e.key) es ≡ map (λ (e : EntityParts). e.key) fs → es ≡ fs
   equal_by_key [] [] p q is = refl
   equal_by_key [] (f ∷ fs) p q is = absurd (none is) where
     none : [] ≡ f.key ∷ map (λ (e : EntityParts). e.key) fs → ⊥
@@ -64,7 +65,8 @@ sorted_only es fs moved up differ =
     (All-permutation (IsFound es) es sorted (IsPermutation-sorted_by entity_cmp es) found)
     (same_sorted key_cmp-total key_cmp-same (map (λ (e : EntityParts). e.key) fs) (map (λ (e : EntityParts). e.key) sorted)
     (IsSorted-from_Ascends key_cmp-total (map (λ (e : EntityParts). e.key) fs) (ascends-map (λ (e : EntityParts). e.key) key_cmp fs up))
-    (IsSorted-from_Ascends key_cmp-total (map (λ (e : EntityParts). e.key) sorted) (ascends-map (λ (e : EntityParts). e.key) key_cmp sorted (Ascends-sorted_by entity_total es)))
+    (IsSorted-from_Ascends key_cmp-total (map (λ (e : EntityParts). e.key) sorted)
+    (ascends-map (λ (e : EntityParts). e.key) key_cmp sorted (Ascends-sorted_by entity_total es)))
     (IsPermutation-map (λ (e : EntityParts). e.key) fs sorted back))
 
 -- and where they lie behind references

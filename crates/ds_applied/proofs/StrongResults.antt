@@ -1,6 +1,7 @@
 -- Strong queries: a query whose branches all have one ancestor sees nothing outside of the ancestor's entity group, so it has the same
 -- results over the entities of that group's shard as over the strong view of the journal.
-use Rattle.std.proofs.Common.{◌≡◌, ℕ, zero, suc, ◌<◌, ◌≤◌, List, [], ◌∷◌, ◌++◌, length, take, drop, map, fold, refl, ap, sym, ◌∙◌, subst, Bool, true, false, cond, ◌&&◌, Some, None, Option, arith}
+use Rattle.std.proofs.Common.{◌≡◌, ℕ, zero, suc, ◌<◌, ◌≤◌, List, [], ◌∷◌, ◌++◌, length, take, drop, map, fold, refl, ap, sym, ◌∙◌}
+use Rattle.std.proofs.Common.{subst, Bool, true, false, cond, ◌&&◌, Some, None, Option, arith}
 use Rattle.std.specs.Prelude.{filter, flat_map}
 use Rattle.std.specs.Cmp.Lexicographic.{pointwise, pointwise_decides, bytes_decides}
 use Rattle.std.specs.List.{AllByRecursion, list_all, list_any, starts_with}
@@ -33,8 +34,10 @@ use Rattle.ds_log.specs.After.{after}
 use Rattle.ds_log.specs.Logs.{entry_writes, shard_list}
 use Rattle.ds_log.specs.Shards.{shard_of}
 use Rattle.ds_rows.specs.IndexedValues.{indexed_values, each_way}
-use Rattle.ds_model.specs.Results.{first_of_each, same_mark, first_rows, is_between, page_of, branch_results, extended, united, query_rows, result, item_of, items_of, entity_of, at_most}
-use Rattle.ds_model.specs.Rows.{rows, entity_rows, value_columns, is_found, has_kind, is_under, has_value, is_within, first_value, compare_rows}
+use Rattle.ds_model.specs.Results.{first_of_each, same_mark, first_rows, is_between, page_of, branch_results, extended, united}
+use Rattle.ds_model.specs.Results.{query_rows, result, item_of, items_of, entity_of, at_most}
+use Rattle.ds_model.specs.Rows.{rows, entity_rows, value_columns, is_found, has_kind, is_under, has_value, is_within, first_value}
+use Rattle.ds_model.specs.Rows.{compare_rows}
 use Rattle.ds_model.specs.Views.{strong_view}
 use Rattle.ds_model.proofs.GroupViews.{cut, in_group, same_key-equal}
 use Rattle.ds_applied.specs.AppliedLists.{AppliedParts, Follows, entries_by, shard_view}
@@ -71,7 +74,8 @@ group_under ancestor k some under =
 abbrev pub HaveAncestor : KeyParts → List Branch → Type 0
 HaveAncestor ancestor = AllByRecursion (λ (q : Branch). q.ancestor ≡ Some ancestor)
 
-all_have : (q : Query) (ancestor : KeyParts) (cs : List Conditions) → q.ancestor ≡ Some ancestor → HaveAncestor ancestor (map (branch_of q) cs)
+all_have : (q : Query) (ancestor : KeyParts) (cs : List Conditions) → q.ancestor ≡ Some ancestor
+    → HaveAncestor ancestor (map (branch_of q) cs)
 all_have q ancestor [] is = tt
 all_have q ancestor (c ∷ cs) is = (is, all_have q ancestor cs is)
 
@@ -95,7 +99,9 @@ module _ (ancestor : KeyParts) (some : 1 ≤ length ancestor.elems) where
 
     by : (b : Bool) → is_under q.ancestor e.key ≡ b → InGroup e.key
     by true under = group_under ancestor e.key some (ap (λ o. is_under o e.key) (sym has) ∙ under)
-    by false under = absurd (apart (sym (ap (λ b. bytes_eq e.key.namespace q.namespace && has_kind q.kind e.key && b && list_all (has_value e) q.equal) under
+    by false under =
+        absurd (apart (sym (ap (λ b. bytes_eq e.key.namespace q.namespace && has_kind q.kind e.key && b && list_all
+        (has_value e) q.equal) under
         ∙ never (bytes_eq e.key.namespace q.namespace) (has_kind q.kind e.key) (list_all (has_value e) q.equal)) ∙ found))
 
   -- ---- nothing outside of the group counts
@@ -106,14 +112,17 @@ module _ (ancestor : KeyParts) (some : 1 ≤ length ancestor.elems) where
   found_cut q (e ∷ es) has = by (found_cut q es has) (in_group (root_of ancestor) e) refl (is_found q e) refl where
     by : filter (is_found q) (cut (root_of ancestor) es) ≡ filter (is_found q) es → (a : Bool) → in_group (root_of ancestor) e ≡ a
         → (b : Bool) → is_found q e ≡ b
-        → filter (is_found q) (cond a (e ∷ cut (root_of ancestor) es) (cut (root_of ancestor) es)) ≡ cond b (e ∷ filter (is_found q) es) (filter (is_found q) es)
+        → filter (is_found q) (cond a (e ∷ cut (root_of ancestor) es) (cut (root_of ancestor) es))
+        ≡ cond b (e ∷ filter (is_found q) es) (filter (is_found q) es)
     by later true own true found =
         ap (λ c. cond c (e ∷ filter (is_found q) (cut (root_of ancestor) es)) (filter (is_found q) (cut (root_of ancestor) es))) found
         ∙ ap (λ fs. e ∷ fs) later
     by later true own false found =
-        ap (λ c. cond c (e ∷ filter (is_found q) (cut (root_of ancestor) es)) (filter (is_found q) (cut (root_of ancestor) es))) found ∙ later
+        ap (λ c. cond c (e ∷ filter (is_found q) (cut (root_of ancestor) es)) (filter (is_found q) (cut (root_of ancestor) es))) found
+        ∙ later
     by later false other true found =
-        absurd (apart (sym other ∙ ap (λ g. same_key g (root_of ancestor)) (found_under q e has found) ∙ same_key-itself (root_of ancestor)))
+        absurd (apart (sym other ∙ ap (λ g. same_key g (root_of ancestor)) (found_under q e has found) ∙ same_key-itself
+        (root_of ancestor)))
     by later false other false found = later
 
   rows_cut : (q : Branch) (es : List EntityParts) → q.ancestor ≡ Some ancestor → rows q (cut (root_of ancestor) es) ≡ rows q es
@@ -129,10 +138,12 @@ module _ (ancestor : KeyParts) (some : 1 ≤ length ancestor.elems) where
       ∙ ap (λ rs. branch_results q start end es ++ rs) (branches_cut start end qs es has.1)
 
   united_cut : (merged : List Column) (qs : List Branch) (es : List EntityParts) → HaveAncestor ancestor qs
-      → flat_map (λ q. map (extended merged q) (rows q (cut (root_of ancestor) es))) qs ≡ flat_map (λ q. map (extended merged q) (rows q es)) qs
+      → flat_map (λ q. map (extended merged q) (rows q (cut (root_of ancestor) es))) qs
+      ≡ flat_map (λ q. map (extended merged q) (rows q es)) qs
   united_cut merged [] es has = refl
   united_cut merged (q ∷ qs) es has =
-      ap (λ rs. map (extended merged q) rs ++ flat_map (λ p. map (extended merged p) (rows p (cut (root_of ancestor) es))) qs) (rows_cut q es has.0)
+      ap (λ rs. map (extended merged q) rs ++ flat_map (λ p. map (extended merged p) (rows p (cut (root_of ancestor) es))) qs)
+      (rows_cut q es has.0)
       ∙ ap (λ rs. map (extended merged q) (rows q es) ++ rs) (united_cut merged qs es has.1)
 
   -- a query has the same results over the entities of the group alone
@@ -140,13 +151,15 @@ module _ (ancestor : KeyParts) (some : 1 ≤ length ancestor.elems) where
       → result n w (cut (root_of ancestor) es) ≡ result n w es
   result_cut n w es has =
       ap (page_of n.merged w)
-      (ap (λ rs. cond n.several (first_rows n.merged [] rs) (flat_map (λ q. branch_results q w.start w.end (cut (root_of ancestor) es)) n.branches))
+      (ap (λ rs. cond n.several (first_rows n.merged [] rs)
+      (flat_map (λ q. branch_results q w.start w.end (cut (root_of ancestor) es)) n.branches))
       (united_cut n.merged n.branches es has)
       ∙ ap (λ rs. cond n.several (first_rows n.merged [] (united n es)) rs) (branches_cut w.start w.end n.branches es has))
 
   -- ---- each row is one of the group
 
-  entities_in : (q : Branch) (es : List EntityParts) → q.ancestor ≡ Some ancestor → AllByRecursion (λ (e : EntityParts). InGroup e.key) (filter (is_found q) es)
+  entities_in : (q : Branch) (es : List EntityParts) → q.ancestor ≡ Some ancestor
+      → AllByRecursion (λ (e : EntityParts). InGroup e.key) (filter (is_found q) es)
   entities_in q [] has = tt
   entities_in q (e ∷ es) has = by (entities_in q es has) (is_found q e) refl where
     by : AllByRecursion (λ (f : EntityParts). InGroup f.key) (filter (is_found q) es) → (b : Bool) → is_found q e ≡ b
@@ -167,15 +180,17 @@ module _ (ancestor : KeyParts) (some : 1 ≤ length ancestor.elems) where
   rows_in : (q : Branch) (es : List EntityParts) → q.ancestor ≡ Some ancestor → AllByRecursion RowIn (rows q es)
   rows_in q es has =
       all-filter RowIn (λ row. is_within q.range (first_value row)) (flat_map (entity_rows q.columns) (filter (is_found q) es))
-      (all-flat_map RowIn (entity_rows q.columns) (filter (is_found q) es) (of_entities q.columns (filter (is_found q) es) (entities_in q es has)))
+      (all-flat_map RowIn (entity_rows q.columns) (filter (is_found q) es)
+      (of_entities q.columns (filter (is_found q) es) (entities_in q es has)))
 
   kept_in : (same : RowParts → RowParts → Bool) (kept rs : List RowParts) → AllByRecursion RowIn kept → AllByRecursion RowIn rs
       → AllByRecursion RowIn (fold (λ kept x. cond (list_any (same x) kept) kept (kept ++ x ∷ [])) kept rs)
   kept_in same kept [] p q = p
-  kept_in same kept (r ∷ rs) p q = kept_in same (cond (list_any (same r) kept) kept (kept ++ r ∷ [])) rs (by (list_any (same r) kept)) q.1 where
-    by : (b : Bool) → AllByRecursion RowIn (cond b kept (kept ++ r ∷ []))
-    by true = p
-    by false = all-append RowIn kept (r ∷ []) p (q.0, tt)
+  kept_in same kept (r ∷ rs) p q =
+      kept_in same (cond (list_any (same r) kept) kept (kept ++ r ∷ [])) rs (by (list_any (same r) kept)) q.1 where
+        by : (b : Bool) → AllByRecursion RowIn (cond b kept (kept ++ r ∷ []))
+        by true = p
+        by false = all-append RowIn kept (r ∷ []) p (q.0, tt)
 
   firsts_in : (columns : List Column) (names : List (List ℕ)) (rs : List RowParts) → AllByRecursion RowIn rs
       → AllByRecursion RowIn (first_rows columns names rs)
@@ -217,7 +232,9 @@ module _ (ancestor : KeyParts) (some : 1 ≤ length ancestor.elems) where
   pub result_in : (n : Normal) (w : Window) (es : List EntityParts) → HaveAncestor ancestor n.branches
       → AllByRecursion (λ (r : RowParts). root_of r.key ≡ root_of ancestor) (result n w es).rows
   result_in n w es has = limited_in w.limit (drop w.offset (query_rows n w es)) (left_in w.offset (query_rows n w es) (by n.several)) where
-    by : (several : Bool) → AllByRecursion RowIn (cond several (first_rows n.merged [] (united n es)) (flat_map (λ q. branch_results q w.start w.end es) n.branches))
+    by : (several : Bool)
+        → AllByRecursion RowIn (cond several (first_rows n.merged [] (united n es))
+        (flat_map (λ q. branch_results q w.start w.end es) n.branches))
     by true = firsts_in n.merged [] (united n es) (united_in n.merged n.branches es has)
     by false = branches_in w.start w.end n.branches es has
 
@@ -235,7 +252,8 @@ module _ (g : KeyParts) (es fs : List EntityParts) (same : cut g es ≡ cut g fs
   item_same columns select.Keys row own = refl
   item_same columns (select.Projection names) row own = refl
 
-  pub items_same : (columns : List Column) (selected : Select) (rs : List RowParts) → AllByRecursion (λ (r : RowParts). root_of r.key ≡ g) rs
+  pub items_same : (columns : List Column) (selected : Select) (rs : List RowParts)
+      → AllByRecursion (λ (r : RowParts). root_of r.key ≡ g) rs
       → items_of columns selected es rs ≡ items_of columns selected fs rs
   items_same columns selected [] own = refl
   items_same columns selected (r ∷ rs) own =
@@ -245,45 +263,47 @@ module _ (g : KeyParts) (es fs : List EntityParts) (same : cut g es ≡ cut g fs
 -- ---- strong queries
 
 module _ (journal : List Commit) (a : AppliedParts) (m : ℕ) (ancestor : KeyParts) (follows : Follows journal a) (within : m ≤ a.commits)
-  (below : shard_of (root_of ancestor) a.shards < a.shards) (some : 1 ≤ length ancestor.elems) where
-    shard : ℕ
-    shard = shard_of (root_of ancestor) a.shards
+    (below : shard_of (root_of ancestor) a.shards < a.shards) (some : 1 ≤ length ancestor.elems) where
+  shard : ℕ
+  shard = shard_of (root_of ancestor) a.shards
 
-    own : List Entry
-    own = shard_list (take m journal) (shard_of (root_of ancestor) a.shards) a.shards
+  own : List Entry
+  own = shard_list (take m journal) (shard_of (root_of ancestor) a.shards) a.shards
 
-    -- the shard's entities at the entries of the first m commits
-    abbrev seen : List EntityParts
-    seen = shard_view a.lists (shard_of (root_of ancestor) a.shards) (entries_by journal a.shards (shard_of (root_of ancestor) a.shards) m)
+  -- the shard's entities at the entries of the first m commits
+  abbrev seen : List EntityParts
+  seen = shard_view a.lists (shard_of (root_of ancestor) a.shards) (entries_by journal a.shards (shard_of (root_of ancestor) a.shards) m)
 
-    seen_is : seen ≡ sorted_by_key (after (entry_writes own))
-    unfolding own
-    seen_is =
-        ap (λ (es : List Entry). sorted_by_key (after (entry_writes es)))
-        (list_up_to journal a (shard_of (root_of ancestor) a.shards) m follows below within)
+  seen_is : seen ≡ sorted_by_key (after (entry_writes own))
+  unfolding own
+  seen_is =
+      ap (λ (es : List Entry). sorted_by_key (after (entry_writes es)))
+      (list_up_to journal a (shard_of (root_of ancestor) a.shards) m follows below within)
 
-    group_is : cut (root_of ancestor) (after (entry_writes own)) ≡ cut (root_of ancestor) (strong_view journal m)
-    unfolding own
-    group_is = group_seen journal m a.shards (root_of ancestor)
+  group_is : cut (root_of ancestor) (after (entry_writes own)) ≡ cut (root_of ancestor) (strong_view journal m)
+  unfolding own
+  group_is = group_seen journal m a.shards (root_of ancestor)
 
-    -- A query with an ancestor has the results that it has over the strong view.
-    pub strong_result : (n : Normal) (w : Window) → HaveAncestor ancestor n.branches
-        → result n w (shard_view a.lists (shard_of (root_of ancestor) a.shards) (entries_by journal a.shards (shard_of (root_of ancestor) a.shards) m))
-        ≡ result n w (strong_view journal m)
-    strong_result n w has =
-        ap (result n w) seen_is
-        ∙ result_sorted n w (after (entry_writes own))
-        ∙ sym (result_cut ancestor some n w (after (entry_writes own)) has)
-        ∙ ap (result n w) group_is
-        ∙ result_cut ancestor some n w (strong_view journal m) has
+  -- A query with an ancestor has the results that it has over the strong view.
+  pub strong_result : (n : Normal) (w : Window) → HaveAncestor ancestor n.branches
+      → result n w (shard_view a.lists (shard_of (root_of ancestor) a.shards)
+      (entries_by journal a.shards (shard_of (root_of ancestor) a.shards) m))
+      ≡ result n w (strong_view journal m)
+  strong_result n w has =
+      ap (result n w) seen_is
+      ∙ result_sorted n w (after (entry_writes own))
+      ∙ sym (result_cut ancestor some n w (after (entry_writes own)) has)
+      ∙ ap (result n w) group_is
+      ∙ result_cut ancestor some n w (strong_view journal m) has
 
-    -- And the same is told of its rows.
-    pub strong_items : (n : Normal) (w : Window) (columns : List Column) (selected : Select) → HaveAncestor ancestor n.branches
-        → items_of columns selected (shard_view a.lists (shard_of (root_of ancestor) a.shards) (entries_by journal a.shards (shard_of (root_of ancestor) a.shards) m)) (result n w (strong_view journal m)).rows
-        ≡ items_of columns selected (strong_view journal m) (result n w (strong_view journal m)).rows
-    strong_items n w columns selected has =
-        let rs : List RowParts = (result n w (strong_view journal m)).rows in
-        ap (λ es. items_of columns selected es rs) seen_is
-        ∙ items_sorted columns selected (after (entry_writes own)) rs (KeysDiffer-after (entry_writes own))
-        ∙ items_same (root_of ancestor) (after (entry_writes own)) (strong_view journal m) group_is columns selected rs
-        (result_in ancestor some n w (strong_view journal m) has)
+  -- And the same is told of its rows.
+  pub strong_items : (n : Normal) (w : Window) (columns : List Column) (selected : Select) → HaveAncestor ancestor n.branches
+      → items_of columns selected (shard_view a.lists (shard_of (root_of ancestor) a.shards)
+      (entries_by journal a.shards (shard_of (root_of ancestor) a.shards) m)) (result n w (strong_view journal m)).rows
+      ≡ items_of columns selected (strong_view journal m) (result n w (strong_view journal m)).rows
+  strong_items n w columns selected has =
+      let rs : List RowParts = (result n w (strong_view journal m)).rows in
+      ap (λ es. items_of columns selected es rs) seen_is
+      ∙ items_sorted columns selected (after (entry_writes own)) rs (KeysDiffer-after (entry_writes own))
+      ∙ items_same (root_of ancestor) (after (entry_writes own)) (strong_view journal m) group_is columns selected rs
+      (result_in ancestor some n w (strong_view journal m) has)

@@ -1,5 +1,6 @@
 -- Strong reads: what is seen of one entity group in its shard's entities is what is seen of it in the strong view of the journal.
-use Rattle.std.proofs.Common.{◌≡◌, ℕ, ◌<◌, ◌≤◌, List, [], ◌∷◌, length, take, refl, ap, sym, ◌∙◌, Bool, true, false, cond, Some, Option, None}
+use Rattle.std.proofs.Common.{◌≡◌, ℕ, ◌<◌, ◌≤◌, List, [], ◌∷◌, length, take, refl, ap, sym, ◌∙◌, Bool, true, false, cond, Some, Option}
+use Rattle.std.proofs.Common.{None}
 use Rattle.std.proofs.Common.{arith}
 use Rattle.std.specs.Prelude.{filter}
 use Rattle.ds_base.specs.Keys.{KeyParts, root_of}
@@ -38,9 +39,11 @@ found_in_group k (e ∷ es) = by (found_in_group k es) (same_key e.key k) refl (
   by : entity_of es k ≡ entity_of (cut (root_of k) es) k → (a : Bool) → same_key e.key k ≡ a → (b : Bool) → in_group (root_of k) e ≡ b
       → cond a (Some e) (entity_of es k) ≡ entity_of (cond b (e ∷ cut (root_of k) es) (cut (root_of k) es)) k
   by later true same true own = sym (ap (λ c. cond c (Some e) (entity_of (cut (root_of k) es) k)) same)
-  by later true same false own = absurd (apart (sym own ∙ ap (λ (l : KeyParts). same_key (root_of l) (root_of k)) (same_key-equal e.key k same) ∙ same_key-itself (root_of k))) where
-    apart : false ≡ true → ⊥
-    apart e = cc
+  by later true same false own =
+      absurd (apart (sym own ∙ ap (λ (l : KeyParts). same_key (root_of l) (root_of k)) (same_key-equal e.key k same) ∙ same_key-itself
+      (root_of k))) where
+        apart : false ≡ true → ⊥
+        apart e = cc
   by later false other true own = later ∙ sym (ap (λ c. cond c (Some e) (entity_of (cut (root_of k) es) k)) other)
   by later false other false own = later
 

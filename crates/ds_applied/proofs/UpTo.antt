@@ -1,5 +1,6 @@
 -- How many entries are of the first commits, found by bisection: commits of entries ascend.
-use Rattle.std.proofs.Common.{◌≡◌, inl, inr, ℕ, zero, suc, ◌+◌, ◌<◌, ◌≤◌, List, [], ◌∷◌, ◌++◌, length, take, drop, map, get_or, refl, ap, sym, ◌∙◌, subst, Bool, true, false, append-nil, arith}
+use Rattle.std.proofs.Common.{◌≡◌, inl, inr, ℕ, zero, suc, ◌+◌, ◌<◌, ◌≤◌, List, [], ◌∷◌, ◌++◌, length, take, drop, map, get_or, refl}
+use Rattle.std.proofs.Common.{ap, sym, ◌∙◌, subst, Bool, true, false, append-nil, arith}
 use Rattle.std.specs.Prelude.{filter, ◌==◌, nat_le, ◌⊎◌}
 use Rattle.std.specs.List.{AllByRecursion, AllWithin}
 use Rattle.std.specs.List.Sorted.{IsPartitionedBy, IsPartitionPoint}
@@ -33,7 +34,8 @@ module _ {X : Type 0} (p : X → Bool) where
   parted (y ∷ ys) zs pass fail zero j d order below at_j = pass.0
   parted (y ∷ ys) zs pass fail (suc i) zero d order below at_j = absurd (omega (arith, order))
   parted (y ∷ ys) zs pass fail (suc i) (suc j) d order below at_j =
-      parted ys zs pass.1 fail i j d (let w : i ≤ j = omega (arith, order) in w) (let w : j < length (ys ++ zs) = omega (arith, below) in w) at_j
+      parted ys zs pass.1 fail i j d (let w : i ≤ j = omega (arith, order) in w)
+      (let w : j < length (ys ++ zs) = omega (arith, below) in w) at_j
 
   point : (ys zs : List X) (r : ℕ) → Pass ys → Fail zs → r ≤ length (ys ++ zs)
       → AllWithin (λ x. p x ≡ true) (ys ++ zs) 0 r → AllWithin (λ x. p x ≡ false) (ys ++ zs) r (length (ys ++ zs)) → r ≡ length ys
@@ -46,7 +48,8 @@ module _ {X : Type 0} (p : X → Bool) where
   point (y ∷ ys) zs (suc r) pass fail within before after =
       ap suc (point ys zs r pass.1 fail (let w : r ≤ length (ys ++ zs) = omega (arith, within) in w)
       (λ k d low high. before (suc k) d (omega arith) (let w : suc k < suc r = omega (arith, high) in w))
-      (λ k d low high. after (suc k) d (let w : suc r ≤ suc k = omega (arith, low) in w) (let w : suc k < length (y ∷ (ys ++ zs)) = omega (arith, high) in w)))
+      (λ k d low high. after (suc k) d (let w : suc r ≤ suc k = omega (arith, low) in w)
+      (let w : suc k < length (y ∷ (ys ++ zs)) = omega (arith, high) in w)))
 
 -- ---- commits of entries
 
@@ -68,11 +71,13 @@ commits_up_to m n (c ∷ cs) high =
     (of_commit (λ k. k ≤ m) n c.writes (groups_of c.writes) (let w : n ≤ m = omega (arith, high) in w))
     (commits_up_to m (n + 1) cs (let w : n + 1 + length cs ≤ m + 1 = omega (arith, high) in w))
 
-passing : (place : ℕ) (es : List Entry) → AllByRecursion (λ (e : Entry). e.commit ≤ place) es → AllByRecursion (λ (e : Entry). nat_le e.commit place ≡ true) es
+passing : (place : ℕ) (es : List Entry) → AllByRecursion (λ (e : Entry). e.commit ≤ place) es
+    → AllByRecursion (λ (e : Entry). nat_le e.commit place ≡ true) es
 passing place [] p = tt
 passing place (e ∷ es) p = (le-leb e.commit place p.0, passing place es p.1)
 
-failing : (place : ℕ) (es : List Entry) → AllByRecursion (λ (e : Entry). place + 1 ≤ e.commit) es → AllByRecursion (λ (e : Entry). nat_le e.commit place ≡ false) es
+failing : (place : ℕ) (es : List Entry) → AllByRecursion (λ (e : Entry). place + 1 ≤ e.commit) es
+    → AllByRecursion (λ (e : Entry). nat_le e.commit place ≡ false) es
 failing place [] p = tt
 failing place (e ∷ es) p = (by (nat_le e.commit place) refl, failing place es p.1) where
   by : (b : Bool) → nat_le e.commit place ≡ b → b ≡ false
@@ -114,20 +119,27 @@ module _ (journal : List Commit) (m shard shards place : ℕ) (within : place �
 
   fail : AllByRecursion (λ (e : Entry). nat_le e.commit place ≡ false) back
   fail = by (later m place journal) where
-    by : (length (take place journal) ≡ place) ⊎ (drop place (take m journal) ≡ []) → AllByRecursion (λ (e : Entry). nat_le e.commit place ≡ false) back
+    by : (length (take place journal) ≡ place) ⊎ (drop place (take m journal) ≡ [])
+        → AllByRecursion (λ (e : Entry). nat_le e.commit place ≡ false) back
     by (inl e) =
         failing place back
-        (all-filter (λ (e : Entry). place + 1 ≤ e.commit) (λ e. shard_of e.group shards == shard) (entries_from (1 + length (take place journal)) (drop place (take m journal)))
+        (all-filter (λ (e : Entry). place + 1 ≤ e.commit) (λ e. shard_of e.group shards == shard)
+        (entries_from (1 + length (take place journal)) (drop place (take m journal)))
         (commits_from (place + 1) (1 + length (take place journal)) (drop place (take m journal)) (omega (arith, e))))
-    by (inr e) = subst (λ cs. AllByRecursion (λ (e : Entry). nat_le e.commit place ≡ false) (later_entries shard shards (1 + length (take place journal)) cs)) (sym e) tt
+    by (inr e) =
+        subst (λ cs. AllByRecursion (λ (e : Entry). nat_le e.commit place ≡ false)
+        (later_entries shard shards (1 + length (take place journal)) cs)) (sym e) tt
 
   -- where the test's answer changes
   pub counted_up_to : (xs : List Entry) (r : ℕ) → xs ≡ shard_list (take m journal) shard shards → r ≤ length xs
-      → (IsPartitionedBy (λ (e : Entry). nat_le e.commit place) xs → IsPartitionPoint (λ (e : Entry). nat_le e.commit place ≡ true) (λ (e : Entry). nat_le e.commit place ≡ false) xs r)
+      → (IsPartitionedBy (λ (e : Entry). nat_le e.commit place) xs → IsPartitionPoint (λ (e : Entry). nat_le e.commit place ≡ true)
+      (λ (e : Entry). nat_le e.commit place ≡ false) xs r)
       → r ≡ length (shard_list (take place journal) shard shards)
   counted_up_to xs r is bound told =
       let whole : xs ≡ shard_list (take place journal) shard shards ++ back = is ∙ split in
       let ys : List Entry = shard_list (take place journal) shard shards in
-      let at_point = subst (λ zs. IsPartitionPoint (λ (e : Entry). nat_le e.commit place ≡ true) (λ (e : Entry). nat_le e.commit place ≡ false) zs r) whole
-      (told (subst (IsPartitionedBy (λ (e : Entry). nat_le e.commit place)) (sym whole) (parted (λ (e : Entry). nat_le e.commit place) ys back pass fail))) in
+      let at_point = subst (λ zs. IsPartitionPoint (λ (e : Entry). nat_le e.commit place ≡ true)
+      (λ (e : Entry). nat_le e.commit place ≡ false) zs r) whole
+      (told (subst (IsPartitionedBy (λ (e : Entry). nat_le e.commit place)) (sym whole)
+      (parted (λ (e : Entry). nat_le e.commit place) ys back pass fail))) in
       point (λ (e : Entry). nat_le e.commit place) ys back r pass fail (subst (λ zs. r ≤ length zs) whole bound) at_point.0 at_point.1

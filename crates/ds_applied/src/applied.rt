@@ -96,8 +96,8 @@ impl Applied {
     fn pull_commit(&mut self, alloc: Global, commit: &Commit) -> Result<(), NoMemory>
         requires { self.old.commits + 1 < 2 ^ 64 }
         ensures ok { OnOk result (self.new ≡ record self.old {
-            commits = self.old.commits + 1;
-            lists = added self.old.shards 0 self.old.lists (commit_entries (self.old.commits + 1) commit.now);
+          commits = self.old.commits + 1;
+          lists = added self.old.shards 0 self.old.lists (commit_entries (self.old.commits + 1) commit.now);
         }) }
         ensures err { OnErr result (self.new ≡ self.old) }
     {
@@ -113,6 +113,7 @@ impl Applied {
     pub fn count(&self, shard: u32) -> u64
         requires { shard < self.now.shards }
         ensures value { result ≡ count_of self.now.counts shard }
+        ensures listed { shard < length self.now.counts }
         ensures within { count_of self.now.counts shard ≤ length (list_of self.now.lists shard) }
     {
         self.shards[shard as usize].applied() as u64
@@ -162,7 +163,7 @@ impl Applied {
         requires { AreCounts self.now.lists counts.now }
         ensures { result ≡ counted_place self.now.lists counts.now }
     {
-        let mut place = 0;
+        let mut place: u64 = 0;
         for (shard, count) in counts.iter().enumerate() {
             place = place.max(self.shards[shard].last_commit(*count as usize));
         }
@@ -175,7 +176,8 @@ impl Applied {
         requires shard { shard < self.old.shards }
         requires left { count_of self.old.counts shard < length (list_of self.old.lists shard) }
         ensures ok { OnOk result (self.new ≡ record self.old {
-            counts = raised_at shard (count_of self.old.counts shard + 1) self.old.counts }) }
+          counts = raised_at shard (count_of self.old.counts shard + 1) self.old.counts;
+        }) }
         ensures err { OnErr result (self.new ≡ self.old) }
     {
         self.shards[shard as usize].apply_one(alloc)

@@ -59,7 +59,8 @@ pub(crate) fn make_room(shards: &mut Vec<Shard>, entries: usize) -> Result<(), N
 pub(crate) fn put_all(shards: &mut Vec<Shard>, routed: Vec<Routed>)
     requires routed { All (IsRouted (length shards.old.items)) routed.items }
     requires room { All (HasRoom (length routed.items)) shards.old.items }
-    ensures entries { entries_of shards.new.items ≡ added (length shards.old.items) 0 (entries_of shards.old.items) (map entry_of routed.items) }
+    ensures entries { entries_of shards.new.items
+        ≡ added (length shards.old.items) 0 (entries_of shards.old.items) (map entry_of routed.items) }
     ensures applied { applied_of shards.new.items ≡ applied_of shards.old.items }
 {
     for one in routed {

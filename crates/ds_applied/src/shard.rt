@@ -135,8 +135,8 @@ impl Shard {
     /// How many of the entries are of the first `place` commits, by bisection.
     pub(crate) fn entries_up_to(&self, place: u64) -> usize
         ensures within { result ≤ length self.now.entries }
-        ensures value { (journal : List Commit) (m shard shards : ℕ) → self.now.entries ≡ shard_list (take m journal) shard shards → place ≤ m
-            → result ≡ length (shard_list (take place journal) shard shards) }
+        ensures value { (journal : List Commit) (m shard shards : ℕ) → self.now.entries ≡ shard_list (take m journal) shard shards
+            → place ≤ m → result ≡ length (shard_list (take place journal) shard shards) }
     {
         self.entries
             .as_slice()

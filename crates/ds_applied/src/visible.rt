@@ -4,7 +4,7 @@ ghost use Rattle.std.specs.Option.{option_copied};
 ghost use Rattle.ds_base.specs.Entities.{EntityParts};
 ghost use Rattle.ds_log.specs.declared.Entry.{Entry};
 ghost use Rattle.ds_model.specs.Results.{entity_of};
-ghost use Rattle.ds_applied.specs.ByKey.{sorted_by_key, KeysDiffer};
+ghost use Rattle.ds_applied.specs.ByKey.{joined, sorted_by_key, KeysDiffer};
 ghost use Rattle.ds_applied.specs.AppliedLists.{left_by};
 
 use crate::entity_map::EntityMap;
@@ -127,11 +127,10 @@ impl<'a> AllVisible<'a> {
     }
 }
 
-ghost use Rattle.ds_applied.specs.ByKey.{joined};
-
 /// Entities of distinct keys in the order of their keys.
 fn sorted<'a>(entities: Vec<&'a Entity>) -> Result<Vec<&'a Entity>, NoMemory>
-    ensures { KeysDiffer (map (λ e. e.now) entities.entry.items) → IfOk result (λ es. map (λ e. e.now) es.items ≡ sorted_by_key (map (λ e. e.now) entities.entry.items)) }
+    ensures { KeysDiffer (map (λ e. e.now) entities.entry.items)
+        → IfOk result (λ es. map (λ e. e.now) es.items ≡ sorted_by_key (map (λ e. e.now) entities.entry.items)) }
 {
     let mut entities = entities;
     entities.sort_by(|a, b| a.key().cmp(b.key()))?;

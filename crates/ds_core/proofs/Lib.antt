@@ -1,2 +1,10 @@
+mod Cores
+mod Grown
+mod Lifted
+mod Meetings
+mod Plans
+mod PutPlans
 mod Raises
+mod TransactionPlans
 mod TransactionRefusals
+mod WriteAnswers

@@ -22,8 +22,9 @@ use Rattle.ds_protocol.specs.Saying.{no_memory_reply}
 use Rattle.ds_core.specs.declared.effect.Effect.{Effect}
 use Rattle.ds_core.specs.declared.effect.Effect.TheVariants as effect
 use Rattle.ds_core.specs.Answered.{Tells, CallAnswered, IsPlan}
-use Rattle.ds_core.specs.Effects.{store_after, session_after}
-use Rattle.ds_core.specs.States.{StoreParts, StateParts, world}
+use Rattle.ds_core.specs.Effects.{IsAllowed, store_after, session_after}
+use Rattle.ds_core.specs.States.{StoreParts, StateParts, IsSession, Grows, world}
+use Rattle.ds_core.proofs.Grown.{grows-after, grows-same, session-after}
 
 -- the lists of a longer journal begin with those of the journal
 lists-longer : (shards : ℕ) (journal more : List Commit) (numbers : List ℕ) →
@@ -73,3 +74,32 @@ no_memory st s client number c = record {
 } where
   none : (first n : ℕ) → n ≡ 0 → [] ≡ range_with_len first n
   none first n is = ap (range_with_len first) (sym is)
+
+-- ---- what was planned is made so, or there was no memory
+
+module _ (st new : StateParts) (s t : Session) (client number : ℕ) where
+  pub performed : (c : Call) (b : Body) (e : Effect) → new ≡ record st { store = store_after e st.store } → t ≡ session_after e st.store s → IsPlan st s client c b e →
+      CallAnswered st.store new.store s t client number c (record { client = client; line = number; body = b })
+  performed c b e same_state same_session plan =
+      subst (λ (n : StateParts). CallAnswered st.store n.store s t client number c (record { client = client; line = number; body = b })) (sym same_state)
+      (subst (λ u. CallAnswered st.store (store_after e st.store) s u client number c (record { client = client; line = number; body = b })) (sym same_session)
+      (planned st s client number c b e plan))
+
+  pub unperformed : (c : Call) (reply : Reply) → new ≡ st → t ≡ s → reply ≡ no_memory_reply client number → CallAnswered st.store new.store s t client number c reply
+  unperformed c reply same_state same_session is =
+      subst (λ (n : StateParts). CallAnswered st.store n.store s t client number c reply) (sym same_state)
+      (subst (λ u. CallAnswered st.store st.store s u client number c reply) (sym same_session)
+      (subst (λ r. CallAnswered st.store st.store s s client number c r) (sym is) (no_memory st.store s client number c)))
+
+  pub seen_after : (e : Effect) → new ≡ record st { store = store_after e st.store } → t ≡ session_after e st.store s → IsAllowed e st s → IsSession st s → IsSession new t
+  seen_after e same_state same_session allowed is =
+      subst (λ n. IsSession n t) (sym same_state) (subst (λ u. IsSession (record st { store = store_after e st.store }) u) (sym same_session) (session-after e st s allowed is))
+
+  pub seen_same : new ≡ st → t ≡ s → IsSession st s → IsSession new t
+  seen_same same_state same_session is = subst (λ n. IsSession n t) (sym same_state) (subst (λ u. IsSession st u) (sym same_session) is)
+
+pub grown_by : (st new : StateParts) (e : Effect) → new ≡ record st { store = store_after e st.store } → Grows st new
+grown_by st new e same = subst (λ n. Grows st n) (sym same) (grows-after e st)
+
+pub grown_same : (st new : StateParts) → new ≡ st → Grows st new
+grown_same st new same = subst (λ n. Grows st n) (sym same) (grows-same st)

@@ -1,5 +1,5 @@
 -- Raising the counts that a session has seen.
-use Rattle.std.proofs.Common.{◌≡◌, ℕ, zero, suc, ◌+◌, ◌<◌, ◌≤◌, List, [], ◌∷◌, length, refl, ap, sym, ◌∙◌, arith, get_or}
+use Rattle.std.proofs.Common.{◌≡◌, ◌≢◌, ℕ, zero, suc, ◌+◌, ◌<◌, ◌≤◌, List, [], ◌∷◌, length, refl, ap, sym, ◌∙◌, subst, arith, get_or, below_more, get_or-set_other, get_or-set_same}
 use Rattle.std.specs.Prelude.{max}
 use Rattle.std.proofs.Math.ListN.{set}
 use Rattle.ds_model.specs.Sessions.{greater_counts, raised_at}
@@ -38,3 +38,24 @@ greater-done (c ∷ cs) (o ∷ os) low =
     let first : o ≤ c = low zero (omega arith) (omega arith) in
     ap (λ n. n ∷ greater_counts cs os) (let e : max c o ≡ c = omega arith in e)
     ∙ ap (λ ns. c ∷ ns) (greater-done cs os (λ k below within. low (suc k) (omega arith) (omega arith)))
+
+-- one place more is raised
+pub greater-raised : (all cs os : List ℕ) (i : ℕ) (ds : List ℕ) → greater_counts cs os ≡ greater_counts all os → ((k : ℕ) → k < i → get_or os k 0 ≤ get_or cs k 0) →
+    i < length cs → i < length os → get_or cs i 0 < get_or os i 0 → ds ≡ set cs i (get_or os i 0) →
+    (greater_counts ds os ≡ greater_counts all os) × ((k : ℕ) → k < i + 1 → get_or os k 0 ≤ get_or ds k 0)
+greater-raised all cs os i ds whole raised below within low is = (
+  ap (λ v. greater_counts v os) is ∙ greater-set cs os i below within (omega arith) ∙ whole,
+  subst (λ (v : List ℕ). (k : ℕ) → k < i + 1 → get_or os k 0 ≤ get_or v k 0) (sym is)
+  (below_more (λ k. get_or os k 0 ≤ get_or (set cs i (get_or os i 0)) k 0) i
+  (λ k h. let ne : k ≢ i = omega arith in rw get_or-set_other (raised k h))
+  (subst (λ n. get_or os i 0 ≤ n) (sym (get_or-set_same cs i (get_or os i 0) 0 below)) (omega arith))),
+)
+
+-- one place more is great enough
+pub greater-kept : (all cs os : List ℕ) (i : ℕ) (ds : List ℕ) → greater_counts cs os ≡ greater_counts all os → ((k : ℕ) → k < i → get_or os k 0 ≤ get_or cs k 0) →
+    get_or os i 0 ≤ get_or cs i 0 → ds ≡ cs →
+    (greater_counts ds os ≡ greater_counts all os) × ((k : ℕ) → k < i + 1 → get_or os k 0 ≤ get_or ds k 0)
+greater-kept all cs os i ds whole raised high is = (
+  ap (λ v. greater_counts v os) is ∙ whole,
+  subst (λ (v : List ℕ). (k : ℕ) → k < i + 1 → get_or os k 0 ≤ get_or v k 0) (sym is) (below_more (λ k. get_or os k 0 ≤ get_or cs k 0) i raised high),
+)

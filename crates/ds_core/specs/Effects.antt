@@ -68,6 +68,7 @@ pub record MayCommitWrite (w : WriteCommit) (st : StateParts) : Type 0 where
 
 -- a transaction's commit: it conflicts with nothing, touched what is there, and its ids are issued
 pub record MayCommit (draft : Commit) (st : StateParts) : Type 0 where
+  pub left : st.store.next ≤ greatest_id
   pub touched_before : All (λ touch. touch.place ≤ length st.store.journal) draft.touched
   pub issued : AreIssued st.store.next draft.writes
   pub serial : conflict_of st.store.journal draft.touched ≡ None

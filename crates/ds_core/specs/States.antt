@@ -68,7 +68,7 @@ pub record Grows (old new : StateParts) : Type 0 where
   pub counts : AreUpTo old.applied.counts new.applied.counts
 
 -- a core keeps one session per client, each of which has seen nothing that isn't there, and room for a count per shard
-pub record IsCore (st : StateParts) (sessions : List Session) (room : List ℕ) : Type 0 where
+pub record IsCore (st : StateParts) (sessions : List Session) (greatest : List ℕ) : Type 0 where
   pub clients : length sessions ≡ greatest_client + 1
   pub each : All (IsSession st) sessions
-  pub room : length room ≡ st.store.shards
+  pub room : length greatest ≡ st.store.shards

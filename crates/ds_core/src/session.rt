@@ -6,6 +6,7 @@ ghost use Rattle.ds_model.specs.Groups.{place_in, touching, touching_if, writing
 ghost use Rattle.ds_model.specs.Sessions.{first_session, greater_counts, raised_at, saw_place, saw_next, saw_entries};
 
 use crate::effect::{CountSeen, CountsSeen, GroupRead};
+use crate::meeting::zeros;
 use ds_base::limits::{FIRST_DRAWN_ID, MAX_WRITES};
 use ds_base::{Key, NoMemory, TryCopy};
 use ds_log::Write;
@@ -45,13 +46,9 @@ impl Session {
     pub(crate) fn first(alloc: Global, shards: u32) -> Result<Session, NoMemory>
         ensures { IfOk result (λ s. s ≡ first_session shards) }
     {
-        let mut counts = Vec::with_capacity(alloc, shards as usize)?;
-        for _shard in 0..shards {
-            counts.push(0)?;
-        }
         Ok(Session {
             place: 0,
-            counts,
+            counts: zeros(alloc, shards)?,
             next_id: FIRST_DRAWN_ID,
             transaction: None,
         })
@@ -99,6 +96,15 @@ impl Session {
         raise_at(&mut self.counts, shard, count);
     }
 
+    /// The client met others: its place and its id counter are the greatest now, and its counts no lower than theirs.
+    pub(crate) fn meet(&mut self, place: u64, next: u64, counts: &[u64])
+        ensures { self.new ≡ record self.old { place = place; counts = greater_counts self.old.counts counts.now; next_id = next } }
+    {
+        self.place = place;
+        self.next_id = next;
+        raise_all(&mut self.counts, counts);
+    }
+
     /// The client was shown a count of each shard, whatever place stands behind them.
     pub(crate) fn see_counts(&mut self, counts: &[u64])
         ensures { self.new ≡ record self.old { counts = greater_counts self.old.counts counts.now } }
@@ -110,7 +116,9 @@ impl Session {
 impl Session {
     ghost use Rattle.std.specs.Prelude.{is_some};
     ghost use Rattle.std.specs.Option.{option_copied, option_map};
+    ghost use Rattle.std.specs.Prelude.{◌∷◌, []};
     ghost use Rattle.ds_model.specs.Groups.{group_refusal, write_refusal};
+    ghost use Rattle.ds_model.specs.Refusals.{first_refusal};
     ghost use Rattle.ds_core.specs.Effects.{MayWrite};
     ghost use Rattle.ds_core.specs.Refused.{IsRefusal, is_quiet};
 
@@ -237,6 +245,18 @@ impl Session {
                 Err(refused) => Some(group_body(alloc, refused, group)),
             },
             None => None,
+        }
+    }
+
+    /// Why the transaction, if there is one, takes no write to the group; or that there is no memory to tell it.
+    pub(crate) fn refusal(&self, alloc: Global, group: Option<&Key>) -> Option<Body>
+        ensures told { IsRefusal (first_refusal (group_refusal self.now.transaction (option_copied group.entry)
+            ∷ write_refusal self.now.transaction ∷ [])) result }
+        ensures quiet { IfSome result (λ b. IsTrue (is_quiet b)) }
+    {
+        match self.group_refusal(alloc, group) {
+            Some(body) => Some(body),
+            None => self.write_refusal(),
         }
     }
 

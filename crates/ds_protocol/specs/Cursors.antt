@@ -8,7 +8,7 @@ use Rattle.ds_reply.specs.declared.reply.Body.{Body}
 use Rattle.ds_query.specs.declared.field.Field.TheVariants as field
 use Rattle.ds_model.specs.Answers.{place_found, window_of}
 use Rattle.ds_model.specs.Asked.{Search}
-use Rattle.ds_model.specs.Refusals.{Told, Nothing, Refused, BeforeFirst, Behind, Places, PlaceRead, PlacesRead, IfUnrefused, cursor_refusal, first_refusal}
+use Rattle.ds_model.specs.Refusals.{Told, Nothing, BeforeFirst, Behind, Places, PlaceRead, PlacesRead, cursor_refusal, first_refusal}
 use Rattle.ds_protocol.specs.declared.cursors.End.{End}
 use Rattle.ds_protocol.specs.declared.cursors.End.TheVariants as end
 

@@ -1,5 +1,5 @@
 //! The ends of a window, from the texts of their cursors; and the cursor of the next place.
-ghost use Rattle.std.specs.Prelude.{◌≡◌, ◌⊎◌, IfOk, IfErr, Some, All};
+ghost use Rattle.std.specs.Prelude.{◌≡◌, ◌⊎◌, ◌∷◌, [], IfOk, IfErr, Some, All};
 ghost use Rattle.std.specs.Option.{option_copied};
 ghost use Rattle.ds_model.specs.Answers.{cursor_of, place_found};
 ghost use Rattle.ds_protocol.specs.Cursors.{told, IsEnd, IsEndRefused, WindowRead, WindowRefused, window_between};
@@ -32,14 +32,23 @@ pub(crate) fn window_of(alloc: Global, branches: &[Branch], search: &Search) -> 
     ensures refused { IfErr result (λ b. (b ≡ Body.NoMemory) ⊎ WindowRefused branches.now (search_parts search.now) b) }
     ensures quiet { IfErr result IsQuiet }
 {
-    match branches {
-        [branch] => {
-            let start = end_of(alloc, branch, Field::Start, &search.start)?;
-            let end = end_of(alloc, branch, Field::End, &search.end)?;
-            Ok(window_between(start, end, search.offset, search.limit))
-        }
-        _ => Ok(window_between(End::Nothing, End::Nothing, search.offset, search.limit)),
+    if branches.len() == 1 {
+        window_in(alloc, &branches[0], search)
+    } else {
+        Ok(window_between(End::Nothing, End::Nothing, search.offset, search.limit))
     }
+}
+
+/// The window of a search in the rows of one branch.
+fn window_in(alloc: Global, branch: &Branch, search: &Search) -> Result<Window, Body>
+    ensures ok { IfOk result (WindowRead (branch.now ∷ []) (search_parts search.now)) }
+    ensures places { IfOk result (λ w. ArePlacesOf w branch.now) }
+    ensures refused { IfErr result (λ b. (b ≡ Body.NoMemory) ⊎ WindowRefused (branch.now ∷ []) (search_parts search.now) b) }
+    ensures quiet { IfErr result IsQuiet }
+{
+    let start = end_of(alloc, branch, Field::Start, &search.start)?;
+    let end = end_of(alloc, branch, Field::End, &search.end)?;
+    Ok(window_between(start, end, search.offset, search.limit))
 }
 
 /// What the text of one end stands for as a cursor of the branch.

@@ -2,6 +2,7 @@
 ghost use Rattle.std.specs.Prelude.{◌≡◌, ◌++◌, ◌∷◌, [], List, map, IfOk, unwrap_or, Some};
 ghost use Rattle.std.specs.Option.{option_copied};
 ghost use Rattle.ds_base.specs.declared.index_value.IndexValue.TheVariants.{Null};
+ghost use Rattle.ds_query.specs.Filters.{is_key_name};
 ghost use Rattle.ds_model.specs.Results.{items_of, item_of, projected_values, value_named, entity_of};
 ghost use Rattle.ds_model.specs.Rows.{value_columns};
 ghost use Rattle.ds_protocol.specs.Finishing.{AreByKey, row_parts, found, found_of};
@@ -167,12 +168,19 @@ fn value_named<'a>(
 {
     let mut slot = 0;
     for column in columns {
-        if column.name.text() != "__key__" {
-            if name.text() == column.name.text() {
-                return values.get(slot);
-            }
-            slot += 1;
+        if is_key_name(&column.name) {
+            continue;
         }
+        if name.text() == column.name.text() {
+            return values.get(slot);
+        }
+        slot += 1;
     }
     None
+}
+
+fn is_key_name(name: &TextString) -> bool
+    ensures { result ≡ is_key_name name.now }
+{
+    name.text() == "__key__"
 }

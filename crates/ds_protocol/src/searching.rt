@@ -1,14 +1,14 @@
 //! What a query or a statement searches for.
-ghost use Rattle.std.specs.Prelude.{◌≡◌, ◌⊎◌, ◌||◌, Some, None, Ok, Err, is_some, option_map, MatchOption, IfOk, IfErr};
+ghost use Rattle.std.specs.Prelude.{◌≡◌, ◌⊎◌, ℕ, Ok, Err, option_map, IfOk, IfErr, IsTrue};
 ghost use Rattle.ds_base.specs.Keys.{root_of};
 ghost use Rattle.ds_gql.specs.Statements.{statement_of};
-ghost use Rattle.ds_gql.specs.declared.statement.Bindings.{Bindings};
 ghost use Rattle.ds_request.specs.Lawful.{IsLawfulCall};
-ghost use Rattle.ds_model.specs.Asked.{search_of, has_cursors, statement_search};
+ghost use Rattle.ds_model.specs.Asked.{statement_search};
 ghost use Rattle.ds_protocol.specs.Quiet.{IsQuiet};
-ghost use Rattle.ds_protocol.specs.Searches.{search_parts, SearchRead, IsLawfulSearch, has_operands_of};
+ghost use Rattle.ds_protocol.specs.Searches.{search_parts, SearchRead, has_operands_of};
 
 use ds_base::{Key, NoMemory, TextString};
+use ds_gql::laws::statements_have_values;
 use ds_gql::{Bindings, GqlRefused, Statement, parse};
 use ds_query::Query;
 use ds_reply::Body;
@@ -100,6 +100,8 @@ fn read(alloc: Global, text: &TextString, bindings: &Bindings) -> Result<Stateme
     ensures refused { IfErr result (λ b. (b ≡ Body.NoMemory) ⊎ ((place : ℕ) × (statement_of text.now bindings.now ≡ Err place) × (b ≡ Body.BadGql place))) }
     ensures quiet { IfErr result IsQuiet }
 {
+    // A law, which does nothing: the proof alone needs it.
+    statements_have_values();
     match parse(alloc, text.text(), bindings) {
         Ok(statement) => Ok(statement),
         Err(GqlRefused::At(at)) => Err(Body::BadGql { at }),

@@ -5,4 +5,5 @@ use Rattle.ds_applied.proofs.applied.Applied.counts.Given as goal
 -- so far the counts of the first shards
 abbrev pub invariant-loop-shard : goal.invariant-loop-shard
 invariant-loop-shard l =
-    (l.counts.items ≡ applied_of (take l.shard-index l.shard-items)) × AreCounts (entries_of (take l.shard-index l.shard-items)) l.counts.items
+    (l.counts.items ≡ applied_of (take l.shard-index l.shard-items)) × AreCounts
+    (entries_of (take l.shard-index l.shard-items)) l.counts.items

@@ -9,8 +9,10 @@ invariant_of-self-in-Delete c = keyed_delete _ _ c.self.invariant c.in-Delete.ke
 
 pub returns-in-Put-clause-ok : goal.returns-in-Put-clause-ok
 returns-in-Put-clause-ok c =
-    put_applied _ _ c.self.invariant _ c.self.view_is c.in-Put.entity c.args.write.now c.put.result c.in-Put.is c.put.ensures.ok c.put.ensures.ordered
+    put_applied _ _ c.self.invariant _ c.self.view_is c.in-Put.entity c.args.write.now c.put.result c.in-Put.is c.put.ensures.ok
+    c.put.ensures.ordered
 
 pub returns-in-Delete-clause-ok : goal.returns-in-Delete-clause-ok
 returns-in-Delete-clause-ok c =
-    delete_applied _ _ c.self.invariant _ c.self.view_is c.in-Delete.key c.args.write.now c.in-Delete.is c.delete.ensures.removed c.delete.ensures.ordered
+    delete_applied _ _ c.self.invariant _ c.self.view_is c.in-Delete.key c.args.write.now c.in-Delete.is c.delete.ensures.removed
+    c.delete.ensures.ordered
