@@ -95,7 +95,7 @@ pub asked-line : (shards first i : ℕ) (lines : List Content) (line : Content) 
     after ≡ with_asked lists a.client a → AreAskedBy shards (take i (numbered first lines)) lists → AreAskedBy shards (take (i + 1) (numbered first lines)) after
 asked-line shards first i lines line lists after a is asks put so_far =
     let more : take (i + 1) (numbered first lines) ≡ take i (numbered first lines) ++ (record { number = first + i; content = line }) ∷ [] =
-        ap (λ n. take n (numbered first lines)) one_more ∙ take-numbered first i lines line is in
+    ap (λ n. take n (numbered first lines)) one_more ∙ take-numbered first i lines line is in
     subst (λ ls. AreAskedBy shards ls after) (sym more) (subst (λ ls. AreAskedBy shards (take i (numbered first lines) ++ (record { number = first + i; content = line }) ∷ []) ls) (sym put) (record {
       clients = length-with lists a.client a ∙ so_far.clients;
       each = with-from shards 0 a.client (take i (numbered first lines)) lists (record { number = first + i; content = line }) a at_zero asks so_far.each;

@@ -22,8 +22,7 @@ in_value : (digits least greatest absent n : ℕ) → least ≤ absent → absen
 in_value digits least greatest absent n low high None is = cc
 in_value digits least greatest absent n low high (Some None) is = let same : absent ≡ n = cc in (omega (arith, low, same), omega (arith, high, same))
 in_value digits least greatest absent n low high (Some (Some text)) is =
-    let both = cond_some _ (digits_value 10 text) n is in
-    (
+    let both = cond_some _ (digits_value 10 text) n is in (
       subst (λ m. least ≤ m) both.1 (leb-true least (digits_value 10 text) (right _ _ (left _ _ both.0))),
       subst (λ m. m ≤ greatest) both.1 (leb-true (digits_value 10 text) greatest (right _ _ both.0)),
     )
