@@ -5,6 +5,7 @@ mod Meetings
 mod Plans
 mod PutPlans
 mod Raises
+mod ReadPlans
 mod TransactionPlans
 mod TransactionRefusals
 mod WriteAnswers

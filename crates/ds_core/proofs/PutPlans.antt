@@ -228,7 +228,7 @@ module _ (st : StateParts) (s : Session) (client : ℕ) where
         allowed = plan.allowed;
       })
 
--- ---- what may be written
+  -- ---- what may be written
 
   pub put_writable : (e : EntityParts) → st.store.next ≤ greatest_id → refusal_of st.store.definitions s (call.Put e.key false e.properties) ≡ None → first_unissued st.store.next e.key.elems ≡ None → IsWritable st s (Put e) false
   put_writable e left none issued =
@@ -253,7 +253,7 @@ module _ (st : StateParts) (s : Session) (client : ℕ) where
       let d = refusals-none (write_refusal s.transaction) [] c.1 in
       record { group = c.0; few = d.0; left = omega arith; issued = first_unissued-rises st.store.next (st.store.next + 0) key.elems (omega arith) issued }
 
--- ---- refusals of puts and deletes
+  -- ---- refusals of puts and deletes
 
   too_many : (e : EntityParts) (count : ℕ) → most_index_rows < row_count st.store.definitions e → count ≡ min (row_count st.store.definitions e) greatest_told → row_refusal st.store.definitions e ≡ Some (body.TooManyRows count)
   too_many e count above is =

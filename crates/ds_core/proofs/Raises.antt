@@ -46,9 +46,9 @@ pub greater-raised : (all cs os : List ℕ) (i : ℕ) (ds : List ℕ) → greate
 greater-raised all cs os i ds whole raised below within low is = (
   ap (λ v. greater_counts v os) is ∙ greater-set cs os i below within (omega arith) ∙ whole,
   subst (λ (v : List ℕ). (k : ℕ) → k < i + 1 → get_or os k 0 ≤ get_or v k 0) (sym is)
-  (below_more (λ k. get_or os k 0 ≤ get_or (set cs i (get_or os i 0)) k 0) i
-  (λ k h. let ne : k ≢ i = omega arith in rw get_or-set_other (raised k h))
-  (subst (λ n. get_or os i 0 ≤ n) (sym (get_or-set_same cs i (get_or os i 0) 0 below)) (omega arith))),
+      (below_more (λ k. get_or os k 0 ≤ get_or (set cs i (get_or os i 0)) k 0) i
+      (λ k h. let ne : k ≢ i = omega arith in rw get_or-set_other (raised k h))
+      (subst (λ n. get_or os i 0 ≤ n) (sym (get_or-set_same cs i (get_or os i 0) 0 below)) (omega arith))),
 )
 
 -- one place more is great enough

@@ -1,16 +1,19 @@
 //! Reads of one entity, and what the shards apply.
-ghost use Rattle.std.specs.Prelude.{◌≡◌, ◌≤◌, ◌<◌, length, IfOk};
+ghost use Rattle.std.specs.Prelude.{◌≡◌, ◌≤◌, ◌<◌, None, Some, length, IfOk, OnOk};
 ghost use Rattle.ds_request.specs.declared.call.Call.{Call};
 ghost use Rattle.ds_model.specs.Groups.{ReadsAt, group_refusal};
 ghost use Rattle.ds_base.specs.Keys.{root_of};
 ghost use Rattle.ds_core.specs.Answered.{IsPlan};
-ghost use Rattle.ds_core.specs.Reads.{IsReached, IsPulled};
+ghost use Rattle.std.specs.Option.{option_copied};
+ghost use Rattle.ds_model.specs.Answers.{AppliedCount};
+ghost use Rattle.ds_model.specs.Sessions.{count_of, list_of};
+ghost use Rattle.ds_core.specs.Reads.{AreAllApplied, AreSeen, IsReached, IsPulled, IsSameButCounts};
 ghost use Rattle.ds_core.specs.States.{AreUpTo, IsSession};
 
 use crate::effect::{CountSeen, CountsSeen, Effect, GroupRead, Plan};
 use crate::session::Session;
 use crate::state::State;
-use ds_base::{Counts, Key, NoMemory, TryCopy};
+use ds_base::{Entity, Key, NoMemory, TryCopy};
 use ds_log::shard_of;
 use ds_reply::Body;
 use std::alloc::Global;
@@ -80,12 +83,8 @@ impl State {
         let Ok(visible) = self.applied.visible(alloc, read.shard, read.entries) else {
             return Plan::no_memory();
         };
-        let entity = match visible.get(key) {
-            Some(entity) => match entity.copy(alloc) {
-                Ok(entity) => Some(entity),
-                Err(_) => return Plan::no_memory(),
-            },
-            None => None,
+        let Ok(entity) = copy_found(alloc, visible.get(key)) else {
+            return Plan::no_memory();
         };
         Plan {
             body: Body::Get {
@@ -109,7 +108,7 @@ impl State {
         ensures store { self.new.store ≡ self.old.store }
         ensures counts { AreUpTo self.old.applied.counts self.new.applied.counts }
     {
-        let shard = shard_of(alloc, &group, self.shards)?;
+        let shard = shard_of(alloc, &group, self.applied.shards())?;
         self.pull(alloc)?;
         let entries = self.applied.entries_up_to(shard, place);
         self.applied.apply_up_to(alloc, shard, entries)?;
@@ -175,8 +174,30 @@ impl State {
         ensures counts { AreUpTo self.old.applied.counts self.new.applied.counts }
     {
         self.pull(alloc)?;
+        self.apply_listed(alloc)
+    }
+
+    /// Each shard applies all its entries of the commits that were looked at. A refusal is want of memory.
+    fn apply_listed(&mut self, alloc: Global) -> Result<(), NoMemory>
+        ensures all { OnOk result (AreAllApplied self.new) }
+        ensures kept { IsSameButCounts self.old self.new }
+        ensures counts { AreUpTo self.old.applied.counts self.new.applied.counts }
+    {
         for shard in 0..self.shards {
-            let entries = self.applied.entries(shard);
+            self.apply_shard(alloc, shard)?;
+        }
+        Ok(())
+    }
+
+    /// A shard applies all its entries. A refusal is want of memory.
+    fn apply_shard(&mut self, alloc: Global, shard: u32) -> Result<(), NoMemory>
+        requires { shard < self.old.applied.shards }
+        ensures all { OnOk result (length (list_of self.new.applied.lists shard) ≤ count_of self.new.applied.counts shard) }
+        ensures kept { IsSameButCounts self.old self.new }
+        ensures counts { AreUpTo self.old.applied.counts self.new.applied.counts }
+    {
+        let entries = self.applied.entries(shard);
+        if self.applied.count(shard) < entries {
             self.applied.apply_up_to(alloc, shard, entries)?;
         }
         Ok(())
@@ -184,14 +205,10 @@ impl State {
 
     /// How many entries each shard has applied, and the last commit among them. A refusal is want of memory.
     pub(crate) fn counts_seen(&self, alloc: Global) -> Result<CountsSeen, NoMemory>
-        ensures counts { IfOk result (λ seen. seen.counts ≡ self.now.applied.counts) }
-        ensures commit { IfOk result (λ seen. seen.commit ≡ counted_place self.now.applied.lists self.now.applied.counts) }
+        ensures { IfOk result (λ seen. AreSeen self.now seen) }
     {
         let counts = self.applied.counts(alloc)?;
-        let mut commit: u64 = 0;
-        for shard in 0..self.shards {
-            commit = commit.max(self.applied.last_commit(shard, self.applied.count(shard)));
-        }
+        let commit = self.applied.counted_place(counts.as_slice());
         Ok(CountsSeen { commit, counts })
     }
 
@@ -209,17 +226,26 @@ impl State {
         ensures store { self.new.store ≡ self.old.store }
         ensures counts { AreUpTo self.old.applied.counts self.new.applied.counts }
     {
+        // the state's invariant bounds the shards, and so the number
+        let _ = &self.shards;
         if session.in_transaction() {
             return Plan::refused(Body::InTransaction);
         }
         match self.apply_next(alloc, shard as u32) {
-            Ok(applied) => self.tell_applied(shard as u32, applied),
+            Ok(applied) => self.tell_applied(session, client, shard as u32, applied),
             Err(_) => Plan::no_memory(),
         }
     }
 
     /// Applies the next entry of a shard; false where there is none. A refusal is want of memory, and then none is applied.
-    fn apply_next(&mut self, alloc: Global, shard: u32) -> Result<bool, NoMemory> {
+    fn apply_next(&mut self, alloc: Global, shard: u32) -> Result<bool, NoMemory>
+        requires { shard < self.old.store.shards }
+        ensures applied { IfOk result (λ applied. AppliedCount applied (count_of self.old.applied.counts shard)
+            (length (list_of self.new.applied.lists shard)) (count_of self.new.applied.counts shard)) }
+        ensures pulled { OnOk result (IsPulled self.new) }
+        ensures store { self.new.store ≡ self.old.store }
+        ensures counts { AreUpTo self.old.applied.counts self.new.applied.counts }
+    {
         self.pull(alloc)?;
         if self.applied.count(shard) >= self.applied.entries(shard) {
             return Ok(false);
@@ -229,7 +255,15 @@ impl State {
     }
 
     /// Tells whether an entry was applied, and how many are.
-    fn tell_applied(&self, shard: u32, applied: bool) -> Plan {
+    fn tell_applied(&self, session: &Session, client: u32, shard: u32, applied: bool) -> Plan
+        requires seen { IsSession self.now session.now }
+        requires outside { session.now.transaction ≡ None }
+        requires pulled { IsPulled self.now }
+        requires shard { shard < self.now.store.shards }
+        requires applied { AppliedCount applied (count_of session.now.counts shard)
+            (length (list_of self.now.applied.lists shard)) (count_of self.now.applied.counts shard) }
+        ensures { IsPlan self.now session.now client (Call.Apply shard) result.body result.effect }
+    {
         let place = self.book.journal().len() as u64;
         let count = self.applied.count(shard);
         Plan {
@@ -246,5 +280,15 @@ impl State {
                 commit: self.applied.last_commit(shard, count),
             }),
         }
+    }
+}
+
+/// A copy of the entity, if there is one. A refusal is want of memory.
+fn copy_found(alloc: Global, found: Option<&Entity>) -> Result<Option<Entity>, NoMemory>
+    ensures { IfOk result (λ entity. entity ≡ option_copied found.entry) }
+{
+    match found {
+        Some(entity) => Ok(Some(entity.copy(alloc)?)),
+        None => Ok(None),
     }
 }

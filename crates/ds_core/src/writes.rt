@@ -139,13 +139,7 @@ impl State {
     }
 
     /// Its key is complete.
-    fn plan_complete(
-        &self,
-        alloc: Global,
-        session: &Session,
-        client: u32,
-        entity: Entity,
-    ) -> Plan
+    fn plan_complete(&self, alloc: Global, session: &Session, client: u32, entity: Entity) -> Plan
         requires unrefused { refusal_of self.now.store.definitions session.now (Call.Put entity.key false entity.properties) ≡ None }
         requires issued { first_unissued self.now.store.next entity.key.elems ≡ None }
         requires left { self.now.store.next ≤ greatest_id }

@@ -9,6 +9,6 @@ returns-then-counts-shard c = raised_at-set c.args.counts.now c.args.shard c.arg
 pub returns-else-shard-counts : goal.returns-else-shard-counts
 returns-else-shard-counts c =
     elim c.else-shard-counts.branch [
-      else-shard-counts-via-then-shard-counts+else-counts-shard w ↦ raised_at-same c.args.counts.now c.args.shard c.args.count (omega arith) (omega arith)
+      | else-shard-counts-via-then-shard-counts+else-counts-shard w ↦ raised_at-same c.args.counts.now c.args.shard c.args.count (omega arith) (omega arith)
       | else-shard-counts-via-else-shard-counts w ↦ raised_at-beyond c.args.counts.now c.args.shard c.args.count (omega arith)
     ]
