@@ -33,7 +33,7 @@ up_to-then (x ∷ xs) [] zs first second = absurd first
 up_to-then (x ∷ xs) (y ∷ ys) [] first second = absurd second
 up_to-then (x ∷ xs) (y ∷ ys) (z ∷ zs) first second = (omega (arith, first.0, second.0), up_to-then xs ys zs first.1 second.1)
 
-up_to-greater : (cs ds bs : List ℕ) → AreUpTo cs bs → AreUpTo ds bs → AreUpTo (greater_counts cs ds) bs
+pub up_to-greater : (cs ds bs : List ℕ) → AreUpTo cs bs → AreUpTo ds bs → AreUpTo (greater_counts cs ds) bs
 up_to-greater [] ds bs first second = first
 up_to-greater (c ∷ cs) [] bs first second = first
 up_to-greater (c ∷ cs) (d ∷ ds) [] first second = absurd first

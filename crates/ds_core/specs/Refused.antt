@@ -3,6 +3,8 @@ use Rattle.std.specs.Prelude.{◌≡◌, ◌⊎◌, Bool, true, false, Option, S
 use Rattle.ds_base.specs.Keys.{KeyParts}
 use Rattle.ds_reply.specs.declared.reply.Body.{Body}
 use Rattle.ds_reply.specs.declared.reply.Body.TheVariants as body
+use Rattle.ds_rows.specs.declared.refused.RowsRefused.{RowsRefused}
+use Rattle.ds_rows.specs.declared.refused.RowsRefused.TheVariants as rows
 use Rattle.ds_txn.specs.declared.refusals.TxnRefused.{TxnRefused}
 use Rattle.ds_txn.specs.declared.refusals.TxnRefused.TheVariants as refused
 use Rattle.ds_txn.specs.declared.refusals.WriteCause.{WriteCause}
@@ -31,3 +33,8 @@ group_body group refused.NoMemory = body.NoMemory
 abbrev pub write_body : WriteCause → Body
 write_body cause.TooManyWrites = body.TooManyWrites
 write_body cause.NoMemory = body.NoMemory
+
+-- what is told where an entity's index rows are refused
+abbrev pub rows_body : RowsRefused → Body
+rows_body (rows.TooManyRows count) = body.TooManyRows count
+rows_body rows.NoMemory = body.NoMemory

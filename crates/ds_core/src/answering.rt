@@ -64,7 +64,10 @@ impl State {
             Call::Commit => self.plan_commit(alloc, session, client),
             Call::Rollback => self.plan_rollback(session, client),
             Call::AllocateIds { count } => self.plan_allocate_ids(session, client, count),
-            _ => Plan::no_memory(),
+            Call::Get { key } => self.plan_get(alloc, session, client, &key),
+            Call::Settle => self.plan_settle(alloc, session, client),
+            Call::Apply { shard } => self.plan_apply(alloc, session, client, shard),
+            _ => self.plan_search(alloc, session, client, call),
         }
     }
 }

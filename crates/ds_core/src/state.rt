@@ -1,5 +1,5 @@
 //! The store, and what its shards have applied.
-ghost use Rattle.std.specs.Prelude.{◌≡◌, ◌≤◌, [], IfOk, OnOk, OnErr};
+ghost use Rattle.std.specs.Prelude.{◌≡◌, ◌≤◌, [], length, IfOk};
 
 use ds_applied::Applied;
 use ds_base::NoMemory;
@@ -53,6 +53,15 @@ impl State {
             book: Book::make(alloc),
             applied,
         })
+    }
+
+    /// How many shards there are, 1 to 16; each has a count.
+    pub(crate) fn shards(&self) -> u32
+        ensures value { result ≡ self.now.store.shards }
+        ensures counts { length self.now.applied.counts ≡ self.now.store.shards }
+    {
+        let _applied = self.applied.shards();
+        self.shards
     }
 
     /// The journal, moved out.

@@ -73,6 +73,8 @@ impl Core {
     pub fn meet(&mut self)
         ensures { self.new ≡ record self.old { sessions = met self.old.sessions } }
     {
+        // For the proof alone: it tells that there is a count for each shard.
+        let _shards = self.state.shards();
         meet(&mut self.sessions, &mut self.greatest);
     }
 
@@ -99,6 +101,13 @@ impl Core {
         let _reply = self
             .state
             .answer(alloc, session, client, number, call, keep, out);
+    }
+
+    /// How many shards there are, 1 to 16.
+    pub fn shards(&self) -> u32
+        ensures { result ≡ self.now.shards }
+    {
+        self.state.shards()
     }
 
     /// The journal, moved out.

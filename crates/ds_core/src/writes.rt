@@ -11,7 +11,7 @@ ghost use Rattle.ds_request.specs.Entities.{IsPut};
 ghost use Rattle.ds_model.specs.Refusals.{entity_body, group_asked, is_root, refusal_of, row_refusal};
 ghost use Rattle.ds_core.specs.Answered.{IsPlan};
 ghost use Rattle.ds_core.specs.Effects.{ids_drawn};
-ghost use Rattle.ds_core.specs.Refused.{is_quiet};
+ghost use Rattle.ds_core.specs.Refused.{is_quiet, rows_body};
 ghost use Rattle.ds_core.specs.States.{IsSession};
 ghost use Rattle.ds_core.specs.WritePlans.{IsWritable, SaysWrite};
 
@@ -65,8 +65,7 @@ impl State {
     {
         match count_rows(alloc, &self.defs, &entity) {
             Ok(_) => self.plan_counted(alloc, session, client, entity, incomplete),
-            Err(RowsRefused::TooManyRows { count }) => Plan::refused(Body::TooManyRows { count }),
-            Err(RowsRefused::NoMemory) => Plan::no_memory(),
+            Err(refused) => Plan::refused(refused_rows(refused)),
         }
     }
 
@@ -86,7 +85,7 @@ impl State {
     {
         match group_asked(alloc, entity.key(), incomplete) {
             Ok(group) => match session.refusal(alloc, group.as_ref()) {
-                Some(body) => Plan::refused(body),
+                Some(refusal) => Plan::refused(refusal),
                 None => self.plan_unrefused(alloc, session, client, entity, incomplete),
             },
             Err(_) => Plan::no_memory(),
@@ -265,6 +264,17 @@ fn refused_entity(refused: EntityRefused) -> Body
         },
         EntityRefused::TooLarge { size } => Body::TooLarge { size },
         EntityRefused::NoMemory => Body::NoMemory,
+    }
+}
+
+/// What the reply to a put says whose entity has too many index rows.
+fn refused_rows(refused: RowsRefused) -> Body
+    ensures told { result ≡ rows_body refused }
+    ensures quiet { IsTrue (is_quiet result) }
+{
+    match refused {
+        RowsRefused::TooManyRows { count } => Body::TooManyRows { count },
+        RowsRefused::NoMemory => Body::NoMemory,
     }
 }
 
