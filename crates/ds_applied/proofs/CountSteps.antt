@@ -1,14 +1,13 @@
 -- The counts of applied entries, step by step.
-use Rattle.std.proofs.Common.{◌≡◌, ℕ, zero, suc, ◌+◌, ◌-◌, ◌<◌, ◌≤◌, List, [], ◌∷◌, length, take, map, get_or, set, refl, ap, sym, ◌∙◌}
+use Rattle.std.proofs.Common.{◌≡◌, ℕ, zero, suc, ◌+◌, ◌-◌, ◌<◌, ◌≤◌, List, [], ◌∷◌, length, get_or, set, refl, ap, sym, ◌∙◌}
 use Rattle.std.proofs.Common.{arith}
-use Rattle.std.specs.Prelude.{max, slice_get, unwrap_or, fold, OnOk, OnErr, Result, Ok, Err}
+use Rattle.std.specs.Prelude.{max, OnOk, OnErr, Result, Ok, Err}
 use Rattle.std.specs.declared.alloc.AllocError.{AllocError}
 use Rattle.std.proofs.Math.Nat.{le-max_left, le-max_right, max-le, max-eq_left}
 use Rattle.std.proofs.Math.Seq.{map-set_same}
 use Rattle.std.proofs.lemmas.List.{length-set}
-use Rattle.ds_log.specs.declared.Entry.{Entry}
-use Rattle.ds_model.specs.Sessions.{count_of, list_of, last_commit, raised_at}
-use Rattle.ds_applied.specs.AppliedLists.{AppliedParts, ShardParts, entries_of, applied_of, Raised, AreCounts}
+use Rattle.ds_model.specs.Sessions.{count_of, list_of, raised_at}
+use Rattle.ds_applied.specs.AppliedLists.{AppliedParts, ShardParts, entries_of, applied_of, Raised}
 
 -- ---- one count
 
@@ -71,12 +70,6 @@ applied_raised (t ∷ ts) (suc i) d s below is =
 pub entries_kept : (ss : List ShardParts) (i : ℕ) (d s : ShardParts) → s.entries ≡ (get_or ss i d).entries
     → entries_of (set ss i s) ≡ entries_of ss
 entries_kept ss i d s same = map-set_same (λ (t : ShardParts). t.entries) ss i s d same
-
-pub count_index : (ss : List ShardParts) (i : ℕ) (s : ShardParts) → i < length ss → s ≡ get_or ss i s
-    → s.applied ≡ count_of (applied_of ss) i
-count_index [] i s below is = absurd (omega (arith, below))
-count_index (t ∷ ts) zero s below is = ap (λ (u : ShardParts). u.applied) is
-count_index (t ∷ ts) (suc i) s below is = count_index ts i s (let w : i < length ts = omega (arith, below) in w) is
 
 pub list_index : (ss : List ShardParts) (i : ℕ) (s : ShardParts) → i < length ss → s ≡ get_or ss i s → s.entries ≡ list_of (entries_of ss) i
 list_index [] i s below is = absurd (omega (arith, below))
@@ -165,16 +158,3 @@ raised_done shard count a b so_far reached =
           (let w : count ≤ count_of (raised_at shard k a.counts) shard = omega (arith, reached, ap (λ cs. count_of cs shard) counts) in w)
           i;
     })
-
--- ---- the last entry
-
-last_from : (m : ℕ) (es : List Entry) (n : ℕ) (e : Entry) → n < length es → e ≡ get_or es n e
-    → fold (λ m (f : Entry). f.commit) m (take (suc n) es) ≡ e.commit
-last_from m [] n e below is = absurd (omega (arith, below))
-last_from m (f ∷ es) zero e below is = ap (λ (g : Entry). g.commit) (sym is)
-last_from m (f ∷ es) (suc n) e below is = last_from f.commit es n e (let w : n < length es = omega (arith, below) in w) is
-
-pub last_index : (es : List Entry) (count n : ℕ) (e : Entry) → n < length es → count ≡ n + 1 → e ≡ get_or es n e
-    → e.commit ≡ last_commit (take count es)
-last_index es count n e below next is =
-    sym (ap (λ c. last_commit (take c es)) (let w : count ≡ suc n = omega (arith, next) in w) ∙ last_from 0 es n e below is)

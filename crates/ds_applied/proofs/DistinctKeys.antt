@@ -1,5 +1,5 @@
 -- What writes leave are entities with distinct keys: none of two has the other's key, and each is found by its key.
-use Rattle.std.proofs.Common.{◌≡◌, List, [], ◌∷◌, ◌++◌, refl, ap, sym, ◌∙◌, Bool, true, false, cond, not, map, Some}
+use Rattle.std.proofs.Common.{◌≡◌, List, [], ◌∷◌, ◌++◌, refl, ap, ◌∙◌, Bool, true, false, cond, not, Some}
 use Rattle.std.specs.Prelude.{filter, fold, ⊤}
 use Rattle.std.specs.Cmp.{tied_itself}
 use Rattle.std.specs.declared.cmp.Ordering.{Ordering}
@@ -133,29 +133,3 @@ pub AreFound-all : (es : List EntityParts) → KeysDiffer es → AreFound es es
 AreFound-all [] differ = tt
 AreFound-all (e ∷ es) differ =
     (ap (λ b. cond b (Some e) (entity_of es e.key)) (same_key-itself e.key), found_later e es es differ.0 (AreFound-all es differ.1))
-
-pub AreFound-filter : (p : EntityParts → Bool) (all es : List EntityParts) → AreFound all es → AreFound all (filter p es)
-AreFound-filter p all [] found = tt
-AreFound-filter p all (e ∷ es) found = by (AreFound-filter p all es found.1) (p e) where
-  by : AreFound all (filter p es) → (b : Bool) → AreFound all (cond b (e ∷ filter p es) (filter p es))
-  by rest true = (found.0, rest)
-  by rest false = rest
-
-AreFound-insert : (all es : List EntityParts) (e : EntityParts) → AreFound all es → entity_of all e.key ≡ Some e
-    → AreFound all (insert_by entity_cmp es e)
-AreFound-insert all [] e found here = (here, tt)
-AreFound-insert all (f ∷ es) e found here = by (AreFound-insert all es e found.1 here) (entity_cmp e f) where
-  by : AreFound all (insert_by entity_cmp es e) → (r : Ordering)
-      → AreFound all (match_ordering r (e ∷ f ∷ es) (e ∷ f ∷ es) (f ∷ insert_by entity_cmp es e))
-  by rest Less = (here, found)
-  by rest Equal = (here, found)
-  by rest Greater = (found.0, rest)
-
-AreFound-inserted : (all before es : List EntityParts) → AreFound all before → AreFound all es
-    → AreFound all (fold (insert_by entity_cmp) before es)
-AreFound-inserted all before [] first found = first
-AreFound-inserted all before (e ∷ es) first found =
-    AreFound-inserted all (insert_by entity_cmp before e) es (AreFound-insert all before e first found.0) found.1
-
-pub AreFound-sorted : (all es : List EntityParts) → AreFound all es → AreFound all (sorted_by_key es)
-AreFound-sorted all es found = AreFound-inserted all [] es tt found

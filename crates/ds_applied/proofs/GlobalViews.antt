@@ -1,6 +1,6 @@
 -- The entities of all shards are those of the global view: shards have no entity group in common, so what the writes of all shards
 -- leave is what those of each shard leave, side by side.
-use Rattle.std.proofs.Common.{◌≡◌, ℕ, zero, suc, ◌+◌, ◌<◌, ◌≤◌, List, [], ◌∷◌, ◌++◌, length, take, map, fold, refl, ap, sym, ◌∙◌, subst}
+use Rattle.std.proofs.Common.{◌≡◌, ℕ, zero, suc, ◌+◌, ◌<◌, ◌≤◌, List, [], ◌∷◌, ◌++◌, take, map, fold, refl, ap, sym, ◌∙◌, subst}
 use Rattle.std.proofs.Common.{Bool, true, false, cond, not}
 use Rattle.std.proofs.Common.{append_assoc, append-nil, Some, arith}
 use Rattle.std.specs.Prelude.{filter, flat_map, ◌==◌}
@@ -10,10 +10,10 @@ use Rattle.std.proofs.lemmas.Bool.{eqb-true}
 use Rattle.std.proofs.lemmas.Grind.{flat_map-append}
 use Rattle.std.proofs.lemmas.List.Sums.{fold-append}
 use Rattle.ds_base.specs.Keys.{KeyParts, root_of}
-use Rattle.ds_base.specs.KeyOrder.{key_cmp, same_key}
+use Rattle.ds_base.specs.KeyOrder.{same_key}
 use Rattle.ds_base.specs.KeyOrderLaws.{key_cmp-total, key_cmp-same}
 use Rattle.ds_base.specs.Entities.{EntityParts}
-use Rattle.ds_base.specs.Sorting.{insert_by, sorted_by}
+use Rattle.ds_base.specs.Sorting.{insert_by}
 use Rattle.std.specs.Cmp.{on_total, IsTotalOrder}
 use Rattle.ds_log.specs.declared.Commit.{Commit}
 use Rattle.ds_log.specs.declared.Entry.{Entry}
@@ -26,9 +26,9 @@ use Rattle.ds_model.specs.Results.{entity_of}
 use Rattle.ds_model.specs.Views.{counted, global_view}
 use Rattle.ds_model.specs.Worlds.{shard_lists}
 use Rattle.ds_model.proofs.GroupViews.{same_key-equal}
-use Rattle.ds_applied.specs.AppliedLists.{AppliedParts, Follows, left_by, shard_views}
+use Rattle.ds_applied.specs.AppliedLists.{AppliedParts, Follows, shard_views}
 use Rattle.ds_applied.specs.ByKey.{entity_cmp, sorted_by_key, KeysDiffer, NoneAt}
-use Rattle.ds_applied.proofs.AllOf.{all_of, all-append, all-filter, all-map, all-flat_map, all-sorted}
+use Rattle.ds_applied.proofs.AllOf.{all-append, all-filter, all-sorted}
 use Rattle.ds_applied.proofs.DistinctKeys.{AreFound, AreFound-all, KeysDiffer-after, KeysDiffer-sorted}
 use Rattle.ds_applied.proofs.SameOrder.{put-sorted}
 

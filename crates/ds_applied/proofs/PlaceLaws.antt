@@ -1,7 +1,7 @@
 -- The place that counts show: the greatest commit of the shards' last counted entries, which is one of the journal's.
-use Rattle.std.proofs.Common.{◌≡◌, ℕ, zero, suc, ◌+◌, ◌<◌, ◌≤◌, List, [], ◌∷◌, ◌++◌, length, take, map, fold, get_or, refl, ap, sym}
+use Rattle.std.proofs.Common.{◌≡◌, ℕ, zero, suc, ◌+◌, ◌<◌, ◌≤◌, List, [], ◌∷◌, length, take, map, fold, get_or, ap, sym}
 use Rattle.std.proofs.Common.{◌∙◌, subst, arith}
-use Rattle.std.specs.Prelude.{max, filter, ◌==◌}
+use Rattle.std.specs.Prelude.{max, ◌==◌}
 use Rattle.std.specs.List.{AllByRecursion, range_with_len}
 use Rattle.std.proofs.lemmas.List.{take_all}
 use Rattle.std.proofs.Math.Nat.{le-max_left, le-max_right, max-le}
@@ -10,7 +10,6 @@ use Rattle.ds_log.specs.declared.Entry.{Entry}
 use Rattle.ds_log.specs.Logs.{entries_from, shard_list}
 use Rattle.ds_log.specs.Shards.{shard_of}
 use Rattle.ds_model.specs.Sessions.{last_commit, counted_place, list_of}
-use Rattle.ds_model.specs.Worlds.{shard_lists}
 use Rattle.ds_applied.specs.AppliedLists.{AppliedParts, Follows, AreCounts}
 use Rattle.ds_applied.proofs.AllOf.{all-filter}
 use Rattle.ds_applied.proofs.UpTo.{commits_up_to}

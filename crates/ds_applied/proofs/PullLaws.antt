@@ -1,6 +1,6 @@
 -- A commit's entries put behind those of their shards, one by one, and the lists that then follow the journal.
-use Rattle.std.proofs.Common.{◌≡◌, ℕ, zero, suc, ◌+◌, ◌-◌, ◌<◌, ◌≤◌, List, [], ◌∷◌, ◌++◌, length, take, map, get_or, set, refl, ap, sym}
-use Rattle.std.proofs.Common.{◌∙◌, Bool, true, false, cond, append_assoc, append-nil, arith}
+use Rattle.std.proofs.Common.{◌≡◌, ℕ, zero, suc, ◌+◌, ◌<◌, ◌≤◌, List, [], ◌∷◌, ◌++◌, length, take, map, get_or, set, refl, ap, sym}
+use Rattle.std.proofs.Common.{◌∙◌, cond, append_assoc, append-nil, arith}
 use Rattle.std.specs.Prelude.{filter, ◌==◌, All}
 use Rattle.std.specs.List.{range_with_len}
 use Rattle.std.proofs.Math.Seq.{map-set_same}
@@ -9,12 +9,12 @@ use Rattle.std.proofs.lemmas.List.{map-set, take_more, length-take-le}
 use Rattle.std.proofs.lemmas.List.Elements.{All-set}
 use Rattle.ds_log.specs.declared.Commit.{Commit}
 use Rattle.ds_log.specs.declared.Entry.{Entry}
-use Rattle.ds_log.specs.Logs.{commit_entries, entries_from, shard_list}
+use Rattle.ds_log.specs.Logs.{commit_entries, shard_list}
 use Rattle.ds_log.specs.Shards.{shard_of}
 use Rattle.ds_model.specs.Worlds.{shard_lists}
 use Rattle.ds_applied.specs.AppliedLists.{AppliedParts, Follows, ShardParts, entries_of, applied_of}
 use Rattle.ds_applied.specs.Routing.{HasRoom, added}
-use Rattle.ds_applied.proofs.FollowLaws.{shard_list-append, later_entries}
+use Rattle.ds_applied.proofs.FollowLaws.{shard_list-append}
 
 -- ---- one entry
 

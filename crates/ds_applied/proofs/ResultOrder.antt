@@ -1,14 +1,12 @@
 -- The results of a query don't depend on the order of the entities: rows are put in one order, in which only equal rows tie.
-use Rattle.std.proofs.Common.{◌≡◌, ℕ, suc, List, [], ◌∷◌, ◌++◌, length, map, fold, refl, ap, sym, ◌∙◌, Bool, true, false, cond, append-nil}
+use Rattle.std.proofs.Common.{◌≡◌, suc, List, [], ◌∷◌, ◌++◌, length, map, fold, refl, ap, sym, ◌∙◌, Bool, true, false, cond, append-nil}
 use Rattle.std.specs.Prelude.{filter, flat_map, Option}
 use Rattle.std.specs.List.{AllByRecursion}
-use Rattle.std.specs.declared.cmp.Ordering.{Ordering}
 use Rattle.std.proofs.lemmas.List.{length-map}
 use Rattle.std.proofs.lemmas.List.Elements.{filter-append}
 use Rattle.std.proofs.lemmas.List.Sums.{fold-append}
 use Rattle.ds_base.specs.declared.column.Column.{Column}
 use Rattle.ds_base.specs.declared.index_value.IndexValue.{IndexValue}
-use Rattle.ds_base.specs.declared.results.Item.{Item}
 use Rattle.ds_base.specs.Entities.{EntityParts}
 use Rattle.ds_base.specs.Sorting.{insert_by, sorted_by}
 use Rattle.ds_bytes.specs.Rows.{RowParts}
@@ -24,7 +22,7 @@ use Rattle.ds_model.specs.Results.{first_of_each, same_mark, first_rows, is_betw
 use Rattle.ds_model.specs.Results.{query_rows, result, item_of, items_of}
 use Rattle.ds_model.specs.Rows.{rows, entity_rows, value_columns, is_found, is_within, first_value, compare_rows}
 use Rattle.ds_applied.specs.ByKey.{entity_cmp, sorted_by_key, KeysDiffer}
-use Rattle.ds_applied.proofs.AllOf.{all_of, all-append, all-filter, all-map, all-flat_map, filter-flat_map, map-flat_map}
+use Rattle.ds_applied.proofs.AllOf.{all_of, all-filter, all-map, all-flat_map, filter-flat_map, map-flat_map}
 use Rattle.ds_applied.proofs.FoundByKey.{entity_of-sorted}
 use Rattle.ds_applied.proofs.RowOrder.{IsLongRow, filled_row_cmp, filled_row-total, row-same, sorted-filled}
 use Rattle.ds_applied.proofs.SameOrder.{put-sorted}

@@ -1,10 +1,9 @@
 -- Rows of the same columns compare in a total order, in which only equal rows tie.
-use Rattle.std.proofs.Common.{◌≡◌, ℕ, suc, List, [], ◌∷◌, ◌++◌, length, map, fold, refl, ap, sym, ◌∙◌, subst, Bool, true, false, arith}
+use Rattle.std.proofs.Common.{◌≡◌, List, [], ◌∷◌, length, fold, refl, ap, ◌∙◌, subst, Bool, true, false, arith}
 use Rattle.std.specs.Cmp.{IsTotalOrder}
-use Rattle.std.specs.FinMap.{IsAntisymmetric}
 use Rattle.std.specs.List.{AllByRecursion}
 use Rattle.std.proofs.lemmas.Cmp.{then_total, on_total, back_total}
-use Rattle.std.specs.Ordering.{ordering_then, ordering_reverse, match_ordering, then_cmp, on}
+use Rattle.std.specs.Ordering.{ordering_then, match_ordering}
 use Rattle.std.specs.declared.cmp.Ordering.{Ordering}
 use Rattle.std.specs.declared.cmp.Ordering.TheVariants.{Less, Equal, Greater}
 use Rattle.ds_base.specs.declared.column.Column.{Column}
@@ -18,7 +17,7 @@ use Rattle.ds_base.specs.OrderLaws.{both_Equal}
 use Rattle.ds_base.specs.Sorting.{insert_by, sorted_by}
 use Rattle.ds_bytes.specs.EncodingLaws.{directed_cmp-same}
 use Rattle.ds_bytes.specs.Ordered.{directed_cmp}
-use Rattle.ds_bytes.specs.Rows.{RowParts, columns_cmp, row_cmp}
+use Rattle.ds_bytes.specs.Rows.{RowParts, columns_cmp}
 use Rattle.ds_cursor.specs.RowsOfColumns.{directions, key_descends}
 use Rattle.ds_model.specs.Rows.{compare_rows}
 

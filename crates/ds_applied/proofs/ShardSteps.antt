@@ -1,16 +1,14 @@
 -- What a shard keeps, step by step.
 use Rattle.std.proofs.Common.{◌≡◌, ℕ, zero, suc, ◌+◌, ◌<◌, ◌≤◌, List, [], ◌∷◌, ◌++◌, length, take, fold, get_or, refl, ap, sym, ◌∙◌}
 use Rattle.std.proofs.Common.{append_assoc, append-nil, arith}
-use Rattle.std.specs.Prelude.{flat_map}
 use Rattle.std.proofs.lemmas.List.{take_more, take_all, take-append-le}
 use Rattle.std.proofs.lemmas.List.Sums.{fold-append}
-use Rattle.std.proofs.lemmas.Grind.{flat_map-append}
 use Rattle.ds_base.specs.Entities.{EntityParts}
 use Rattle.ds_log.specs.declared.Entry.{Entry}
 use Rattle.ds_log.specs.declared.Write.{Write}
 use Rattle.ds_log.specs.After.{after, apply_write}
 use Rattle.ds_log.specs.Logs.{entry_writes}
-use Rattle.ds_applied.specs.AppliedLists.{IsShard, writes_at, left_by}
+use Rattle.ds_applied.specs.AppliedLists.{IsShard, writes_at}
 use Rattle.ds_applied.specs.ByKey.{sorted_by_key}
 
 -- ---- the entry at a place
@@ -45,9 +43,6 @@ writes_more es i below = ap (λ n. entry_writes (take n es)) (let e : i + 1 ≡ 
 
 after-append : (ws vs : List Write) → after (ws ++ vs) ≡ fold apply_write (after ws) vs
 after-append ws vs = fold-append apply_write [] ws vs
-
-pub shard_made : IsShard [] 0 0 []
-shard_made = record { within = omega arith; begun_within = omega arith; kept = refl }
 
 -- one write more
 pub shard_written : (es : List Entry) (applied begun : ℕ) (old new : List EntityParts) (w : Write) → IsShard es applied begun old
@@ -109,11 +104,3 @@ shard_pushed es e applied begun kept was = record {
 
   same : take begun (writes_at (es ++ e ∷ []) applied) ≡ take begun (writes_at es applied)
   same = (begun_same es applied was.begun_within).1
-
--- where no entry is begun, the kept entities are those of the applied entries
-pub shard_kept : (es : List Entry) (applied begun : ℕ) (kept : List EntityParts) → IsShard es applied begun kept → begun ≡ 0
-    → kept ≡ left_by es applied
-shard_kept es applied begun kept was none =
-    was.kept
-    ∙ ap (λ b. sorted_by_key (after (entry_writes (take applied es) ++ take b (writes_at es applied)))) none
-    ∙ ap (λ ws. sorted_by_key (after ws)) (append-nil (entry_writes (take applied es)))

@@ -7,7 +7,6 @@ use Rattle.std.specs.Ordering.{on}
 use Rattle.std.specs.declared.cmp.Ordering.{Ordering}
 use Rattle.std.proofs.lemmas.List.Elements.{All-nil, All-cons, All-head, All-tail}
 use Rattle.std.proofs.lemmas.List.Sorted.{IsPermutation-map, IsPermutation-trans, IsPermutation-sym, All-permutation}
-use Rattle.ds_base.specs.Keys.{KeyParts}
 use Rattle.ds_base.specs.KeyOrder.{key_cmp}
 use Rattle.ds_base.specs.KeyOrderLaws.{key_cmp-total, key_cmp-same}
 use Rattle.ds_base.specs.Entities.{EntityParts}

@@ -1,16 +1,15 @@
 -- Strong queries: a query whose branches all have one ancestor sees nothing outside of the ancestor's entity group, so it has the same
 -- results over the entities of that group's shard as over the strong view of the journal.
 use Rattle.std.proofs.Common.{◌≡◌, ℕ, zero, suc, ◌<◌, ◌≤◌, List, [], ◌∷◌, ◌++◌, length, take, drop, map, fold, refl, ap, sym, ◌∙◌}
-use Rattle.std.proofs.Common.{subst, Bool, true, false, cond, ◌&&◌, Some, None, Option, arith}
+use Rattle.std.proofs.Common.{Bool, true, false, cond, ◌&&◌, Some, None, Option, arith}
 use Rattle.std.specs.Prelude.{filter, flat_map}
-use Rattle.std.specs.Cmp.Lexicographic.{pointwise, pointwise_decides, bytes_decides}
+use Rattle.std.specs.Cmp.Lexicographic.{pointwise_decides, bytes_decides}
 use Rattle.std.specs.List.{AllByRecursion, list_all, list_any, starts_with}
 use Rattle.std.specs.Ordering.{eq_by_cmp}
 use Rattle.std.specs.Prelude.{bytes_eq}
 use Rattle.std.proofs.lemmas.Bool.{and_parts}
 use Rattle.ds_base.specs.declared.column.Column.{Column}
 use Rattle.ds_base.specs.declared.key.Elem.{Elem}
-use Rattle.ds_base.specs.declared.results.Item.{Item}
 use Rattle.ds_base.specs.Keys.{KeyParts, root_of}
 use Rattle.ds_base.specs.KeyOrder.{elem_cmp, same_key, is_ancestor}
 use Rattle.ds_base.specs.KeyOrderLaws.{same_elem-decides}
@@ -34,12 +33,12 @@ use Rattle.ds_log.specs.After.{after}
 use Rattle.ds_log.specs.Logs.{entry_writes, shard_list}
 use Rattle.ds_log.specs.Shards.{shard_of}
 use Rattle.ds_rows.specs.IndexedValues.{indexed_values, each_way}
-use Rattle.ds_model.specs.Results.{first_of_each, same_mark, first_rows, is_between, page_of, branch_results, extended, united}
+use Rattle.ds_model.specs.Results.{same_mark, first_rows, is_between, page_of, branch_results, extended, united}
 use Rattle.ds_model.specs.Results.{query_rows, result, item_of, items_of, entity_of, at_most}
 use Rattle.ds_model.specs.Rows.{rows, entity_rows, value_columns, is_found, has_kind, is_under, has_value, is_within, first_value}
 use Rattle.ds_model.specs.Rows.{compare_rows}
 use Rattle.ds_model.specs.Views.{strong_view}
-use Rattle.ds_model.proofs.GroupViews.{cut, in_group, same_key-equal}
+use Rattle.ds_model.proofs.GroupViews.{cut, in_group}
 use Rattle.ds_applied.specs.AppliedLists.{AppliedParts, Follows, entries_by, shard_view}
 use Rattle.ds_applied.specs.ByKey.{sorted_by_key}
 use Rattle.ds_applied.proofs.AllOf.{all_of, all-append, all-filter, all-map, all-flat_map, all-sorted}

@@ -1,16 +1,12 @@
 -- Strong reads: what is seen of one entity group in its shard's entities is what is seen of it in the strong view of the journal.
-use Rattle.std.proofs.Common.{◌≡◌, ℕ, ◌<◌, ◌≤◌, List, [], ◌∷◌, length, take, refl, ap, sym, ◌∙◌, Bool, true, false, cond, Some, Option}
-use Rattle.std.proofs.Common.{None}
-use Rattle.std.proofs.Common.{arith}
-use Rattle.std.specs.Prelude.{filter}
+use Rattle.std.proofs.Common.{◌≡◌, ℕ, ◌<◌, ◌≤◌, List, [], ◌∷◌, take, refl, ap, sym, ◌∙◌, Bool, true, false, cond, Some}
 use Rattle.ds_base.specs.Keys.{KeyParts, root_of}
 use Rattle.ds_base.specs.KeyOrder.{same_key}
 use Rattle.ds_base.specs.Entities.{EntityParts}
 use Rattle.ds_log.specs.declared.Commit.{Commit}
 use Rattle.ds_log.specs.declared.Entry.{Entry}
-use Rattle.ds_log.specs.declared.Write.{Write}
 use Rattle.ds_log.specs.After.{after}
-use Rattle.ds_log.specs.Logs.{group_writes, entry_writes, shard_list, writes_of}
+use Rattle.ds_log.specs.Logs.{entry_writes, shard_list, writes_of}
 use Rattle.ds_log.specs.Shards.{shard_of}
 use Rattle.ds_model.specs.Results.{entity_of}
 use Rattle.ds_model.specs.Views.{strong_view}

@@ -1,7 +1,7 @@
 -- How many entries are of the first commits, found by bisection: commits of entries ascend.
 use Rattle.std.proofs.Common.{◌≡◌, inl, inr, ℕ, zero, suc, ◌+◌, ◌<◌, ◌≤◌, List, [], ◌∷◌, ◌++◌, length, take, drop, map, get_or, refl}
-use Rattle.std.proofs.Common.{ap, sym, ◌∙◌, subst, Bool, true, false, append-nil, arith}
-use Rattle.std.specs.Prelude.{filter, ◌==◌, nat_le, ◌⊎◌}
+use Rattle.std.proofs.Common.{ap, sym, ◌∙◌, subst, Bool, true, false, arith}
+use Rattle.std.specs.Prelude.{◌==◌, nat_le, ◌⊎◌}
 use Rattle.std.specs.List.{AllByRecursion, AllWithin}
 use Rattle.std.specs.List.Sorted.{IsPartitionedBy, IsPartitionPoint}
 use Rattle.std.proofs.lemmas.Bool.{true≢false, le-leb, leb-true}

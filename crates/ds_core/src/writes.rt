@@ -39,8 +39,7 @@ impl State {
         incomplete: bool,
         properties: Properties,
     ) -> Plan
-        requires put { IsPut properties }
-        requires ends_in_id { IsTrue incomplete → IsTrue (ends_in_id key.elems) }
+        requires put { IsPut key incomplete properties }
         requires seen { IsSession self.now session.now }
         ensures { IsPlan self.now session.now client (Call.Put key incomplete properties) result.body result.effect }
     {

@@ -1,10 +1,8 @@
 use Rattle.std.proofs.Common.{rules}
-use Rattle.std.specs.Ordering.{is_lt, on}
-use Rattle.std.specs.Borrow.{Bor}
+use Rattle.std.specs.Ordering.{is_lt}
 use Rattle.std.proofs.lemmas.Fn.{always_returns_same}
 use Rattle.std.proofs.lemmas.List.MinMax.{ranks_by}
 use Rattle.ds_base.specs.KeyOrderLaws.{key_cmp-total}
-use Rattle.ds_base.specs.Entities.{EntityParts}
 use Rattle.ds_applied.specs.ByKey.{entity_cmp}
 use Rattle.ds_applied.proofs.SortedRefs.{sorted_refs}
 use Rattle.ds_applied.proofs.visible.sorted.Goals as goal

@@ -1,4 +1,4 @@
-use Rattle.std.proofs.Common.{◌≡◌, ◌<◌, ◌+◌, ◌∙◌, ap, length, subst, sym}
+use Rattle.std.proofs.Common.{◌≡◌, ◌<◌, ◌+◌, ◌∙◌, ap, subst, sym}
 use Rattle.std.specs.Prelude.{OnOk, OnErr}
 use Rattle.ds_applied.specs.AppliedLists.{AppliedParts, ShardParts}
 use Rattle.ds_applied.proofs.CountSteps.{one_applied, none_applied}

@@ -1,4 +1,4 @@
-use Rattle.std.proofs.Common.{◌≡◌, ◌<◌, ◌≤◌, rules}
+use Rattle.std.proofs.Common.{◌<◌, ◌≤◌, rules}
 use Rattle.ds_model.specs.Sessions.{count_of}
 use Rattle.ds_applied.proofs.CountSteps.{raised_begun, raised_more, raised_done, nearer}
 use Rattle.ds_applied.proofs.applied.Applied.apply_up_to.Goals as goal

@@ -1,4 +1,4 @@
-use Rattle.std.proofs.Common.{◌≡◌, ◌-◌}
+use Rattle.std.proofs.Common.{◌-◌}
 use Rattle.ds_model.specs.Sessions.{count_of}
 use Rattle.ds_applied.specs.AppliedLists.{Raised}
 use Rattle.ds_applied.proofs.applied.Applied.apply_up_to.Given as goal

@@ -1,4 +1,4 @@
-use Rattle.std.proofs.Common.{◌≡◌, ◌<◌, ◌≤◌, ◌∙◌, ap, sym, subst, length}
+use Rattle.std.proofs.Common.{◌<◌, ◌≤◌, ◌∙◌, ap, sym, subst, length}
 use Rattle.ds_model.specs.Sessions.{list_of}
 use Rattle.ds_applied.specs.AppliedLists.{AppliedParts}
 use Rattle.ds_applied.proofs.CountSteps.{list_index}

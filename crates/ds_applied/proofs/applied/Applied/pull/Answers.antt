@@ -1,4 +1,4 @@
-use Rattle.std.proofs.Common.{◌≡◌, ◌<◌, ◌≤◌, ◌∙◌, ap, length, get_or, rules, arith}
+use Rattle.std.proofs.Common.{◌≡◌, ◌<◌, ◌∙◌, ap, length, get_or, rules, arith}
 use Rattle.ds_applied.specs.AppliedLists.{AppliedParts}
 use Rattle.ds_applied.proofs.PullLaws.{follows_pulled}
 use Rattle.ds_applied.proofs.applied.Applied.pull.Goals as goal
