@@ -1,5 +1,6 @@
 -- What queries and statements are told is what the definitions answer.
-use Rattle.std.proofs.Common.{◌≡◌, ◌⊎◌, inl, inr, ℕ, suc, ◌+◌, ◌-◌, ◌<◌, ◌≤◌, Bool, true, false, List, [], ◌∷◌, ◌++◌, length, take, map, refl, ap, sym, ◌∙◌, subst, arith, Option, Some, None}
+use Rattle.std.proofs.Common.{◌≡◌, ◌⊎◌, inl, inr, ℕ, ◌+◌, ◌-◌, ◌<◌, ◌≤◌, Bool, true, false, List, [], ◌∷◌, length, take, map}
+use Rattle.std.proofs.Common.{refl, ap, sym, ◌∙◌, subst, arith, Option, Some, None}
 use Rattle.std.specs.Prelude.{Ok, Err, Result, All, is_some, max, nat_le, ◌&&◌}
 use Rattle.std.specs.Cmp.{on_total}
 use Rattle.std.specs.List.{list_all}
@@ -32,11 +33,11 @@ use Rattle.ds_reply.specs.declared.reply.Body.{Body}
 use Rattle.ds_reply.specs.declared.reply.Body.TheVariants as body
 use Rattle.ds_merge.specs.Merging.{placed, with_places}
 use Rattle.ds_applied.specs.AppliedLists.{AppliedParts, AreCounts, Follows, shard_view, shard_views}
-use Rattle.ds_applied.specs.ByKey.{KeysDiffer, entity_cmp, sorted_by_key}
+use Rattle.ds_applied.specs.ByKey.{KeysDiffer, sorted_by_key}
 use Rattle.ds_applied.proofs.GlobalResults.{global_result, global_items}
 use Rattle.ds_applied.proofs.GlobalViews.{global_differ}
 use Rattle.ds_applied.proofs.StrongResults.{HaveAncestor, strong_result, strong_items, normal_have}
-use Rattle.ds_model.specs.Answers.{BodyAnswers, CountsWithin, Finds, FoundOver, RequestAnswers, cursor_of, saw_group, window_of}
+use Rattle.ds_model.specs.Answers.{BodyAnswers, CountsWithin, Finds, FoundOver, RequestAnswers, cursor_of, window_of}
 use Rattle.ds_model.specs.Asked
 use Rattle.ds_model.specs.Asked.{search_of}
 use Rattle.ds_model.specs.Groups.{ReadsAt, group_refusal}
@@ -49,7 +50,7 @@ use Rattle.ds_model.specs.Worlds.{shard_lists}
 use Rattle.ds_protocol.specs.declared.preparing.Ready.{Ready}
 use Rattle.ds_protocol.specs.declared.searching.Search.{Search}
 use Rattle.ds_protocol.specs.Finishing.{AreByKey, found, found_of, row_parts}
-use Rattle.ds_protocol.specs.Preparing.{IsInside, IsReady, IsRefused}
+use Rattle.ds_protocol.specs.Preparing.{IsInside, IsRefused}
 use Rattle.ds_protocol.specs.Quiet.{IsQuiet}
 use Rattle.ds_protocol.specs.Searches.{IsSearchOf, search_parts}
 use Rattle.ds_protocol.proofs.SearchReplies.{search_found, search_group_refused, search_refused}
@@ -62,7 +63,7 @@ use Rattle.ds_core.specs.Effects.{session_after}
 use Rattle.ds_core.specs.Queries.{IsGroupSearch, IsPrepared, told_over}
 use Rattle.ds_core.specs.Reads.{AreSeen, IsPulled, IsReached}
 use Rattle.ds_core.specs.Refused.{IsRefusal, is_quiet}
-use Rattle.ds_core.specs.States.{AreUpTo, IsSession, IsState, StateParts, StoreParts, world}
+use Rattle.ds_core.specs.States.{AreUpTo, IsSession, IsState, StateParts, world}
 use Rattle.ds_core.proofs.Plans.{memory_as, no_ids, planned_as, quiet-tells, said}
 use Rattle.ds_core.proofs.ReadPlans.{lists_are, may_read, may_see, place_there, read_seen, shard_there, view_is_strong}
 
@@ -74,12 +75,15 @@ unplaced columns (r ∷ rs) = ap (λ xs. r ∷ xs) (unplaced columns rs)
 
 -- what is told of a page is told of the results
 pub told_page : (r : Search) (n : Normal) (w : Window) (es : List EntityParts) (rows : List Row) (next told : Option Place) (sn : Seen)
-    → record { rows = rows; next = next } ≡ with_places n.merged (result n w es) → told ≡ next → found_of r n es rows told sn ≡ told_over r n w es sn
+    → record { rows = rows; next = next } ≡ with_places n.merged (result n w es) → told ≡ next
+    → found_of r n es rows told sn ≡ told_over r n w es sn
 told_page r n w es rows next told sn page same =
-    let given : map row_parts rows ≡ (result n w es).rows = ap (λ (p : _). map row_parts p.rows) page ∙ unplaced n.merged (result n w es).rows in
+    let given : map row_parts rows ≡ (result n w es).rows = ap (λ (p : _). map row_parts p.rows) page
+    ∙ unplaced n.merged (result n w es).rows in
     let goes_on : told ≡ (result n w es).next = same ∙ ap (λ (p : _). p.next) page in
     ap (λ rs. found r.statement r.query.select (items_of n.merged r.query.select es rs) sn (cursor_of r.cursor n.branches told)) given
-    ∙ ap (λ p. found r.statement r.query.select (items_of n.merged r.query.select es (result n w es).rows) sn (cursor_of r.cursor n.branches p)) goes_on
+    ∙ ap (λ p. found r.statement r.query.select (items_of n.merged r.query.select es (result n w es).rows) sn
+    (cursor_of r.cursor n.branches p)) goes_on
 
 -- entities that were put in order stand by key
 pub by_key : (xs es : List EntityParts) → xs ≡ sorted_by_key es → AreByKey xs
@@ -89,19 +93,25 @@ pub view_by_key : (xs : List EntityParts) (lists : List (List Entry)) (shard cou
 view_by_key xs lists shard count is = by_key xs (after (entry_writes (take count (list_of lists shard)))) is
 
 -- the entities of all shards by key
-pub all_by_key : (journal : List Commit) (a : AppliedParts) (counts : List ℕ) (visible items : List EntityParts) → Follows journal a → counts ≡ a.counts
-    → visible ≡ shard_views a.lists counts → (KeysDiffer visible → items ≡ sorted_by_key visible) → items ≡ sorted_by_key (shard_views a.lists a.counts)
+pub all_by_key : (journal : List Commit) (a : AppliedParts) (counts : List ℕ) (visible items : List EntityParts) → Follows journal a
+    → counts ≡ a.counts
+    → visible ≡ shard_views a.lists counts → (KeysDiffer visible → items ≡ sorted_by_key visible)
+    → items ≡ sorted_by_key (shard_views a.lists a.counts)
 all_by_key journal a counts visible items follows same views is =
     let all : visible ≡ shard_views a.lists a.counts = views ∙ ap (shard_views a.lists) same in
     is (subst KeysDiffer (sym all) (global_differ journal a a.counts follows)) ∙ ap sorted_by_key all
 
 -- ---- what is found
 
-finds_over : (r : Search) (n : Normal) (w : Window) (places : Places) (es : List EntityParts) → n ≡ normal_form r.query → w ≡ window_of (search_parts r) places
-    → Finds (search_parts r) places es r.query.select (items_of n.merged r.query.select es (result n w es).rows) (cursor_of r.cursor n.branches (result n w es).next)
+finds_over : (r : Search) (n : Normal) (w : Window) (places : Places) (es : List EntityParts) → n ≡ normal_form r.query
+    → w ≡ window_of (search_parts r) places
+    → Finds (search_parts r) places es r.query.select (items_of n.merged r.query.select es (result n w es).rows)
+    (cursor_of r.cursor n.branches (result n w es).next)
 finds_over r n w places es normal window =
-    subst (λ (m : Normal). Finds (search_parts r) places es r.query.select (items_of m.merged r.query.select es (result m w es).rows) (cursor_of r.cursor m.branches (result m w es).next)) (sym normal)
-    (subst (λ v. Finds (search_parts r) places es r.query.select (items_of (normal_form r.query).merged r.query.select es (result (normal_form r.query) v es).rows)
+    subst (λ (m : Normal). Finds (search_parts r) places es r.query.select (items_of m.merged r.query.select es (result m w es).rows)
+    (cursor_of r.cursor m.branches (result m w es).next)) (sym normal)
+    (subst (λ v. Finds (search_parts r) places es r.query.select
+    (items_of (normal_form r.query).merged r.query.select es (result (normal_form r.query) v es).rows)
     (cursor_of r.cursor (normal_form r.query).branches (result (normal_form r.query) v es).next)) (sym window)
     (record { select = refl; exact = refl; next = refl }))
 
@@ -109,7 +119,8 @@ same_told : (r : Search) (n : Normal) (w : Window) (es fs : List EntityParts) (s
     → items_of n.merged r.query.select es (result n w fs).rows ≡ items_of n.merged r.query.select fs (result n w fs).rows
     → told_over r n w es sn ≡ told_over r n w fs sn
 same_told r n w es fs sn pages items =
-    ap (λ (p : Page). found r.statement r.query.select (items_of n.merged r.query.select es p.rows) sn (cursor_of r.cursor n.branches p.next)) pages
+    ap (λ (p : Page). found r.statement r.query.select (items_of n.merged r.query.select es p.rows) sn
+    (cursor_of r.cursor n.branches p.next)) pages
     ∙ ap (λ told. found r.statement r.query.select told sn (cursor_of r.cursor n.branches (result n w fs).next)) items
 
 counts_within : (shard : ℕ) (others : List ℕ) (lists : List (List Entry)) (counts : List ℕ) → AreUpTo others counts → AreCounts lists counts
@@ -120,7 +131,8 @@ counts_within shard [] (es ∷ lists) [] up are = absurd are
 counts_within shard [] (es ∷ lists) (n ∷ counts) up are = absurd up
 counts_within shard (c ∷ others) lists [] up are = absurd up
 counts_within shard (c ∷ others) [] (n ∷ counts) up are = absurd are
-counts_within shard (c ∷ others) (es ∷ lists) (n ∷ counts) up are = (up.0, omega arith, are.0, counts_within (shard + 1) others lists counts up.1 are.1)
+counts_within shard (c ∷ others) (es ∷ lists) (n ∷ counts) up are =
+    (up.0, omega arith, are.0, counts_within (shard + 1) others lists counts up.1 are.1)
 
 -- ---- the group of a search
 
@@ -139,7 +151,8 @@ unrefused_group refusal (inl is) = sym is
 unrefused_group refusal (inr is) = cc
 
 module _ (st : StateParts) (s : Session) (r : Search) (read : GroupRead) where
-  pub group_search : (group : KeyParts) → Some group ≡ option_map root_of r.query.ancestor → is_key group ≡ true → group_refusal s.transaction (Some group) ≡ None
+  pub group_search : (group : KeyParts) → Some group ≡ option_map root_of r.query.ancestor → is_key group ≡ true
+      → group_refusal s.transaction (Some group) ≡ None
       → ReadsAt st.store.journal s group read.place → IsReached st group read → IsGroupSearch st s r read
   group_search group is lawful allowed stands reached = by r.query.ancestor refl is where
     by : (o : Option KeyParts) → r.query.ancestor ≡ o → Some group ≡ option_map root_of o → IsGroupSearch st s r read
@@ -187,12 +200,15 @@ module _ (st : StateParts) (s : Session) (client : ℕ) (c : Call) where
     allowed = tt;
   }
 
-  pub unread_plan : (v b : Body) (e : Effect) → v ≡ b → e ≡ effect.Nothing → ((b ≡ body.NoMemory) ⊎ (search_of c ≡ Some (Err b))) → IsQuiet b → IsPlan st s client c v e
+  pub unread_plan : (v b : Body) (e : Effect) → v ≡ b → e ≡ effect.Nothing → ((b ≡ body.NoMemory) ⊎ (search_of c ≡ Some (Err b)))
+      → IsQuiet b → IsPlan st s client c v e
   unread_plan v b e told same (inl is) quiet = memory_as st s client c v e (told ∙ is) same
-  unread_plan v b e told same (inr is) quiet = planned_as st s client c v b e effect.Nothing told same (refused_so b (Err b) is (search_tells b (Err b) is quiet) (λ window. (refl, refl)))
+  unread_plan v b e told same (inr is) quiet = planned_as st s client c v b e effect.Nothing told same
+      (refused_so b (Err b) is (search_tells b (Err b) is quiet) (λ window. (refl, refl)))
 
   module _ (r : Search) (of : IsSearchOf c r) where
-    pub form_plan : (v b : Body) (e : Effect) (inside : Bool) → v ≡ b → e ≡ effect.Nothing → ((b ≡ body.NoMemory) ⊎ IsRefused st.store.definitions inside (search_parts r) b) → IsInside inside s → IsQuiet b
+    pub form_plan : (v b : Body) (e : Effect) (inside : Bool) → v ≡ b → e ≡ effect.Nothing
+        → ((b ≡ body.NoMemory) ⊎ IsRefused st.store.definitions inside (search_parts r) b) → IsInside inside s → IsQuiet b
         → IsPlan st s client c v e
     form_plan v b e inside told same (inl is) i quiet = memory_as st s client c v e (told ∙ is) same
     form_plan v b e inside told same (inr is) i quiet = planned_as st s client c v b e effect.Nothing told same
@@ -200,99 +216,133 @@ module _ (st : StateParts) (s : Session) (client : ℕ) (c : Call) where
         (λ window. search_refused (world st.store window) s c (search_parts r) inside b is i))
 
     module _ (ready : Ready) (prepared : IsPrepared st s r ready) where
-      pub group_plan : (v b : Body) (e : Effect) (group : KeyParts) → v ≡ b → e ≡ effect.Nothing → Some group ≡ option_map root_of r.query.ancestor → IsRefusal (group_refusal s.transaction (Some group)) (Some b)
+      pub group_plan : (v b : Body) (e : Effect) (group : KeyParts) → v ≡ b → e ≡ effect.Nothing
+          → Some group ≡ option_map root_of r.query.ancestor → IsRefusal (group_refusal s.transaction (Some group)) (Some b)
           → is_quiet b ≡ true → IsPlan st s client c v e
       group_plan v b e group tells same is refusal quiet = by r.query.ancestor refl is refusal where
-        by : (o : Option KeyParts) → r.query.ancestor ≡ o → Some group ≡ option_map root_of o → IsRefusal (group_refusal s.transaction (Some group)) (Some b) → IsPlan st s client c v e
+        by : (o : Option KeyParts) → r.query.ancestor ≡ o → Some group ≡ option_map root_of o
+            → IsRefusal (group_refusal s.transaction (Some group)) (Some b) → IsPlan st s client c v e
         by None has none told = cc
         by (Some ancestor) has some (inr told) = let none : b ≡ body.NoMemory = cc in memory_as st s client c v e (tells ∙ none) same
         by (Some ancestor) has some (inl told) = planned_as st s client c v b e effect.Nothing tells same
             (refused_so b (Ok (search_parts r)) of.exact (quiet-tells st.store c b quiet)
-            (λ window. search_group_refused (world st.store window) s c (search_parts r) (is_some s.transaction) ready.normal ready.window b prepared.form refl
+            (λ window. search_group_refused (world st.store window) s c (search_parts r) (is_some s.transaction) ready.normal ready.window
+            b prepared.form refl
             (ap (ancestor_group_refusal s.transaction) has
             ∙ ap (λ g. group_refusal s.transaction g) (sym some) ∙ sym told)))
 
       -- what was found is no want of memory
-      found_said : (b : Bool) (window : Option ℕ) (after : Session) (selected : Select) (results : List Item) (sn : Seen) (told : Option (List ℕ))
+      found_said : (b : Bool) (window : Option ℕ) (after : Session) (selected : Select) (results : List Item) (sn : Seen)
+          (told : Option (List ℕ))
           → RequestAnswers (world st.store window) client s c (search_of c) (found b selected results sn told) after
           → BodyAnswers (world st.store window) s (Ok (record { client = client; call = c })) (found b selected results sn told) after
       found_said true window after selected results sn told answers = answers
       found_said false window after selected results sn told answers = answers
 
-      found_quiet : (b : Bool) (selected : Select) (results : List Item) (sn : Seen) (told : Option (List ℕ)) → is_quiet (found b selected results sn told) ≡ true
+      found_quiet : (b : Bool) (selected : Select) (results : List Item) (sn : Seen) (told : Option (List ℕ))
+          → is_quiet (found b selected results sn told) ≡ true
       found_quiet true selected results sn told = refl
       found_quiet false selected results sn told = refl
 
-      found_answers : (window : Option ℕ) (after : Session) (es : List EntityParts) (sn : Seen) → ancestor_group_refusal s.transaction r.query.ancestor ≡ None
+      found_answers : (window : Option ℕ) (after : Session) (es : List EntityParts) (sn : Seen)
+          → ancestor_group_refusal s.transaction r.query.ancestor ≡ None
           → FoundOver (world st.store window) s (search_parts r) prepared.form.places r.query.ancestor r.query.select
-          (items_of ready.normal.merged r.query.select es (result ready.normal ready.window es).rows) sn (cursor_of r.cursor ready.normal.branches (result ready.normal ready.window es).next) after
-          → BodyAnswers (world st.store window) s (Ok (record { client = client; call = c })) (told_over r ready.normal ready.window es sn) after
+          (items_of ready.normal.merged r.query.select es (result ready.normal ready.window es).rows) sn
+          (cursor_of r.cursor ready.normal.branches (result ready.normal ready.window es).next) after
+          → BodyAnswers (world st.store window) s (Ok (record { client = client; call = c })) (told_over r ready.normal ready.window es sn)
+          after
       found_answers window after es sn group over =
-          found_said r.statement window after r.query.select (items_of ready.normal.merged r.query.select es (result ready.normal ready.window es).rows) sn
+          found_said r.statement window after r.query.select (items_of ready.normal.merged r.query.select es
+          (result ready.normal ready.window es).rows) sn
           (cursor_of r.cursor ready.normal.branches (result ready.normal ready.window es).next)
-          (subst (λ o. RequestAnswers (world st.store window) client s c o (told_over r ready.normal ready.window es sn) after) (sym of.exact)
+          (subst (λ o. RequestAnswers (world st.store window) client s c o (told_over r ready.normal ready.window es sn) after)
+          (sym of.exact)
           (search_found (world st.store window) s c r (is_some s.transaction) ready.normal ready.window prepared.form r.query.select
           (items_of ready.normal.merged r.query.select es (result ready.normal ready.window es).rows) sn
           (cursor_of r.cursor ready.normal.branches (result ready.normal ready.window es).next) after of refl group over))
 
       found_tells : (es : List EntityParts) (sn : Seen) → Tells st.store st.store c (told_over r ready.normal ready.window es sn)
       found_tells es sn = quiet-tells st.store c (told_over r ready.normal ready.window es sn)
-          (found_quiet r.statement r.query.select (items_of ready.normal.merged r.query.select es (result ready.normal ready.window es).rows) sn
+          (found_quiet r.statement r.query.select (items_of ready.normal.merged r.query.select es
+          (result ready.normal ready.window es).rows) sn
           (cursor_of r.cursor ready.normal.branches (result ready.normal ready.window es).next))
 
       finds_in : (es : List EntityParts) → Finds (search_parts r) prepared.form.places es r.query.select
-          (items_of ready.normal.merged r.query.select es (result ready.normal ready.window es).rows) (cursor_of r.cursor ready.normal.branches (result ready.normal ready.window es).next)
+          (items_of ready.normal.merged r.query.select es (result ready.normal ready.window es).rows)
+          (cursor_of r.cursor ready.normal.branches (result ready.normal ready.window es).next)
       finds_in es = finds_over r ready.normal ready.window prepared.form.places es prepared.form.normal_is prepared.form.window_is
 
       -- ---- in a group
 
       module _ (is : IsState st) (read : GroupRead) (g : IsGroupSearch st s r read) where
-        strong_planned : IsPlan st s client c (told_over r ready.normal ready.window (strong_view st.store.journal read.place) (seen.Place read.place)) (effect.ReadGroup read)
+        strong_planned : IsPlan st s client c (told_over r ready.normal ready.window (strong_view st.store.journal read.place)
+            (seen.Place read.place)) (effect.ReadGroup read)
         strong_planned = record {
-          answers = λ window. found_answers window (session_after (effect.ReadGroup read) st.store s) (strong_view st.store.journal read.place) (seen.Place read.place)
+          answers = λ window. found_answers window (session_after (effect.ReadGroup read) st.store s)
+              (strong_view st.store.journal read.place) (seen.Place read.place)
               (ap (ancestor_group_refusal s.transaction) g.has ∙ g.allowed)
               (subst (λ o. FoundOver (world st.store window) s (search_parts r) prepared.form.places o r.query.select
-              (items_of ready.normal.merged r.query.select (strong_view st.store.journal read.place) (result ready.normal ready.window (strong_view st.store.journal read.place)).rows)
-              (seen.Place read.place) (cursor_of r.cursor ready.normal.branches (result ready.normal ready.window (strong_view st.store.journal read.place)).next)
-              (session_after (effect.ReadGroup read) st.store s)) (sym g.has)
-              (g.stands, finds_in (strong_view st.store.journal read.place), read_seen st s client g.ancestor is read g.reached g.stands g.allowed window));
+              (items_of ready.normal.merged r.query.select (strong_view st.store.journal read.place)
+              (result ready.normal ready.window (strong_view st.store.journal read.place)).rows)
+              (seen.Place read.place) (cursor_of r.cursor ready.normal.branches
+              (result ready.normal ready.window (strong_view st.store.journal read.place)).next)
+              (session_after (effect.ReadGroup read) st.store s)) (sym g.has) (
+                g.stands,
+                finds_in (strong_view st.store.journal read.place),
+                read_seen st s client g.ancestor is read g.reached g.stands
+                    g.allowed window,
+              ));
           told = found_tells (strong_view st.store.journal read.place) (seen.Place read.place);
           allowed = may_read st s client g.ancestor is read g.reached g.stands g.allowed;
         }
 
         has_ancestor : HaveAncestor g.ancestor ready.normal.branches
-        has_ancestor = subst (λ (n : Normal). HaveAncestor g.ancestor n.branches) (sym prepared.form.normal_is) (normal_have r.query g.ancestor g.has)
+        has_ancestor = subst (λ (n : Normal). HaveAncestor g.ancestor n.branches) (sym prepared.form.normal_is)
+            (normal_have r.query g.ancestor g.has)
 
-        pub group_found : (b : Body) → b ≡ told_over r ready.normal ready.window (shard_view st.applied.lists read.shard read.entries) (seen.Place read.place)
+        pub group_found : (b : Body) → b ≡ told_over r ready.normal ready.window (shard_view st.applied.lists read.shard read.entries)
+            (seen.Place read.place)
             → IsPlan st s client c b (effect.ReadGroup read)
         group_found b told = planned_as st s client c b _ (effect.ReadGroup read) (effect.ReadGroup read)
-            (told ∙ ap (λ es. told_over r ready.normal ready.window es (seen.Place read.place)) (view_is_strong st s client g.ancestor is read g.reached g.stands g.allowed)
+            (told ∙ ap (λ es. told_over r ready.normal ready.window es (seen.Place read.place))
+            (view_is_strong st s client g.ancestor is read g.reached g.stands g.allowed)
             ∙ same_told r ready.normal ready.window _ (strong_view st.store.journal read.place) (seen.Place read.place)
-            (strong_result st.store.journal st.applied read.place g.ancestor is.follows (place_there st s client g.ancestor is read g.reached g.stands g.allowed)
+            (strong_result st.store.journal st.applied read.place g.ancestor is.follows
+            (place_there st s client g.ancestor is read g.reached g.stands g.allowed)
             (shard_there st s client g.ancestor is read g.reached g.stands g.allowed) g.some ready.normal ready.window has_ancestor)
-            (strong_items st.store.journal st.applied read.place g.ancestor is.follows (place_there st s client g.ancestor is read g.reached g.stands g.allowed)
-            (shard_there st s client g.ancestor is read g.reached g.stands g.allowed) g.some ready.normal ready.window ready.normal.merged r.query.select has_ancestor))
+            (strong_items st.store.journal st.applied read.place g.ancestor is.follows
+            (place_there st s client g.ancestor is read g.reached g.stands g.allowed)
+            (shard_there st s client g.ancestor is read g.reached g.stands g.allowed) g.some ready.normal ready.window ready.normal.merged
+            r.query.select has_ancestor))
             refl strong_planned
 
       -- ---- in all shards
 
-      module _ (is : IsState st) (pulled : IsPulled st) (none : r.query.ancestor ≡ None) (session : IsSession st s) (sees : CountsSeen) (are : AreSeen st sees) where
+      module _ (is : IsState st) (pulled : IsPulled st) (none : r.query.ancestor ≡ None) (session : IsSession st s) (sees : CountsSeen)
+          (are : AreSeen st sees) where
         abbrev shown : List ℕ
         shown = st.applied.counts
 
-        global_planned : IsPlan st s client c (told_over r ready.normal ready.window (global_view st.applied.lists shown) (seen.Counts shown)) (effect.SeeCounts sees)
+        global_planned : IsPlan st s client c (told_over r ready.normal ready.window (global_view st.applied.lists shown)
+            (seen.Counts shown)) (effect.SeeCounts sees)
         global_planned = record {
-          answers = λ window. found_answers window (session_after (effect.SeeCounts sees) st.store s) (global_view st.applied.lists shown) (seen.Counts shown)
+          answers = λ window. found_answers window (session_after (effect.SeeCounts sees) st.store s) (global_view st.applied.lists shown)
+              (seen.Counts shown)
               (ap (ancestor_group_refusal s.transaction) none)
               (subst (λ o. FoundOver (world st.store window) s (search_parts r) prepared.form.places o r.query.select
-              (items_of ready.normal.merged r.query.select (global_view st.applied.lists shown) (result ready.normal ready.window (global_view st.applied.lists shown)).rows)
-              (seen.Counts shown) (cursor_of r.cursor ready.normal.branches (result ready.normal ready.window (global_view st.applied.lists shown)).next)
+              (items_of ready.normal.merged r.query.select (global_view st.applied.lists shown)
+              (result ready.normal ready.window (global_view st.applied.lists shown)).rows)
+              (seen.Counts shown) (cursor_of r.cursor ready.normal.branches
+              (result ready.normal ready.window (global_view st.applied.lists shown)).next)
               (session_after (effect.SeeCounts sees) st.store s)) (sym none) (
                 subst (λ lists. CountsWithin (λ k. 0) 0 s.counts lists shown) (lists_are st is pulled)
-                    (counts_within 0 s.counts st.applied.lists shown session.counts_within (subst (AreCounts st.applied.lists) are.counts are.listed)),
+                    (counts_within 0 s.counts st.applied.lists shown session.counts_within
+                    (subst (AreCounts st.applied.lists) are.counts are.listed)),
                 subst (λ lists. Finds (search_parts r) prepared.form.places (global_view lists shown) r.query.select
-                    (items_of ready.normal.merged r.query.select (global_view st.applied.lists shown) (result ready.normal ready.window (global_view st.applied.lists shown)).rows)
-                    (cursor_of r.cursor ready.normal.branches (result ready.normal ready.window (global_view st.applied.lists shown)).next)) (lists_are st is pulled)
+                    (items_of ready.normal.merged r.query.select (global_view st.applied.lists shown)
+                    (result ready.normal ready.window (global_view st.applied.lists shown)).rows)
+                    (cursor_of r.cursor ready.normal.branches (result ready.normal ready.window
+                    (global_view st.applied.lists shown)).next)) (lists_are st is pulled)
                     (finds_in (global_view st.applied.lists shown)),
                 after_is,
               ));
@@ -300,7 +350,8 @@ module _ (st : StateParts) (s : Session) (client : ℕ) (c : Call) where
           allowed = may_see st s client is pulled sees are;
         } where
           commit_is : sees.commit ≡ counted_place (shard_lists st.store.shards st.store.journal) shown
-          commit_is = are.commit ∙ ap (counted_place st.applied.lists) are.counts ∙ ap (λ lists. counted_place lists shown) (lists_are st is pulled)
+          commit_is = are.commit ∙ ap (counted_place st.applied.lists) are.counts
+              ∙ ap (λ lists. counted_place lists shown) (lists_are st is pulled)
 
           after_is : session_after (effect.SeeCounts sees) st.store s ≡ saw_counts (shard_lists st.store.shards st.store.journal) shown s
           after_is = λ i. record {
@@ -310,10 +361,13 @@ module _ (st : StateParts) (s : Session) (client : ℕ) (c : Call) where
             transaction = s.transaction;
           }
 
-        pub all_found : (b : Body) → b ≡ told_over r ready.normal ready.window (sorted_by_key (shard_views st.applied.lists shown)) (seen.Counts shown)
+        pub all_found : (b : Body) → b ≡ told_over r ready.normal ready.window (sorted_by_key (shard_views st.applied.lists shown))
+            (seen.Counts shown)
             → IsPlan st s client c b (effect.SeeCounts sees)
         all_found b told = planned_as st s client c b _ (effect.SeeCounts sees) (effect.SeeCounts sees)
-            (told ∙ same_told r ready.normal ready.window (sorted_by_key (shard_views st.applied.lists shown)) (global_view st.applied.lists shown) (seen.Counts shown)
+            (told ∙ same_told r ready.normal ready.window (sorted_by_key (shard_views st.applied.lists shown))
+            (global_view st.applied.lists shown) (seen.Counts shown)
             (global_result st.store.journal st.applied shown is.follows ready.normal ready.window)
-            (global_items st.store.journal st.applied shown is.follows ready.normal.merged r.query.select (result ready.normal ready.window (global_view st.applied.lists shown)).rows))
+            (global_items st.store.journal st.applied shown is.follows ready.normal.merged r.query.select
+            (result ready.normal ready.window (global_view st.applied.lists shown)).rows))
             refl global_planned
