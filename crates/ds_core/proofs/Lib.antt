@@ -4,6 +4,7 @@ mod Lifted
 mod Meetings
 mod Plans
 mod PutPlans
+mod QueryPlans
 mod Raises
 mod ReadPlans
 mod TransactionPlans

@@ -1,6 +1,7 @@
 pub mod Answered
 pub mod Effects
 pub mod Meetings
+pub mod Queries
 pub mod Reads
 pub mod Refused
 pub mod States

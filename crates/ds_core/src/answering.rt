@@ -67,7 +67,7 @@ impl State {
             Call::Get { key } => self.plan_get(alloc, session, client, &key),
             Call::Settle => self.plan_settle(alloc, session, client),
             Call::Apply { shard } => self.plan_apply(alloc, session, client, shard),
-            _ => Plan::no_memory(),
+            _ => self.plan_search(alloc, session, client, call),
         }
     }
 }

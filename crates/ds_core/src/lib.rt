@@ -17,6 +17,7 @@ mod effect;
 mod meeting;
 mod perform;
 mod placing;
+mod queries;
 mod reads;
 mod session;
 mod state;

@@ -1,4 +1,4 @@
-use Rattle.std.proofs.Common.{◌≡◌, ap, sym, subst, ◌∙◌}
+use Rattle.std.proofs.Common.{ap, subst}
 use Rattle.ds_core.specs.States.{StateParts, AreUpTo}
 use Rattle.ds_core.proofs.Grown.{up_to-same}
 use Rattle.ds_core.proofs.ReadPlans.{between_up, shard_done}
@@ -11,7 +11,8 @@ returns-in_err-apply_up_to-clause-counts c =
 
 pub returns-in_ok-apply_up_to-clause-all : goal.returns-in_ok-apply_up_to-clause-all
 returns-in_ok-apply_up_to-clause-all c =
-    shard_done c.self.inside.applied c.apply_up_to.new.self c.args.shard c.entries-entries.result c.count.ensures.listed c.entries-entries.ensures c.in_ok-apply_up_to.ensures.ok
+    shard_done c.self.inside.applied c.apply_up_to.new.self c.args.shard c.entries-entries.result c.count.ensures.listed
+    c.entries-entries.ensures c.in_ok-apply_up_to.ensures.ok
 
 pub returns-in_ok-apply_up_to-clause-counts : goal.returns-in_ok-apply_up_to-clause-counts
 returns-in_ok-apply_up_to-clause-counts c =

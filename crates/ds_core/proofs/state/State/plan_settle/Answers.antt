@@ -6,4 +6,5 @@ pub returns-then-in_transaction-clause-counts : goal.returns-then-in_transaction
 returns-then-in_transaction-clause-counts c = up_to-same c.args.self.now.applied.counts
 
 pub tell_settled-requires-clause-seen : goal.tell_settled-requires-clause-seen
-tell_settled-requires-clause-seen c = session_kept c.args.self.now c.apply_all.new.self c.args.session.now c.apply_all.ensures.store c.apply_all.ensures.counts c.requires
+tell_settled-requires-clause-seen c = session_kept c.args.self.now c.apply_all.new.self c.args.session.now c.apply_all.ensures.store
+    c.apply_all.ensures.counts c.requires
