@@ -1,5 +1,6 @@
 -- From a plan to the reply: an answer over the journal is one over every longer journal.
-use Rattle.std.proofs.Common.{◌≡◌, ℕ, zero, suc, ◌+◌, ◌-◌, ◌<◌, ◌≤◌, List, [], ◌∷◌, ◌++◌, length, map, refl, ap, sym, ◌∙◌, subst, arith, Option, Some, None, Bool, true, false}
+use Rattle.std.proofs.Common.{◌≡◌, ℕ, zero, suc, ◌+◌, ◌-◌, ◌<◌, ◌≤◌, List, [], ◌∷◌, ◌++◌, length, map, refl, ap, sym, ◌∙◌, subst, arith}
+use Rattle.std.proofs.Common.{Option, Some, None, Bool, true, false}
 use Rattle.std.specs.Prelude.{Ok, All, filter, ◌==◌, ⊤}
 use Rattle.std.specs.List.{range_with_len}
 use Rattle.std.proofs.lemmas.List.{append-nil}
@@ -36,13 +37,15 @@ lists-longer shards journal more (shard ∷ others) = (
 )
 
 pub planned : (st : StateParts) (s : Session) (client number : ℕ) (c : Call) (b : Body) (e : Effect) → IsPlan st s client c b e →
-    CallAnswered st.store (store_after e st.store) s (session_after e st.store s) client number c (record { client = client; line = number; body = b })
+    CallAnswered st.store (store_after e st.store) s (session_after e st.store s) client number c
+    (record { client = client; line = number; body = b })
 planned st s client number c b e plan = record {
   numbered = refl;
   addressed = refl;
   said = λ window more.
       let new = store_after e st.store in
-      body-grown (world new window) more (shard_lists new.shards (new.journal ++ more)) (lists-longer new.shards new.journal more (range_with_len 0 new.shards))
+      body-grown (world new window) more (shard_lists new.shards (new.journal ++ more))
+      (lists-longer new.shards new.journal more (range_with_len 0 new.shards))
       s (Ok (record { client = client; call = c })) b (session_after e st.store s) (plan.answers window);
   told = plan.told;
 }
@@ -55,7 +58,8 @@ draws-nothing (call.Put key false properties) = refl
 draws-nothing (call.AllocateIds count) = refl
 draws-nothing _ = refl
 
-pub no_memory : (st : StoreParts) (s : Session) (client number : ℕ) (c : Call) → CallAnswered st st s s client number c (no_memory_reply client number)
+pub no_memory : (st : StoreParts) (s : Session) (client number : ℕ) (c : Call)
+    → CallAnswered st st s s client number c (no_memory_reply client number)
 no_memory st s client number c = record {
   numbered = refl;
   addressed = refl;
@@ -78,22 +82,28 @@ no_memory st s client number c = record {
 -- ---- what was planned is made so, or there was no memory
 
 module _ (st new : StateParts) (s t : Session) (client number : ℕ) where
-  pub performed : (c : Call) (b : Body) (e : Effect) → new ≡ record st { store = store_after e st.store } → t ≡ session_after e st.store s → IsPlan st s client c b e →
+  pub performed : (c : Call) (b : Body) (e : Effect) → new ≡ record st { store = store_after e st.store } → t ≡ session_after e st.store s
+      → IsPlan st s client c b e →
       CallAnswered st.store new.store s t client number c (record { client = client; line = number; body = b })
   performed c b e same_state same_session plan =
-      subst (λ (n : StateParts). CallAnswered st.store n.store s t client number c (record { client = client; line = number; body = b })) (sym same_state)
-      (subst (λ u. CallAnswered st.store (store_after e st.store) s u client number c (record { client = client; line = number; body = b })) (sym same_session)
+      subst (λ (n : StateParts). CallAnswered st.store n.store s t client number c (record { client = client; line = number; body = b }))
+      (sym same_state)
+      (subst (λ u. CallAnswered st.store (store_after e st.store) s u client number c
+      (record { client = client; line = number; body = b })) (sym same_session)
       (planned st s client number c b e plan))
 
-  pub unperformed : (c : Call) (reply : Reply) → new ≡ st → t ≡ s → reply ≡ no_memory_reply client number → CallAnswered st.store new.store s t client number c reply
+  pub unperformed : (c : Call) (reply : Reply) → new ≡ st → t ≡ s → reply ≡ no_memory_reply client number
+      → CallAnswered st.store new.store s t client number c reply
   unperformed c reply same_state same_session is =
       subst (λ (n : StateParts). CallAnswered st.store n.store s t client number c reply) (sym same_state)
       (subst (λ u. CallAnswered st.store st.store s u client number c reply) (sym same_session)
       (subst (λ r. CallAnswered st.store st.store s s client number c r) (sym is) (no_memory st.store s client number c)))
 
-  pub seen_after : (e : Effect) → new ≡ record st { store = store_after e st.store } → t ≡ session_after e st.store s → IsAllowed e st s → IsSession st s → IsSession new t
+  pub seen_after : (e : Effect) → new ≡ record st { store = store_after e st.store } → t ≡ session_after e st.store s → IsAllowed e st s
+      → IsSession st s → IsSession new t
   seen_after e same_state same_session allowed is =
-      subst (λ n. IsSession n t) (sym same_state) (subst (λ u. IsSession (record st { store = store_after e st.store }) u) (sym same_session) (session-after e st s allowed is))
+      subst (λ n. IsSession n t) (sym same_state) (subst (λ u. IsSession (record st { store = store_after e st.store }) u)
+      (sym same_session) (session-after e st s allowed is))
 
   pub seen_same : new ≡ st → t ≡ s → IsSession st s → IsSession new t
   seen_same same_state same_session is = subst (λ n. IsSession n t) (sym same_state) (subst (λ u. IsSession st u) (sym same_session) is)

@@ -1,5 +1,6 @@
 -- Plans of answers that tell no number, and the common parts of others.
-use Rattle.std.proofs.Common.{◌≡◌, ◌⊎◌, inl, inr, ℕ, ◌+◌, ◌-◌, ◌<◌, ◌≤◌, List, [], ◌∷◌, ◌++◌, length, refl, ap, sym, ◌∙◌, subst, arith, Option, Some, None, Bool, true, false}
+use Rattle.std.proofs.Common.{◌≡◌, ◌⊎◌, inl, inr, ℕ, ◌+◌, ◌-◌, ◌<◌, ◌≤◌, List, [], ◌∷◌, ◌++◌, length, refl, ap, sym, ◌∙◌, subst, arith}
+use Rattle.std.proofs.Common.{Option, Some, None, Bool, true, false}
 use Rattle.std.specs.Prelude.{Result, Ok, All}
 use Rattle.std.specs.List.{range_with_len}
 use Rattle.std.proofs.lemmas.List.{append-nil}
@@ -68,12 +69,14 @@ quiet-tells st c b quiet = record {
 
 -- ---- answers to a request that isn't a query
 
-pub said : (w : World) (s after : Session) (line : Result Request (ℕ × Body)) (b : Body) → AskedAnswers w s line b after → after ≡ s → BodyAnswers w s line b after
+pub said : (w : World) (s after : Session) (line : Result Request (ℕ × Body)) (b : Body) → AskedAnswers w s line b after → after ≡ s
+    → BodyAnswers w s line b after
 said w s after line body.NoMemory answers same = same
 said w s after line _ answers same = answers
 
 -- nothing refuses it before
-pub unrefused : (w : World) (definitions : List IndexDef) (client : ℕ) (s after : Session) (c : Call) (b : Body) → w.definitions ≡ definitions → refusal_of definitions s c ≡ None →
+pub unrefused : (w : World) (definitions : List IndexDef) (client : ℕ) (s after : Session) (c : Call) (b : Body)
+    → w.definitions ≡ definitions → refusal_of definitions s c ≡ None →
     CallAnswers w client s c b after → UnlessRefused (refusal_of w.definitions s c) s b after (CallAnswers w client s c b after)
 unrefused w definitions client s after c b same none answers =
     subst (λ o. UnlessRefused o s b after (CallAnswers w client s c b after)) (sym (ap (λ d. refusal_of d s c) same ∙ none)) answers
@@ -85,7 +88,8 @@ module _ (st : StateParts) (s : Session) (client : ℕ) (c : Call) where
   no_memory_plan = record { answers = λ window. refl; told = quiet-tells st.store c body.NoMemory refl; allowed = tt }
 
   -- what the session before decides
-  decided : (b : Body) → is_quiet b ≡ true → search_of c ≡ None → refusal_of st.store.definitions s c ≡ Some b → IsPlan st s client c b effect.Nothing
+  decided : (b : Body) → is_quiet b ≡ true → search_of c ≡ None → refusal_of st.store.definitions s c ≡ Some b
+      → IsPlan st s client c b effect.Nothing
   decided b quiet plain is = record {
     answers = λ window. said (world st.store window) s s (Ok (record { client = client; call = c })) b
         (subst (λ o. RequestAnswers (world st.store window) client s c o b s) (sym plain)
@@ -94,7 +98,8 @@ module _ (st : StateParts) (s : Session) (client : ℕ) (c : Call) where
     allowed = tt;
   }
 
-  pub refused_plan : (b : Body) → is_quiet b ≡ true → search_of c ≡ None → (refusal_of st.store.definitions s c ≡ Some b) ⊎ (b ≡ body.NoMemory) → IsPlan st s client c b effect.Nothing
+  pub refused_plan : (b : Body) → is_quiet b ≡ true → search_of c ≡ None
+      → (refusal_of st.store.definitions s c ≡ Some b) ⊎ (b ≡ body.NoMemory) → IsPlan st s client c b effect.Nothing
   refused_plan b quiet plain (inl is) = decided b quiet plain is
   refused_plan b quiet plain (inr is) = subst (λ v. IsPlan st s client c v effect.Nothing) (sym is) no_memory_plan
 
@@ -107,5 +112,7 @@ module _ (st : StateParts) (s : Session) (client : ℕ) (c : Call) where
   pub memory_as : (b : Body) (e : Effect) → b ≡ body.NoMemory → e ≡ effect.Nothing → IsPlan st s client c b e
   memory_as b e same_body same_effect = planned_as b body.NoMemory e effect.Nothing same_body same_effect no_memory_plan
 
-  pub refused_as : (b v : Body) (e : Effect) → b ≡ v → e ≡ effect.Nothing → is_quiet v ≡ true → search_of c ≡ None → (refusal_of st.store.definitions s c ≡ Some v) ⊎ (v ≡ body.NoMemory) → IsPlan st s client c b e
-  refused_as b v e same_body same_effect quiet plain is = planned_as b v e effect.Nothing same_body same_effect (refused_plan v quiet plain is)
+  pub refused_as : (b v : Body) (e : Effect) → b ≡ v → e ≡ effect.Nothing → is_quiet v ≡ true → search_of c ≡ None
+      → (refusal_of st.store.definitions s c ≡ Some v) ⊎ (v ≡ body.NoMemory) → IsPlan st s client c b e
+  refused_as b v e same_body same_effect quiet plain is = planned_as b v e effect.Nothing same_body same_effect
+      (refused_plan v quiet plain is)

@@ -1,11 +1,13 @@
 -- Raising the counts that a session has seen.
-use Rattle.std.proofs.Common.{◌≡◌, ◌≢◌, ℕ, zero, suc, ◌+◌, ◌<◌, ◌≤◌, List, [], ◌∷◌, length, refl, ap, sym, ◌∙◌, subst, arith, get_or, below_more, get_or-set_other, get_or-set_same}
+use Rattle.std.proofs.Common.{◌≡◌, ◌≢◌, ℕ, zero, suc, ◌+◌, ◌<◌, ◌≤◌, List, [], ◌∷◌, length, refl, ap, sym, ◌∙◌, subst, arith, get_or}
+use Rattle.std.proofs.Common.{below_more, get_or-set_other, get_or-set_same}
 use Rattle.std.specs.Prelude.{max}
 use Rattle.std.proofs.Math.ListN.{set}
 use Rattle.ds_model.specs.Sessions.{greater_counts, raised_at}
 
 -- the count at its place is raised
-pub raised_at-set : (cs : List ℕ) (shard count : ℕ) → shard < length cs → get_or cs shard 0 ≤ count → set cs shard count ≡ raised_at shard count cs
+pub raised_at-set : (cs : List ℕ) (shard count : ℕ) → shard < length cs → get_or cs shard 0 ≤ count
+    → set cs shard count ≡ raised_at shard count cs
 raised_at-set [] shard count below low = absurd (omega arith)
 raised_at-set (c ∷ cs) zero count below low = ap (λ n. n ∷ cs) (let e : count ≡ max c count = omega arith in e)
 raised_at-set (c ∷ cs) (suc shard) count below low = ap (λ ns. c ∷ ns) (raised_at-set cs shard count (omega arith) low)
@@ -40,7 +42,8 @@ greater-done (c ∷ cs) (o ∷ os) low =
     ∙ ap (λ ns. c ∷ ns) (greater-done cs os (λ k below within. low (suc k) (omega arith) (omega arith)))
 
 -- one place more is raised
-pub greater-raised : (all cs os : List ℕ) (i : ℕ) (ds : List ℕ) → greater_counts cs os ≡ greater_counts all os → ((k : ℕ) → k < i → get_or os k 0 ≤ get_or cs k 0) →
+pub greater-raised : (all cs os : List ℕ) (i : ℕ) (ds : List ℕ) → greater_counts cs os ≡ greater_counts all os
+    → ((k : ℕ) → k < i → get_or os k 0 ≤ get_or cs k 0) →
     i < length cs → i < length os → get_or cs i 0 < get_or os i 0 → ds ≡ set cs i (get_or os i 0) →
     (greater_counts ds os ≡ greater_counts all os) × ((k : ℕ) → k < i + 1 → get_or os k 0 ≤ get_or ds k 0)
 greater-raised all cs os i ds whole raised below within low is = (
@@ -52,10 +55,12 @@ greater-raised all cs os i ds whole raised below within low is = (
 )
 
 -- one place more is great enough
-pub greater-kept : (all cs os : List ℕ) (i : ℕ) (ds : List ℕ) → greater_counts cs os ≡ greater_counts all os → ((k : ℕ) → k < i → get_or os k 0 ≤ get_or cs k 0) →
+pub greater-kept : (all cs os : List ℕ) (i : ℕ) (ds : List ℕ) → greater_counts cs os ≡ greater_counts all os
+    → ((k : ℕ) → k < i → get_or os k 0 ≤ get_or cs k 0) →
     get_or os i 0 ≤ get_or cs i 0 → ds ≡ cs →
     (greater_counts ds os ≡ greater_counts all os) × ((k : ℕ) → k < i + 1 → get_or os k 0 ≤ get_or ds k 0)
 greater-kept all cs os i ds whole raised high is = (
   ap (λ v. greater_counts v os) is ∙ whole,
-  subst (λ (v : List ℕ). (k : ℕ) → k < i + 1 → get_or os k 0 ≤ get_or v k 0) (sym is) (below_more (λ k. get_or os k 0 ≤ get_or cs k 0) i raised high),
+  subst (λ (v : List ℕ). (k : ℕ) → k < i + 1 → get_or os k 0 ≤ get_or v k 0) (sym is)
+      (below_more (λ k. get_or os k 0 ≤ get_or cs k 0) i raised high),
 )

@@ -16,20 +16,24 @@ use Rattle.ds_model.specs.Groups as groups
 use Rattle.ds_core.specs.Refused.{group_body, write_body}
 use Rattle.ds_core.specs.Transactions.{transaction_of}
 
-new-same : (t : TxnParts) (g : Option KeyParts) → groups.new_group_refusal (transaction_of t) g ≡ option_map (group_body g) (new_group_refusal t)
+new-same : (t : TxnParts) (g : Option KeyParts) → groups.new_group_refusal (transaction_of t) g
+    ≡ option_map (group_body g) (new_group_refusal t)
 new-same t g = by t.several_groups (nat_le most_groups (length t.touched)) t.touched where
   by : (several full : Bool) (ts : List Touch) →
       cond several (cond full (Some body.TooManyGroups) None) (cond (groups.has_none ts) None (Some (body.SecondGroup g)))
-      ≡ option_map (group_body g) (cond several (cond full (Some refused.TooManyGroups) None) (cond (has_none ts) None (Some refused.SecondGroup)))
+      ≡ option_map (group_body g) (cond several (cond full (Some refused.TooManyGroups) None)
+      (cond (has_none ts) None (Some refused.SecondGroup)))
   by true true ts = refl
   by true false ts = refl
   by false full [] = refl
   by false full (t ∷ ts) = refl
 
-pub touch-same : (t : TxnParts) (g : Option KeyParts) → groups.group_refusal (Some (transaction_of t)) g ≡ option_map (group_body g) (touch_refusal t g)
+pub touch-same : (t : TxnParts) (g : Option KeyParts) → groups.group_refusal (Some (transaction_of t)) g
+    ≡ option_map (group_body g) (touch_refusal t g)
 touch-same t None = new-same t None
 touch-same t (Some g) = by (touch_place g t.touched) where
-  by : (o : Option ℕ) → groups.unless_touched o (groups.new_group_refusal (transaction_of t) (Some g)) ≡ option_map (group_body (Some g)) (cond (is_some o) None (new_group_refusal t))
+  by : (o : Option ℕ) → groups.unless_touched o (groups.new_group_refusal (transaction_of t) (Some g))
+      ≡ option_map (group_body (Some g)) (cond (is_some o) None (new_group_refusal t))
   by None = new-same t (Some g)
   by (Some p) = refl
 

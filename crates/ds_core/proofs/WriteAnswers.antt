@@ -1,5 +1,6 @@
 -- A write that nothing refuses: its commit, or its place in the transaction, is the definitions' answer.
-use Rattle.std.proofs.Common.{◌≡◌, ◌⊎◌, inl, inr, ℕ, zero, suc, ◌+◌, ◌-◌, ◌<◌, ◌≤◌, List, [], ◌∷◌, ◌++◌, length, refl, ap, sym, ◌∙◌, subst, arith, Option, Some, None, Bool, true, false, cond, length-append, get_or}
+use Rattle.std.proofs.Common.{◌≡◌, ◌⊎◌, inl, inr, ℕ, zero, suc, ◌+◌, ◌-◌, ◌<◌, ◌≤◌, List, [], ◌∷◌, ◌++◌, length, refl, ap, sym, ◌∙◌, subst}
+use Rattle.std.proofs.Common.{arith, Option, Some, None, Bool, true, false, cond, length-append, get_or}
 use Rattle.std.specs.Prelude.{max, fold, slice_get, All, nat_le, ◌&&◌}
 use Rattle.std.specs.Option.{option_map, option_or}
 use Rattle.std.proofs.lemmas.Bool.{leb-true, leb-false}
@@ -42,7 +43,8 @@ above-within bound (Id n) none = by (nat_le first_id n) (nat_le bound n) refl no
   by true false is none = let below : n < bound = leb-false bound n is in omega arith
   by false b is none = omega arith
 
-next-within : (bound : ℕ) (es : List Elem) (m : ℕ) → first_unissued bound es ≡ None → m ≤ bound → fold (λ next (e : Elem). max next (id_above e.ident)) m es ≤ bound
+next-within : (bound : ℕ) (es : List Elem) (m : ℕ) → first_unissued bound es ≡ None → m ≤ bound
+    → fold (λ next (e : Elem). max next (id_above e.ident)) m es ≤ bound
 next-within bound [] m none low = low
 next-within bound (e ∷ es) m none low =
     let both = first_none (unissued bound e.ident) (first_unissued bound es) none in
@@ -63,7 +65,8 @@ below-own bound (Id n) none = by (nat_le first_id n) (nat_le bound n) refl none 
 
 both-below : (bound : ℕ) (xs ys : List ℕ) → All (λ id. id < bound) xs → All (λ id. id < bound) ys → All (λ id. id < bound) (xs ++ ys)
 both-below bound [] ys first second = second
-both-below bound (x ∷ xs) ys first second = All-cons (λ id. id < bound) x (xs ++ ys) (first zero x (omega arith)) (both-below bound xs ys (λ k d below. first (suc k) d (omega arith)) second)
+both-below bound (x ∷ xs) ys first second = All-cons (λ id. id < bound) x (xs ++ ys) (first zero x (omega arith))
+    (both-below bound xs ys (λ k d below. first (suc k) d (omega arith)) second)
 
 pub ids-below : (bound : ℕ) (es : List Elem) → first_unissued bound es ≡ None → All (λ id. id < bound) (counter_ids es)
 ids-below bound [] none = All-nil (λ id. id < bound)
@@ -77,15 +80,18 @@ pub stands-within : (journal : List Commit) (s : Session) (o : Option ℕ) (m : 
 stands-within journal s None m h = h.within
 stands-within journal s (Some place) m h = h.1
 
-touched-within : (n : ℕ) (g : KeyParts) (ts : List Touch) (place : ℕ) → All (λ (t : Touch). t.place ≤ n) ts → Some place ≡ touch_place g ts → place ≤ n
+touched-within : (n : ℕ) (g : KeyParts) (ts : List Touch) (place : ℕ) → All (λ (t : Touch). t.place ≤ n) ts → Some place ≡ touch_place g ts
+    → place ≤ n
 touched-within n g [] place all is = cc
-touched-within n g (t ∷ ts) place all is = by (same_key g t.group) is (touched-within n g ts place (λ k d below. all (suc k) d (omega arith))) where
-  by : (b : Bool) → Some place ≡ cond b (Some t.place) (touch_place g ts) → (Some place ≡ touch_place g ts → place ≤ n) → place ≤ n
-  by true here later = let same : place ≡ t.place = cc in let within : t.place ≤ n = all zero t (omega arith) in omega arith
-  by false here later = later here
+touched-within n g (t ∷ ts) place all is = by (same_key g t.group) is
+    (touched-within n g ts place (λ k d below. all (suc k) d (omega arith))) where
+      by : (b : Bool) → Some place ≡ cond b (Some t.place) (touch_place g ts) → (Some place ≡ touch_place g ts → place ≤ n) → place ≤ n
+      by true here later = let same : place ≡ t.place = cc in let within : t.place ≤ n = all zero t (omega arith) in omega arith
+      by false here later = later here
 
 -- a group that is touched stands at its touch place
-pub stands-touched : (st : StoreParts) (s : Session) (g : KeyParts) (place : ℕ) → IsTransaction st s.transaction → Some place ≡ place_in s.transaction g → StandsAt st.journal s (place_in s.transaction g) place
+pub stands-touched : (st : StoreParts) (s : Session) (g : KeyParts) (place : ℕ) → IsTransaction st s.transaction
+    → Some place ≡ place_in s.transaction g → StandsAt st.journal s (place_in s.transaction g) place
 stands-touched st s g place is told = subst (λ o. StandsAt st.journal s o place) told (refl, by s.transaction is told) where
   by : (o : Option Transaction) → IsTransaction st o → Some place ≡ place_in o g → place ≤ length st.journal
   by None is told = cc
@@ -94,12 +100,14 @@ stands-touched st s g place is told = subst (λ o. StandsAt st.journal s o place
 -- ---- a commit by itself
 
 pub at_end : (cs : List Commit) (c : Commit) → slice_get (cs ++ c ∷ []) (length cs + 1 - 1) ≡ Some c
-at_end cs c = subst (λ i. slice_get (cs ++ c ∷ []) i ≡ Some c) (let e : length cs ≡ length cs + 1 - 1 = omega arith in e) (at_length cs) where
-  at_length : (ds : List Commit) → slice_get (ds ++ c ∷ []) (length ds) ≡ Some c
-  at_length [] = refl
-  at_length (d ∷ ds) = at_length ds
+at_end cs c = subst (λ i. slice_get (cs ++ c ∷ []) i ≡ Some c) (let e : length cs ≡ length cs + 1 - 1 = omega arith in e) (at_length cs)
+  where
+    at_length : (ds : List Commit) → slice_get (ds ++ c ∷ []) (length ds) ≡ Some c
+    at_length [] = refl
+    at_length (d ∷ ds) = at_length ds
 
-module _ (st : StateParts) (s : Session) (client : ℕ) (write : Write) (drawn : Bool) (writable : IsWritable st s write drawn) (seen : IsSession st s) where
+module _ (st : StateParts) (s : Session) (client : ℕ) (write : Write) (drawn : Bool) (writable : IsWritable st s write drawn)
+    (seen : IsSession st s) where
   abbrev own : Commit
   own = record { client = client; touched = []; writes = write ∷ [] }
 
@@ -107,18 +115,21 @@ module _ (st : StateParts) (s : Session) (client : ℕ) (write : Write) (drawn :
   counter = next_above (key_of write).elems
 
   pub commit_planned : s.transaction ≡ None →
-      IsWritePlan st s client write drawn (at.Commit (length st.store.journal + 1)) (effect.CommitWrite (record { draft = own; drawn = drawn; next = counter }))
+      IsWritePlan st s client write drawn (at.Commit (length st.store.journal + 1))
+      (effect.CommitWrite (record { draft = own; drawn = drawn; next = counter }))
   commit_planned outside = record {
     answers = λ window.
         let after = store_after (effect.CommitWrite (record { draft = own; drawn = drawn; next = counter })) st.store in
-        subst (λ o. WriteAnswers (world after window) client s o write (key_of write) (at.Commit (length st.store.journal + 1)) (saw_next counter (saw_place (length st.store.journal + 1) s)))
+        subst (λ o. WriteAnswers (world after window) client s o write (key_of write) (at.Commit (length st.store.journal + 1))
+        (saw_next counter (saw_place (length st.store.journal + 1) s)))
         (sym outside)
         (record { later = omega (arith, seen.place_within); committed = at_end st.store.journal own }, refl);
     allowed = record {
       left = writable.left;
       shown = next_above-within (st.store.next + ids_drawn drawn) (key_of write).elems writable.issued;
       untouched = refl;
-      issued = All-cons (λ w. first_unissued (st.store.next + ids_drawn drawn) (key_of w).elems ≡ None) write [] writable.issued (All-nil (λ w. first_unissued (st.store.next + ids_drawn drawn) (key_of w).elems ≡ None));
+      issued = All-cons (λ w. first_unissued (st.store.next + ids_drawn drawn) (key_of w).elems ≡ None) write [] writable.issued
+          (All-nil (λ w. first_unissued (st.store.next + ids_drawn drawn) (key_of w).elems ≡ None));
     };
     definitions = refl;
     shards = refl;
@@ -128,27 +139,42 @@ module _ (st : StateParts) (s : Session) (client : ℕ) (write : Write) (drawn :
     next = refl;
   }
 
-  pub group_planned : (t : Transaction) (group : KeyParts) (place : ℕ) → s.transaction ≡ Some t → group ≡ group_of write → StandsAt st.store.journal s (place_in s.transaction group) place →
-      IsWritePlan st s client write drawn (at.Place place) (effect.WriteGroup (record { group = group; place = place; write = write; drawn = drawn; next = counter }))
+  pub group_planned : (t : Transaction) (group : KeyParts) (place : ℕ) → s.transaction ≡ Some t → group ≡ group_of write
+      → StandsAt st.store.journal s (place_in s.transaction group) place →
+      IsWritePlan st s client write drawn (at.Place place) (effect.WriteGroup
+      (record { group = group; place = place; write = write; drawn = drawn; next = counter }))
   group_planned t group place inside is stands =
-      subst (λ g. IsWritePlan st s client write drawn (at.Place place) (effect.WriteGroup (record { group = g; place = place; write = write; drawn = drawn; next = counter }))) (sym is)
+      subst (λ g. IsWritePlan st s client write drawn (at.Place place)
+      (effect.WriteGroup (record { group = g; place = place; write = write; drawn = drawn; next = counter }))) (sym is)
       (here (subst (λ g. StandsAt st.store.journal s (place_in s.transaction g) place) is stands))
     where
       here : StandsAt st.store.journal s (place_in s.transaction (group_of write)) place →
-          IsWritePlan st s client write drawn (at.Place place) (effect.WriteGroup (record { group = group_of write; place = place; write = write; drawn = drawn; next = counter }))
+          IsWritePlan st s client write drawn (at.Place place) (effect.WriteGroup
+          (record { group = group_of write; place = place; write = write; drawn = drawn; next = counter }))
       here at_group = record {
         answers = λ window.
-            let after = store_after (effect.WriteGroup (record { group = group_of write; place = place; write = write; drawn = drawn; next = counter })) st.store in
+            let after = store_after (effect.WriteGroup (record {
+              group = group_of write;
+              place = place;
+              write = write;
+              drawn = drawn;
+              next
+                  = counter;
+            })) st.store in
             subst (λ o. WriteAnswers (world after window) client s o write (key_of write) (at.Place place)
-            (saw_next counter (saw_place place (with_transaction (option_map (λ u. writing write (touching (group_of write) place u)) o) s)))) (sym inside)
+            (saw_next counter (saw_place place (with_transaction (option_map (λ u. writing write (touching (group_of write) place u)) o)
+            s)))) (sym inside)
             (subst (λ o. StandsAt st.store.journal s (place_in o (group_of write)) place) inside at_group, refl);
         allowed = record {
           left = writable.left;
           shown = next_above-within (st.store.next + ids_drawn drawn) (key_of write).elems writable.issued;
           place = stands-within st.store.journal s (place_in s.transaction (group_of write)) place at_group;
           issued = writable.issued;
-          allowed = subst (λ o. MayWrite o (group_of write)) (sym inside)
-              (subst (λ o. group_refusal o (Some (group_of write)) ≡ None) inside writable.group, subst (λ o. write_refusal o ≡ None) inside writable.few);
+          allowed = subst (λ o. MayWrite o (group_of write)) (sym inside) (
+            subst (λ o. group_refusal o (Some (group_of write)) ≡ None) inside writable.group,
+            subst (λ o. write_refusal o ≡ None)
+                inside writable.few,
+          );
         };
         definitions = refl;
         shards = refl;
@@ -158,16 +184,23 @@ module _ (st : StateParts) (s : Session) (client : ℕ) (write : Write) (drawn :
         next = refl;
       }
 
-  pub commit_planned_as : (n next : ℕ) (draft : Commit) → s.transaction ≡ None → n ≡ length st.store.journal + 1 → next ≡ counter → draft ≡ own →
+  pub commit_planned_as : (n next : ℕ) (draft : Commit) → s.transaction ≡ None → n ≡ length st.store.journal + 1 → next ≡ counter
+      → draft ≡ own →
       IsWritePlan st s client write drawn (at.Commit n) (effect.CommitWrite (record { draft = draft; drawn = drawn; next = next }))
   commit_planned_as n next draft outside same_n same_next same_draft =
-      subst (λ m. IsWritePlan st s client write drawn (at.Commit m) (effect.CommitWrite (record { draft = draft; drawn = drawn; next = next }))) (sym same_n)
-      (subst (λ m. IsWritePlan st s client write drawn (at.Commit (length st.store.journal + 1)) (effect.CommitWrite (record { draft = draft; drawn = drawn; next = m }))) (sym same_next)
-      (subst (λ d. IsWritePlan st s client write drawn (at.Commit (length st.store.journal + 1)) (effect.CommitWrite (record { draft = d; drawn = drawn; next = counter }))) (sym same_draft)
+      subst (λ m. IsWritePlan st s client write drawn (at.Commit m)
+      (effect.CommitWrite (record { draft = draft; drawn = drawn; next = next }))) (sym same_n)
+      (subst (λ m. IsWritePlan st s client write drawn (at.Commit (length st.store.journal + 1))
+      (effect.CommitWrite (record { draft = draft; drawn = drawn; next = m }))) (sym same_next)
+      (subst (λ d. IsWritePlan st s client write drawn (at.Commit (length st.store.journal + 1))
+      (effect.CommitWrite (record { draft = d; drawn = drawn; next = counter }))) (sym same_draft)
       (commit_planned outside)))
 
-  pub group_planned_as : (t : Transaction) (group : KeyParts) (place next : ℕ) → s.transaction ≡ Some t → group ≡ group_of write → next ≡ counter → StandsAt st.store.journal s (place_in s.transaction group) place →
-      IsWritePlan st s client write drawn (at.Place place) (effect.WriteGroup (record { group = group; place = place; write = write; drawn = drawn; next = next }))
+  pub group_planned_as : (t : Transaction) (group : KeyParts) (place next : ℕ) → s.transaction ≡ Some t → group ≡ group_of write
+      → next ≡ counter → StandsAt st.store.journal s (place_in s.transaction group) place →
+      IsWritePlan st s client write drawn (at.Place place) (effect.WriteGroup
+      (record { group = group; place = place; write = write; drawn = drawn; next = next }))
   group_planned_as t group place next inside is same_next stands =
-      subst (λ m. IsWritePlan st s client write drawn (at.Place place) (effect.WriteGroup (record { group = group; place = place; write = write; drawn = drawn; next = m }))) (sym same_next)
+      subst (λ m. IsWritePlan st s client write drawn (at.Place place)
+      (effect.WriteGroup (record { group = group; place = place; write = write; drawn = drawn; next = m }))) (sym same_next)
       (group_planned t group place inside is stands)

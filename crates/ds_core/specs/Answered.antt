@@ -1,6 +1,7 @@
 -- What an answer of the core is, told of the store and of the client's session before and after it. It is what the proof of the main
 -- theorem takes from this crate; the theorem itself doesn't speak of it.
-use Rattle.std.specs.Prelude.{◌≡◌, ℕ, ◌+◌, ◌-◌, ◌<◌, ◌≤◌, Bool, true, false, List, ◌++◌, Option, Some, Ok, length, All, slice_get, slice_set}
+use Rattle.std.specs.Prelude.{◌≡◌, ℕ, ◌+◌, ◌-◌, ◌<◌, ◌≤◌, Bool, true, false, List, ◌++◌, Option, Some, Ok, length, All, slice_get}
+use Rattle.std.specs.Prelude.{slice_set}
 use Rattle.std.specs.List.{range_with_len}
 use Rattle.ds_log.specs.declared.Commit.{Commit}
 use Rattle.ds_request.specs.declared.call.Call.{Call}
@@ -35,7 +36,8 @@ pub record CallAnswered (old new : StoreParts) (before after : Session) (client 
   pub numbered : reply.line ≡ number
   pub addressed : reply.client ≡ client
   pub said : (window : Option ℕ) (more : List Commit)
-      → BodyAnswers (world (record new { journal = new.journal ++ more }) window) before (Ok (record { client = client; call = c })) reply.body after
+      → BodyAnswers (world (record new { journal = new.journal ++ more }) window) before (Ok (record { client = client; call = c }))
+      reply.body after
   pub told : Tells old new c reply.body
 
 -- a request was answered: its reply's text stands behind the text before, and of the sessions that of its client alone is another
@@ -52,6 +54,7 @@ pub record HasAnswered (old new : CoreParts) (number : ℕ) (r : Request) (text_
 -- what it gains.
 pub record IsPlan (st : StateParts) (s : Session) (client : ℕ) (c : Call) (said : Body) (change : Effect) : Type 0 where
   pub answers : (window : Option ℕ)
-      → BodyAnswers (world (store_after change st.store) window) s (Ok (record { client = client; call = c })) said (session_after change st.store s)
+      → BodyAnswers (world (store_after change st.store) window) s (Ok (record { client = client; call = c })) said
+      (session_after change st.store s)
   pub told : Tells st.store (store_after change st.store) c said
   pub allowed : IsAllowed change st s

@@ -35,9 +35,11 @@ pub record IsWritable (st : StateParts) (s : Session) (write : Write) (drawn : B
   pub issued : first_unissued (st.store.next + ids_drawn drawn) (key_of write).elems ≡ None
 
 -- where a write stands, and what it changes: the definitions' answer to it, and at most one commit more, which is acknowledged
-pub record IsWritePlan (st : StateParts) (s : Session) (client : ℕ) (write : Write) (drawn : Bool) (at : WriteAt) (change : Effect) : Type 0 where
+pub record IsWritePlan (st : StateParts) (s : Session) (client : ℕ) (write : Write) (drawn : Bool) (at : WriteAt) (change : Effect) : Type
+    0 where
   pub answers : (window : Option ℕ)
-      → WriteAnswers (world (store_after change st.store) window) client s s.transaction write (key_of write) at (session_after change st.store s)
+      → WriteAnswers (world (store_after change st.store) window) client s s.transaction write (key_of write) at
+      (session_after change st.store s)
   pub allowed : IsAllowed change st s
   pub definitions : (store_after change st.store).definitions ≡ st.store.definitions
   pub shards : (store_after change st.store).shards ≡ st.store.shards

@@ -1,6 +1,6 @@
 //! The sessions of all clients: the first ones, and how they meet.
 ghost use Rattle.std.specs.Prelude.{◌≡◌, ℕ, ◌<◌, length, map, replicate, IfOk};
-ghost use Rattle.ds_model.specs.Sessions.{Session as SessionParts, first_sessions, greater_counts, greatest_counts, greatest_next, greatest_place, met};
+ghost use Rattle.ds_model.specs.Sessions.{first_sessions, greatest_counts, greatest_next, greatest_place, met};
 ghost use Rattle.ds_core.specs.Meetings.{HaveCounts, met_at};
 
 use crate::session::{Session, raise_all};

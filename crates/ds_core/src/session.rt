@@ -162,7 +162,8 @@ impl Session {
     pub(crate) fn read_group(&mut self, read: GroupRead) -> Result<(), NoMemory>
         requires { group_refusal self.old.transaction (Some read.group) ≡ None }
         ensures ok { OnOk result (self.new
-            ≡ saw_entries read.shard read.entries (saw_place read.place (with_transaction (touching_if read.group read.place self.old.transaction) self.old))) }
+            ≡ saw_entries read.shard read.entries
+            (saw_place read.place (with_transaction (touching_if read.group read.place self.old.transaction) self.old))) }
         ensures err { OnErr result (self.new ≡ self.old) }
     {
         self.touch(read.group, read.place)?;
@@ -214,7 +215,8 @@ impl Session {
     /// The transaction touches a group and takes a write. A refusal is want of memory and changes nothing.
     pub(crate) fn write(&mut self, group: Key, place: u64, write: Write) -> Result<(), NoMemory>
         requires { MayWrite self.old.transaction group }
-        ensures ok { OnOk result (self.new ≡ with_transaction (option_map (λ t. writing write (touching group place t)) self.old.transaction) self.old) }
+        ensures ok { OnOk result (self.new
+            ≡ with_transaction (option_map (λ t. writing write (touching group place t)) self.old.transaction) self.old) }
         ensures err { OnErr result (self.new ≡ self.old) }
     {
         match &mut self.transaction {

@@ -4,4 +4,5 @@ use Rattle.ds_core.proofs.meeting.meet_at.Given as goal
 
 -- those so far have met
 abbrev pub invariant-loop-session : goal.invariant-loop-session
-invariant-loop-session l = l.sessions ≡ map (met_at l.place l.next l.counts) (take l.session-index l.fn.sessions) ++ drop l.session-index l.fn.sessions
+invariant-loop-session l = l.sessions ≡ map (met_at l.place l.next l.counts) (take l.session-index l.fn.sessions) ++ drop l.session-index
+    l.fn.sessions

@@ -7,10 +7,12 @@ pub loop-i-preserved : goal.loop-i-preserved
 loop-i-preserved c =
     elim c.if-counts-i.branch [
       | then-counts-i w ↦
-          let step = greater-raised c.args.counts.now c.loop-i.counts c.args.others.now c.loop-i.i c.if-counts-i.counts c.loop-i.invariant.whole c.loop-i.invariant.raised (omega arith) (omega arith) (omega arith) w.counts-is in
+          let step = greater-raised c.args.counts.now c.loop-i.counts c.args.others.now c.loop-i.i c.if-counts-i.counts
+          c.loop-i.invariant.whole c.loop-i.invariant.raised (omega arith) (omega arith) (omega arith) w.counts-is in
           record { whole = step.0; raised = step.1 }
       | else-counts-i w ↦
-          let step = greater-kept c.args.counts.now c.loop-i.counts c.args.others.now c.loop-i.i c.if-counts-i.counts c.loop-i.invariant.whole c.loop-i.invariant.raised (omega arith) w.counts-is in
+          let step = greater-kept c.args.counts.now c.loop-i.counts c.args.others.now c.loop-i.i c.if-counts-i.counts
+          c.loop-i.invariant.whole c.loop-i.invariant.raised (omega arith) w.counts-is in
           record { whole = step.0; raised = step.1 }
     ]
 

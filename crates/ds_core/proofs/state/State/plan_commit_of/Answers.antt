@@ -9,7 +9,8 @@ use Rattle.ds_core.proofs.state.State.plan_commit_of.Goals as goal
 
 pub returns-in-Ok-check : goal.returns-in-Ok-check
 returns-in-Ok-check c =
-    commit_planned c.args.self.now c.args.session.now c.args.client (transaction_of c.args.txn.now) c.in-Ok.draft (length c.journal.result.now + 1) c.requires.seen c.requires.inside c.in-Ok.ensures
+    commit_planned c.args.self.now c.args.session.now c.args.client (transaction_of c.args.txn.now) c.in-Ok.draft
+    (length c.journal.result.now + 1) c.requires.seen c.requires.inside c.in-Ok.ensures
     (ap (λ (cs : List Commit). length cs + 1) (c.journal.ensures.value ∙ ap (λ (st : StateParts). st.store.journal) c.self.view_is))
     (subst (λ (d : Commit). length d.writes ≤ most_writes) (c.draft.view_is ∙ c.in-Ok.ensures) c.draft.invariant.1)
     (subst (λ (st : StateParts). st.store.next ≤ greatest_id) c.self.view_is c.journal.ensures.lawful.left)

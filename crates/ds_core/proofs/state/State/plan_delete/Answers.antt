@@ -8,8 +8,10 @@ use Rattle.ds_core.proofs.state.State.plan_delete.Goals as goal
 
 pub returns-in-Some : goal.returns-in-Some
 returns-in-Some c =
-    refused_as c.args.self.now c.args.session.now c.args.client (call.Delete c.args.key) c.refused.result.body c.in-Some.body c.refused.result.effect
+    refused_as c.args.self.now c.args.session.now c.args.client (call.Delete c.args.key) c.refused.result.body c.in-Some.body
+    c.refused.result.effect
     c.refused.ensures.body c.refused.ensures.effect c.in-Some.ensures.quiet refl
     (told_refusal c.args.self.now c.args.session.now c.args.client (call.Delete c.args.key) _ c.in-Some.body
-    (ap (λ g. first_refusal (group_refusal c.args.session.now.transaction (Some g) ∷ write_refusal c.args.session.now.transaction ∷ [])) (sym c.in-Ok.ensures))
+    (ap (λ g. first_refusal (group_refusal c.args.session.now.transaction (Some g) ∷ write_refusal c.args.session.now.transaction ∷ []))
+    (sym c.in-Ok.ensures))
     c.in-Some.ensures.told)
