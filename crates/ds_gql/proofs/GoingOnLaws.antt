@@ -1,5 +1,5 @@
 -- The tokens before the place where a text stops go on to a statement.
-use Rattle.std.proofs.Common.{◌≡◌, ℕ, Bool, true, false, cond, List, [], ◌∷◌, ◌++◌, Option, Some, None, Ok, Err, inl, inr, refl, sym, ap, ◌∙◌}
+use Rattle.std.proofs.Common.{◌≡◌, ℕ, Bool, true, false, cond, List, [], ◌∷◌, ◌++◌, Option, Some, None, Ok, Err, inl, inr, refl, sym, ap, ◌∙◌, subst}
 use Rattle.ds_gql.specs.declared.statement.Bindings.{Bindings}
 use Rattle.ds_gql.specs.declared.statement.Statement.{Statement}
 use Rattle.ds_gql.specs.declared.draft.Draft.{Draft}
@@ -10,8 +10,9 @@ use Rattle.ds_gql.specs.Steps.{step, empty, complete}
 use Rattle.ds_gql.specs.Statements.{read_on, stepped, statement_of}
 use Rattle.ds_gql.specs.GqlLaws.{pieces_of, TokensBeforeGoOn}
 use Rattle.ds_gql.proofs.SentenceSteps.{stepped_to, read_pieces}
-use Rattle.ds_gql.proofs.SentenceLaws.{Closed, tokens_from-closed, read_with_places}
+use Rattle.ds_gql.proofs.SentenceLaws.{Closed, tokens_from-closed}
 use Rattle.ds_gql.proofs.ReadingLemmas.{step-strange, read_on-cons}
+use Rattle.ds_gql.proofs.EndLaws.{OnlyLast, tokens_last, goes_on}
 use Rattle.ds_gql.proofs.GoingOn.{IsSound, shown_of, open_of, step_sound, can_end}
 
 -- the tokens up to the one that takes no step, and others that lead to a statement in its place
@@ -63,29 +64,19 @@ reaches given d (t ∷ u ∷ us) place closed sound e = by (step given d t.piece
               ∙ ap (λ q. cond q (Some (complete n)) (read_pieces given n (pieces_of found.before ++ found.others))) end ∙ found.reads;
         }
 
--- ---- pieces as tokens
-
-placed : List Piece → List Token
-placed [] = []
-placed (p ∷ ps) = record { piece = p; place = 0 } ∷ placed ps
-
-pieces_of-placed : (before : List Token) (ps : List Piece) → pieces_of (before ++ placed ps) ≡ pieces_of before ++ ps
-unfolding placed
-pieces_of-placed [] [] = refl
-pieces_of-placed [] (p ∷ ps) = ap (λ qs. p ∷ qs) (pieces_of-placed [] ps)
-pieces_of-placed (t ∷ before) ps = ap (λ qs. t.piece ∷ qs) (pieces_of-placed before ps)
-
 pub tokens_before_go_on : TokensBeforeGoOn
 unfolding statement_of tokens_of
 tokens_before_go_on given text place e =
     let found = reaches given empty (tokens_from 0 0 text) place (tokens_from-closed 0 0 text) tt e in
+    let only = subst OnlyLast found.all (tokens_last 0 0 text) in
+    let on = goes_on given found.before found.token found.behind found.others found.statement only found.reads in
     record {
       before = found.before;
       token = found.token;
       behind = found.behind;
       all = found.all;
       there = found.there;
-      more = placed found.others;
+      more = on.0;
       statement = found.statement;
-      reads = read_with_places given (found.before ++ placed found.others) empty found.statement (ap (read_pieces given empty) (pieces_of-placed found.before found.others) ∙ found.reads);
+      derived = on.1;
     }

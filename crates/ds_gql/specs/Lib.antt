@@ -1,6 +1,9 @@
+pub mod Arguments
 pub mod Fronts
 pub mod GqlLaws
 pub mod Pieces
+pub mod Printers
+pub mod Printing
 pub mod Sentences
 pub mod Statements
 pub mod Steps

@@ -3,7 +3,7 @@ ghost use Rattle.std.specs.Prelude.{◌≡◌, ◌<◌, ◌≤◌, drop, length,
 ghost use Rattle.ds_gql.specs.Fronts.{Fronts};
 ghost use Rattle.ds_gql.specs.Tokens as spec;
 
-mod names;
+pub(crate) mod names;
 mod numbers;
 pub(crate) mod runs;
 mod signs;

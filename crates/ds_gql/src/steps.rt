@@ -9,11 +9,11 @@ mod keys;
 mod limits;
 mod operands;
 mod orders;
-mod selection;
-mod strings;
+pub(crate) mod selection;
+pub(crate) mod strings;
 
+use crate::arguments::Arguments;
 use crate::draft::{Draft, Phase};
-use crate::statement::Bindings;
 use crate::token::{Mark, Piece};
 use ds_base::NoMemory;
 use std::alloc::Global;
@@ -24,10 +24,10 @@ impl Draft {
     pub(crate) fn step(
         &mut self,
         alloc: Global,
-        bindings: &Bindings,
+        arguments: &Arguments<'_>,
         piece: Piece<'_>,
     ) -> Result<bool, NoMemory>
-        ensures { TakesUnlessNoMemory (spec.step bindings.now self.old (seen piece.entry)) result self.new }
+        ensures { TakesUnlessNoMemory (spec.step arguments.now self.old (seen piece.entry)) result self.new }
     {
         match self.phase {
             Phase::Start => Ok(self.go_if(piece.is(Mark::Select), Phase::What)),
@@ -39,12 +39,12 @@ impl Draft {
             Phase::KindRead => Ok(self.at_conditions(piece)),
             Phase::Condition => self.at_condition(alloc, piece),
             Phase::Compare => Ok(self.at_compare(alloc, piece)),
-            Phase::Operand => self.at_operand(alloc, bindings, piece),
+            Phase::Operand => self.at_operand(alloc, arguments, piece),
             Phase::ListOpen => Ok(self.go_if(piece.is(Mark::Open), Phase::Listed)),
-            Phase::Listed => self.at_listed(alloc, bindings, piece),
+            Phase::Listed => self.at_listed(alloc, arguments, piece),
             Phase::ListedRead => self.at_listed_read(alloc, piece),
             Phase::AncestorIs => Ok(self.go_if(piece.is(Mark::Is), Phase::AncestorKey)),
-            Phase::AncestorKey => self.at_ancestor_key(alloc, bindings, piece),
+            Phase::AncestorKey => self.at_ancestor_key(alloc, arguments, piece),
             Phase::KeyOpen => Ok(self.go_if(piece.is(Mark::Open), Phase::KeyKind)),
             Phase::KeyKind => self.at_key_kind(alloc, piece),
             Phase::KeyComma => Ok(self.go_if(piece.is(Mark::Comma), Phase::KeyIdent)),

@@ -25,7 +25,7 @@ fn guestbook(alloc: Global) -> Result<Key, NoMemory> {
 }
 
 /// `:1` is a key, `:2` is 7; `:x` is `'one'`, `:select` is true.
-fn bindings(alloc: Global) -> Result<Bindings, NoMemory> {
+pub(crate) fn bindings(alloc: Global) -> Result<Bindings, NoMemory> {
     let mut args = Vec::new(alloc);
     args.push(Value::Key(guestbook(alloc)?))?;
     args.push(Value::Int(7))?;

@@ -1,8 +1,9 @@
 -- Cursors, computed for the query of a kind over one entity.
-use Rattle.std.specs.Prelude.{◌≡◌, ℕ, List, [], ◌∷◌, ◌++◌, Option, Some, None, true, codes, refl}
+use Rattle.std.specs.Prelude.{◌≡◌, ℕ, List, [], ◌∷◌, ◌++◌, Option, Some, None, Err, true, codes, refl}
 use Rattle.ds_base.specs.declared.key.Ident.TheVariants.{Name}
 use Rattle.ds_base.specs.Entities.{EntityParts}
-use Rattle.ds_cursor.specs.Cursors.{cursor_bytes}
+use Rattle.ds_cursor.specs.declared.cursor.CursorRefused.TheVariants as refused
+use Rattle.ds_cursor.specs.Cursors.{PartsAre, cursor_bytes, parts_of_bytes}
 use Rattle.ds_query.specs.declared.query.Query.{Query}
 use Rattle.ds_query.specs.declared.query.Select.TheVariants as select
 use Rattle.ds_query.specs.declared.row.Place.{Place}
@@ -59,3 +60,12 @@ after_none = refl
 
 after_none_later : cursor (next_place (next_place None 0 None) 0 (Some 0)) ≡ at_task
 after_none_later = refl
+
+-- ---- what the bytes of a text are to a query
+
+-- another query's cursor is none of this one, and what is too short is none of any
+of_another_kind : PartsAre (branch_of (of_kind (codes "U")) unasked) (parts_of_bytes at_task) (Err refused.CursorMismatch)
+of_another_kind = refl
+
+one_byte : PartsAre (branch_of tasks unasked) (parts_of_bytes (0x01 ∷ [])) (Err refused.BadCursor)
+one_byte = refl

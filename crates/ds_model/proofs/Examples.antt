@@ -1,5 +1,5 @@
 -- The definitions of results, computed over small lists of entities.
-use Rattle.std.specs.Prelude.{◌≡◌, ℕ, ℤ, pos, List, [], ◌∷◌, Bool, true, false, Option, Some, None, Ok, Err, codes, map, refl}
+use Rattle.std.specs.Prelude.{◌≡◌, ℕ, pos, List, [], ◌∷◌, true, false, Some, None, Err, codes, map, refl}
 use Rattle.std.specs.List.{range_with_len}
 use Rattle.ds_base.specs.declared.column.Column.{Column}
 use Rattle.ds_base.specs.declared.entity.Property.{Property}
@@ -19,7 +19,6 @@ use Rattle.ds_query.specs.declared.query.Query.{Query}
 use Rattle.ds_query.specs.declared.query.Select.{Select}
 use Rattle.ds_query.specs.declared.query.Select.TheVariants as select
 use Rattle.ds_query.specs.declared.refusal.QueryRefused.TheVariants as refused
-use Rattle.ds_query.specs.declared.row.Place.{Place}
 use Rattle.ds_query.specs.Normals.{normal_form, normal_of}
 use Rattle.ds_model.specs.Results.{result, items_of}
 

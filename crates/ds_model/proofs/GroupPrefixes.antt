@@ -1,7 +1,7 @@
 -- A global view shows each entity group at a prefix of its log.
 use Rattle.std.proofs.Common.{◌≡◌, ℕ, zero, suc, ◌+◌, List, [], ◌∷◌, ◌++◌, take, drop, refl, ap, sym, ◌∙◌, Bool, true, false, cond, map}
 use Rattle.std.proofs.Common.{◌<◌, arith}
-use Rattle.std.proofs.lemmas.Bool.{eqb-true, ne_eqb}
+use Rattle.std.proofs.lemmas.Bool.{eqb-true, ne_eqb, eq-eqb}
 use Rattle.std.specs.Prelude.{filter, fold, flat_map, ◌==◌, ◌||◌, ⊤}
 use Rattle.std.specs.List.{list_any, range_with_len}
 use Rattle.std.specs.BTreeSet.{insert_key}
@@ -225,3 +225,8 @@ pub global_prefix : (g : KeyParts) (shards : ℕ) (journal : List Commit) (count
 global_prefix g shards journal counts =
     let found = begins g shards journal 0 shards counts in
     (among g (counted (shard_lists shards journal) counts), found.0, found.1, cut_view g (entry_writes (counted (shard_lists shards journal) counts)))
+
+-- The writes to a group among the entries of its shard are its whole log.
+pub own_entries : (g : KeyParts) (shards : ℕ) (journal : List Commit) →
+    group_writes g (entry_writes (shard_list journal (shard_of g shards) shards)) ≡ group_log journal g
+own_entries g shards journal = whole_list g shards journal (shard_of g shards) true (eq-eqb (shard_of g shards) (shard_of g shards) refl)

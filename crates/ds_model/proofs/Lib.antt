@@ -2,5 +2,10 @@ pub mod CursorExamples
 pub mod Examples
 pub mod GroupPrefixes
 pub mod GroupViews
+pub mod LawfulRows
 pub mod LongerJournals
+pub mod OkReplies
+pub mod Paging
 pub mod SeenGrows
+pub mod SerialRuns
+pub mod Visibility

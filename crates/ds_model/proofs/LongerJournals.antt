@@ -1,10 +1,9 @@
 -- An answer over a journal and its shards' lists is one over every journal and lists that begin with these.
-use Rattle.std.proofs.Common.{◌≡◌, ℕ, zero, suc, ◌+◌, ◌-◌, ◌<◌, ◌≤◌, List, [], ◌∷◌, ◌++◌, length, take, refl, ap, sym, ◌∙◌, subst, Bool, true, false, arith}
+use Rattle.std.proofs.Common.{◌≡◌, ℕ, zero, suc, ◌+◌, ◌-◌, ◌<◌, ◌≤◌, List, [], ◌∷◌, ◌++◌, length, take, refl, ap, sym, ◌∙◌, subst, Bool, arith}
 use Rattle.std.proofs.Common.{length-append, Option, Some, None}
-use Rattle.std.specs.Prelude.{slice_get, max, fold, Result, Ok, Err, unwrap_or, ⊤}
+use Rattle.std.specs.Prelude.{slice_get, max, Result, Ok, Err, unwrap_or, ⊤}
 use Rattle.std.proofs.lemmas.List.{take-append-le}
 use Rattle.std.proofs.lemmas.Option.{slice_get_within}
-use Rattle.ds_base.specs.declared.entity.Property.{Property}
 use Rattle.ds_base.specs.declared.results.Item.{Item}
 use Rattle.ds_base.specs.declared.results.Seen.{Seen}
 use Rattle.ds_base.specs.declared.results.Seen.TheVariants as seen
@@ -27,17 +26,17 @@ use Rattle.ds_reply.specs.declared.reply.Body.{Body}
 use Rattle.ds_reply.specs.declared.reply.Body.TheVariants as body
 use Rattle.ds_reply.specs.declared.reply.Reply.{Reply}
 use Rattle.ds_rounds.specs.Rounds.{NumberedLine}
-use Rattle.ds_model.specs.Answers.{CommitsAlone, WriteAnswers, PutAnswers, GetAnswers, ExpiredAnswers, ExpiredUnder, CountsWithin, SettleAnswers}
+use Rattle.ds_model.specs.Answers.{CommitsAlone, WriteAnswers, GetAnswers, ExpiredAnswers, ExpiredUnder, CountsWithin, SettleAnswers}
 use Rattle.ds_model.specs.Answers.{AppliedCount, ApplyAnswers, CommitAnswers, ConflictAnswers, TransactionAnswers, CallAnswers, commit_of}
-use Rattle.ds_model.specs.Answers.{Finds, FoundOver, SearchAnswers, SearchAnswered, UnlessRefused, RequestAnswers, AskedAnswers, BodyAnswers}
+use Rattle.ds_model.specs.Answers.{Finds, FoundOver, SearchAnswers, UnlessRefused, RequestAnswers, AskedAnswers, BodyAnswers}
 use Rattle.ds_model.specs.Answers.{Answers, saw_group}
-use Rattle.ds_model.specs.Asked.{Search, asked, search_of}
+use Rattle.ds_model.specs.Asked.{Search, Reading, search_of}
 use Rattle.ds_model.specs.Groups.{IsSeenPlace, StandsAt, place_in, touching_if, with_transaction}
 use Rattle.ds_model.specs.Refusals.{Places}
 use Rattle.ds_model.specs.Results.{entity_of}
-use Rattle.ds_model.specs.Sessions.{Session, Transaction, last_commit, list_of, counted_place, greater_counts, raised_at, saw_count, saw_counts}
+use Rattle.ds_model.specs.Sessions.{Session, Transaction, last_commit, list_of, counted_place, greater_counts, raised_at, saw_shard_count, saw_counts}
 use Rattle.ds_model.specs.Sessions.{saw_entries, saw_place}
-use Rattle.ds_model.specs.Views.{strong_view, global_view, counted}
+use Rattle.ds_model.specs.Views.{strong_view, counted}
 use Rattle.ds_model.specs.Worlds.{World, entries_up_to}
 
 -- each list begins with the one at its place
@@ -88,7 +87,7 @@ list-within lists longer shard count h within =
     let more = list-grown lists longer shard h in
     omega (arith, within, ap (λ (es : List Entry). length es) more.1, length-append (list_of lists shard) more.0)
 
-saw-grown : (lists longer : List (List Entry)) (shard count : ℕ) (s : Session) → AreLonger lists longer → count ≤ length (list_of lists shard) → saw_count longer shard count s ≡ saw_count lists shard count s
+saw-grown : (lists longer : List (List Entry)) (shard count : ℕ) (s : Session) → AreLonger lists longer → count ≤ length (list_of lists shard) → saw_shard_count longer shard count s ≡ saw_shard_count lists shard count s
 saw-grown lists longer shard count s h within =
     let more = list-grown lists longer shard h in
     let same : take count (list_of longer shard) ≡ take count (list_of lists shard) =
@@ -285,13 +284,13 @@ module _ (w : World) (more : List Commit) (lists : List (List Entry)) (h : AreLo
   asked-grown s (Err e) said later a = a
   asked-grown s (Ok r) said later a = request-grown r.client s r.call (search_of r.call) said later a
 
-  body-grown : (s : Session) (line : Result Request (ℕ × Body)) (said : Body) (later : Session) → BodyAnswers w s line said later → BodyAnswers (grown w more lists) s line said later
+  pub body-grown : (s : Session) (line : Result Request (ℕ × Body)) (said : Body) (later : Session) → BodyAnswers w s line said later → BodyAnswers (grown w more lists) s line said later
   body-grown s line body.NoMemory later a = a
   body-grown s line said later a = asked-grown s line said later a
 
-  pub answers-grown : (s : Session) (line : NumberedLine) (reply : Reply) (later : Session) → Answers w s line reply later → Answers (grown w more lists) s line reply later
-  answers-grown s line reply later a = record {
+  pub answers-grown : (reading : Reading) (s : Session) (line : NumberedLine) (reply : Reply) (later : Session) → Answers reading w s line reply later → Answers reading (grown w more lists) s line reply later
+  answers-grown reading s line reply later a = record {
     numbered = a.numbered;
     addressed = a.addressed;
-    said = body-grown s (asked w.shards line.content) reply.body later a.said;
+    said = body-grown s (reading line.content) reply.body later a.said;
   }

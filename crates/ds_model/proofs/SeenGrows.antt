@@ -1,6 +1,6 @@
 -- What a client has seen never shrinks: no reply lowers its place, one of its counts, or its shown id counter.
-use Rattle.std.proofs.Common.{◌≡◌, ℕ, zero, suc, ◌≤◌, List, [], ◌∷◌, refl, sym, subst, Bool, true, false, arith, Option, Some, None}
-use Rattle.std.specs.Prelude.{max, Result, Ok, Err, ⊤}
+use Rattle.std.proofs.Common.{◌≡◌, ℕ, zero, suc, ◌≤◌, List, [], ◌∷◌, sym, subst, arith, Option, Some, None}
+use Rattle.std.specs.Prelude.{Result, Ok, Err, ⊤}
 use Rattle.ds_base.specs.declared.results.Item.{Item}
 use Rattle.ds_base.specs.declared.results.Seen.{Seen}
 use Rattle.ds_base.specs.declared.results.Seen.TheVariants as seen
@@ -20,10 +20,10 @@ use Rattle.ds_reply.specs.declared.reply.Reply.{Reply}
 use Rattle.ds_rounds.specs.Rounds.{NumberedLine}
 use Rattle.ds_model.specs.Answers.{WriteAnswers, ExpiredAnswers, ExpiredUnder, TransactionAnswers, CallAnswers, FoundOver, SearchAnswers}
 use Rattle.ds_model.specs.Answers.{UnlessRefused, RequestAnswers, AskedAnswers, BodyAnswers, Answers, saw_group, begun}
-use Rattle.ds_model.specs.Asked.{Search, asked, search_of}
+use Rattle.ds_model.specs.Asked.{Search, Reading, search_of}
 use Rattle.ds_model.specs.Groups.{touching, touching_if, writing, with_transaction}
 use Rattle.ds_model.specs.Refusals.{Places}
-use Rattle.ds_model.specs.Sessions.{Session, Transaction, saw_place, saw_counts, saw_count, saw_entries, saw_next, next_above, greater_counts, raised_at}
+use Rattle.ds_model.specs.Sessions.{Session, Transaction, saw_place, saw_counts, saw_shard_count, saw_entries, saw_next, next_above, greater_counts, raised_at}
 use Rattle.ds_model.specs.Worlds.{World, entries_up_to}
 
 -- count by count, the second list is no lower
@@ -38,18 +38,18 @@ pub record HasSeen (s t : Session) : Type 0 where
   pub counts : NoLower s.counts t.counts
   pub next : s.next_id ≤ t.next_id
 
-same_counts : (cs : List ℕ) → NoLower cs cs
+pub same_counts : (cs : List ℕ) → NoLower cs cs
 same_counts [] = tt
 same_counts (c ∷ cs) = (omega arith, same_counts cs)
 
-no_lower-then : (xs ys zs : List ℕ) → NoLower xs ys → NoLower ys zs → NoLower xs zs
+pub no_lower-then : (xs ys zs : List ℕ) → NoLower xs ys → NoLower ys zs → NoLower xs zs
 no_lower-then [] [] zs first second = second
 no_lower-then [] (y ∷ ys) zs first second = absurd first
 no_lower-then (x ∷ xs) [] zs first second = absurd first
 no_lower-then (x ∷ xs) (y ∷ ys) [] first second = absurd second
 no_lower-then (x ∷ xs) (y ∷ ys) (z ∷ zs) first second = (omega (arith, first.0, second.0), no_lower-then xs ys zs first.1 second.1)
 
-greater_no_lower : (cs counts : List ℕ) → NoLower cs (greater_counts cs counts)
+pub greater_no_lower : (cs counts : List ℕ) → NoLower cs (greater_counts cs counts)
 greater_no_lower [] counts = tt
 greater_no_lower (c ∷ cs) [] = same_counts (c ∷ cs)
 greater_no_lower (c ∷ cs) (a ∷ counts) = (omega arith, greater_no_lower cs counts)
@@ -64,7 +64,7 @@ raised_no_lower (suc shard) count (c ∷ cs) = (omega arith, raised_no_lower sha
 pub seen_same : (s : Session) → HasSeen s s
 seen_same s = record { place = omega arith; counts = same_counts s.counts; next = omega arith }
 
-seen_then : (s t u : Session) → HasSeen s t → HasSeen t u → HasSeen s u
+pub seen_then : (s t u : Session) → HasSeen s t → HasSeen t u → HasSeen s u
 seen_then s t u first second = record {
   place = omega (arith, first.place, second.place);
   counts = no_lower-then s.counts t.counts u.counts first.counts second.counts;
@@ -83,8 +83,8 @@ then_next s t next h = record { place = h.place; counts = h.counts; next = omega
 then_counts : (lists : List (List Entry)) (counts : List ℕ) (s t : Session) → HasSeen s t → HasSeen s (saw_counts lists counts t)
 then_counts lists counts s t h = seen_then s t (saw_counts lists counts t) h (record { place = omega arith; counts = greater_no_lower t.counts counts; next = omega arith })
 
-then_count : (lists : List (List Entry)) (shard count : ℕ) (s t : Session) → HasSeen s t → HasSeen s (saw_count lists shard count t)
-then_count lists shard count s t h = seen_then s t (saw_count lists shard count t) h (record { place = omega arith; counts = raised_no_lower shard count t.counts; next = omega arith })
+then_count : (lists : List (List Entry)) (shard count : ℕ) (s t : Session) → HasSeen s t → HasSeen s (saw_shard_count lists shard count t)
+then_count lists shard count s t h = seen_then s t (saw_shard_count lists shard count t) h (record { place = omega arith; counts = raised_no_lower shard count t.counts; next = omega arith })
 
 then_entries : (shard entries : ℕ) (s t : Session) → HasSeen s t → HasSeen s (saw_entries shard entries t)
 then_entries shard entries s t h = seen_then s t (saw_entries shard entries t) h (record { place = omega arith; counts = raised_no_lower shard entries t.counts; next = omega arith })
@@ -171,5 +171,5 @@ module _ (w : World) (s : Session) where
   by_body line body.NoMemory later a = is_seen s s later a (seen_same s)
   by_body line said later a = by_asked line said later a
 
-  pub never_shrinks : (line : NumberedLine) (reply : Reply) (later : Session) → Answers w s line reply later → HasSeen s later
-  never_shrinks line reply later a = by_body (asked w.shards line.content) reply.body later a.said
+  pub never_shrinks : (reading : Reading) (line : NumberedLine) (reply : Reply) (later : Session) → Answers reading w s line reply later → HasSeen s later
+  never_shrinks reading line reply later a = by_body (reading line.content) reply.body later a.said

@@ -13,7 +13,6 @@ use Rattle.ds_query.specs.declared.branch.Window.{Window}
 use Rattle.ds_query.specs.declared.query.Select.{Select}
 use Rattle.ds_query.specs.declared.row.Place.{Place}
 use Rattle.ds_query.specs.Normals.{normal_form}
-use Rattle.ds_cursor.specs.declared.cursor.CursorRefused.{CursorRefused}
 use Rattle.ds_cursor.specs.Cursors.{cursor_text}
 use Rattle.ds_log.specs.declared.Commit.{Commit}
 use Rattle.ds_log.specs.declared.Entry.{Entry}
@@ -31,11 +30,11 @@ use Rattle.ds_reply.specs.declared.reply.Body.{Body}
 use Rattle.ds_reply.specs.declared.reply.Body.TheVariants as body
 use Rattle.ds_reply.specs.declared.reply.Reply.{Reply}
 use Rattle.ds_rounds.specs.Rounds.{NumberedLine}
-use Rattle.ds_model.specs.Asked.{Search, asked, client_of, search_of}
+use Rattle.ds_model.specs.Asked.{Search, Reading, client_of, search_of}
 use Rattle.ds_model.specs.Groups.{IsSeenPlace, StandsAt, ReadsAt, place_in, touching, touching_if, writing, with_transaction}
-use Rattle.ds_model.specs.Refusals.{Places, PlacesRead, IfUnrefused, refusal_of, form_refusal, search_refusal}
+use Rattle.ds_model.specs.Refusals.{Told, BeforeFirst, Behind, Places, PlacesRead, IfUnrefused, refusal_of, form_refusal, search_refusal}
 use Rattle.ds_model.specs.Results.{Page, result, items_of, entity_of}
-use Rattle.ds_model.specs.Sessions.{Session, Transaction, saw_place, saw_counts, saw_count, saw_entries, saw_next, next_above}
+use Rattle.ds_model.specs.Sessions.{Session, Transaction, saw_place, saw_counts, saw_shard_count, saw_entries, saw_next, next_above}
 use Rattle.ds_model.specs.Sessions.{count_of, list_of}
 use Rattle.ds_model.specs.Views.{strong_view, global_view}
 use Rattle.ds_model.specs.Worlds.{World, entries_up_to}
@@ -112,7 +111,7 @@ pub record ExpiredAnswers (w : World) (s : Session) (g : KeyParts) (applied m sn
   pub gone : snapshot + window ≤ applied
   pub no_lower : count_of s.counts (shard_of g w.shards) ≤ applied
   pub applied_within : applied ≤ length (list_of w.lists (shard_of g w.shards))
-  pub seen : after ≡ saw_count w.lists (shard_of g w.shards) applied (saw_place m (with_transaction None s))
+  pub seen : after ≡ saw_shard_count w.lists (shard_of g w.shards) applied (saw_place m (with_transaction None s))
 
 -- ---- counts
 
@@ -139,7 +138,7 @@ pub record ApplyAnswers (w : World) (s : Session) (shard : ℕ) (applied : Bool)
   pub place : IsSeenPlace w.journal s m
   pub counted : AppliedCount applied (count_of s.counts shard) (entries_up_to w m shard) count
   pub within : count ≤ length (list_of w.lists shard)
-  pub seen : after ≡ saw_count w.lists shard count (saw_place m s)
+  pub seen : after ≡ saw_shard_count w.lists shard count (saw_place m s)
 
 -- ---- transactions
 
@@ -198,15 +197,15 @@ CallAnswers w client s _ _ after = ⊥
 
 -- ---- queries
 
-abbrev pub place_found : Option (Result (Option Place) CursorRefused) → Option Place
-place_found (Some (Ok place)) = place
+abbrev pub place_found : Told → Option Place
+place_found (Behind place) = Some place
 place_found _ = None
 
 -- The window of a search. An end at the place before the first row leaves nothing, so it is told as a limit of no results.
 abbrev pub window_of : Search → Places → Window
 window_of search places = ending_at places.end where
-  ending_at : Option (Result (Option Place) CursorRefused) → Window
-  ending_at (Some (Ok None)) = record { start = place_found places.start; end = None; offset = 0; limit = Some 0 }
+  ending_at : Told → Window
+  ending_at BeforeFirst = record { start = place_found places.start; end = None; offset = 0; limit = Some 0 }
   ending_at _ = record { start = place_found places.start; end = place_found places.end; offset = search.offset; limit = search.limit }
 
 -- what a query found over a list of entities
@@ -250,9 +249,9 @@ SearchAnswers w s (call.Query namespace kind ancestor filters orders select offs
 SearchAnswers w s (call.Gql namespace text args names start end cursor) search places
     (body.Gql selected results seen told) after =
     FoundOver w s search places search.query.ancestor selected results seen told after
-SearchAnswers w s asked search places (body.Expired applied m snapshot) after =
+SearchAnswers w s c search places (body.Expired applied m snapshot) after =
     ExpiredUnder w s search.query.ancestor applied m snapshot after
-SearchAnswers w s asked search places _ after = ⊥
+SearchAnswers w s c search places _ after = ⊥
 
 -- ---- one reply
 
@@ -260,23 +259,26 @@ SearchAnswers w s asked search places _ after = ⊥
 abbrev pub Refuses : Body → Session → Body → Session → Type 0
 Refuses refusal s said after = (said ≡ refusal) × (after ≡ s)
 
+-- the refusal where there is one, else these answers
 abbrev pub UnlessRefused : Option Body → Session → Body → Session → Type 0 → Type 0
 UnlessRefused (Some refusal) s said after answers = Refuses refusal s said after
 UnlessRefused None s said after answers = answers
 
 -- a search is refused by its form and its places, or answered
-pub record SearchAnswered (w : World) (s : Session) (c : Call) (search : Search) (said : Body) (after : Session) : Type 0 where
+pub record SearchRefusedOrAnswered (w : World) (s : Session) (c : Call) (search : Search) (said : Body) (after : Session) : Type 0 where
   pub places : Places
   pub read : IfUnrefused (form_refusal s search.query) (PlacesRead (normal_form search.query).branches search places)
   pub answered : UnlessRefused (search_refusal w.definitions s search places) s said after
       (SearchAnswers w s c search places said after)
 
+-- the answers to a request: to one that isn't a query, to a statement that can't be read, and to a search
 abbrev pub RequestAnswers : World → ℕ → Session → Call → Option (Result Search Body) → Body → Session → Type 0
 RequestAnswers w client s c None said after =
     UnlessRefused (refusal_of w.definitions s c) s said after (CallAnswers w client s c said after)
 RequestAnswers w client s c (Some (Err refusal)) said after = Refuses refusal s said after
-RequestAnswers w client s c (Some (Ok search)) said after = SearchAnswered w s c search said after
+RequestAnswers w client s c (Some (Ok search)) said after = SearchRefusedOrAnswered w s c search said after
 
+-- the answers to what was read from a line: its refusal, or those to its request
 abbrev pub AskedAnswers : World → Session → Result Request (ℕ × Body) → Body → Session → Type 0
 AskedAnswers w s (Err e) said after = Refuses e.1 s said after
 AskedAnswers w s (Ok r) said after = RequestAnswers w r.client s r.call (search_of r.call) said after
@@ -287,7 +289,8 @@ BodyAnswers w s line body.NoMemory after = after ≡ s
 BodyAnswers w s line said after = AskedAnswers w s line said after
 
 -- one reply to one line
-pub record Answers (w : World) (s : Session) (line : NumberedLine) (reply : Reply) (after : Session) : Type 0 where
+pub record Answers (reading : Reading) (w : World) (s : Session) (line : NumberedLine) (reply : Reply) (after : Session)
+    : Type 0 where
   pub numbered : reply.line ≡ line.number
-  pub addressed : reply.client ≡ client_of w.shards line.content
-  pub said : BodyAnswers w s (asked w.shards line.content) reply.body after
+  pub addressed : reply.client ≡ client_of reading line.content
+  pub said : BodyAnswers w s (reading line.content) reply.body after

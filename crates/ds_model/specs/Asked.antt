@@ -13,11 +13,11 @@ use Rattle.ds_reply.specs.declared.reply.Body.TheVariants as body
 use Rattle.ds_gql.specs.declared.statement.Statement.{Statement}
 use Rattle.ds_gql.specs.Statements.{statement_of}
 use Rattle.ds_rounds.specs.Lines.{Content, Kept, TooLong}
-use Rattle.ds_model.specs.Built.{served}
 
 -- ---- the line
 
--- a refused line: its client, and what the reply says
+-- A refused line: its client, and what the reply says. The tables of requests refuse no line for want of memory, so the last case
+-- is never met: such a reply carries the client that stands in the text, as every reply to the line does.
 abbrev pub refused_line : RequestRefused → ℕ × Body
 refused_line refused.BadJson = (0, body.BadJson)
 refused_line (refused.BadRequest client f) = (client, body.BadRequest f)
@@ -34,9 +34,13 @@ abbrev pub request_within : ℕ → Result Request RequestRefused → Result Req
 request_within shards (Ok r) = cond (has_shard shards r.call) (Ok r) (Err (r.client, body.BadRequest field.Shard))
 request_within shards (Err e) = Err (refused_line e)
 
--- what a line asks of so many shards, or how it is refused before anything else is looked at
-abbrev pub asked : ℕ → Content → Result Request (ℕ × Body)
-asked shards (Kept bytes) = request_within shards (served (request_of bytes))
+-- what is read from lines: a request, or the client and what its reply says where a line is refused before anything else is looked at
+abbrev pub Reading : Type 0
+Reading = Content → Result Request (ℕ × Body)
+
+-- what a line asks of so many shards: that one's request by the tables of requests
+abbrev pub asked : ℕ → Reading
+asked shards (Kept bytes) = request_within shards (request_of bytes)
 asked shards TooLong = Err (0, body.LineTooLong)
 
 abbrev pub client_asked : Result Request (ℕ × Body) → ℕ
@@ -44,8 +48,8 @@ client_asked (Ok r) = r.client
 client_asked (Err e) = e.0
 
 -- whose line it is; one whose client can't be read is client 0's
-abbrev pub client_of : ℕ → Content → ℕ
-client_of shards line = client_asked (asked shards line)
+abbrev pub client_of : Reading → Content → ℕ
+client_of reading line = client_asked (reading line)
 
 -- ---- the query of a request
 

@@ -1,7 +1,7 @@
--- How many steps the answer of a branch over one shard may take: each scan goes over at most the rows of the condition with the fewest,
--- and over those of versions that aren't seen. It is our own profile; the Datastore's documentation promises only that its time goes
--- with the size of its result.
-use Rattle.std.specs.Prelude.{ℕ, zero, suc, ◌+◌, ◌*◌, min, List, [], ◌∷◌, Option, Some, None, ◌==◌, not, cond, length, filter, map, sum_by}
+-- How many steps the answer of a branch over one shard may take: for each of its parts twice the fewest rows that one part has in the
+-- range, and two more; and one for each row of a part over a version that isn't seen. It is our own profile; the Datastore's
+-- documentation promises only that its time goes with the size of its result.
+use Rattle.std.specs.Prelude.{ℕ, zero, ◌+◌, ◌*◌, min, List, [], ◌∷◌, Option, Some, None, ◌==◌, not, cond, length, filter, map, sum_by}
 use Rattle.ds_base.specs.declared.column.Column.{Column}
 use Rattle.ds_base.specs.Entities.{EntityParts}
 use Rattle.ds_bytes.specs.Rows.{RowParts}

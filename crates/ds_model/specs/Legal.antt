@@ -17,33 +17,34 @@ use Rattle.ds_reply.specs.declared.reply.Body.TheVariants as body
 use Rattle.ds_reply.specs.declared.reply.Reply.{Reply}
 use Rattle.ds_rounds.specs.Rounds.{NumberedLine}
 use Rattle.ds_log.specs.declared.Commit.{Commit}
-use Rattle.ds_model.specs.Asked.{asked, client_of}
+use Rattle.ds_model.specs.Asked.{Reading, asked, client_of}
 use Rattle.ds_model.specs.Answers.{Answers}
 use Rattle.ds_model.specs.Worlds.{World, world_of}
 use Rattle.ds_model.specs.Sessions.{Session, first_id, first_sessions, met}
 
 -- one client's replies, in the order of its lines
-abbrev pub Steps : World → Session → List NumberedLine → List Reply → Session → Type 0
-Steps w s [] [] after = after ≡ s
-Steps w s (line ∷ lines) (reply ∷ replies) after = (next : Session) × Answers w s line reply next × Steps w next lines replies after
-Steps w s _ _ after = ⊥
+abbrev pub Steps : Reading → World → Session → List NumberedLine → List Reply → Session → Type 0
+Steps reading w s [] [] after = after ≡ s
+Steps reading w s (line ∷ lines) (reply ∷ replies) after =
+    (next : Session) × Answers reading w s line reply next × Steps reading w next lines replies after
+Steps reading w s _ _ after = ⊥
 
 -- the replies of a round: by client, and then by line
-abbrev pub RoundSteps : World → List NumberedLine → ℕ → List Session → List Reply → List Session → Type 0
-RoundSteps w round client [] replies after = (replies ≡ []) × (after ≡ [])
-RoundSteps w round client (s ∷ sessions) replies [] = ⊥
-RoundSteps w round client (s ∷ sessions) replies (t ∷ after) =
+abbrev pub RoundSteps : Reading → World → List NumberedLine → ℕ → List Session → List Reply → List Session → Type 0
+RoundSteps reading w round client [] replies after = (replies ≡ []) × (after ≡ [])
+RoundSteps reading w round client (s ∷ sessions) replies [] = ⊥
+RoundSteps reading w round client (s ∷ sessions) replies (t ∷ after) =
     (own : List Reply) × (others : List Reply) × (replies ≡ own ++ others)
-    × Steps w s (filter (λ line. client_of w.shards line.content == client) round) own t
-    × RoundSteps w round (client + 1) sessions others after
+    × Steps reading w s (filter (λ line. client_of reading line.content == client) round) own t
+    × RoundSteps reading w round (client + 1) sessions others after
 
 -- the replies of rounds: the sessions meet at the start of each
-abbrev pub RoundsSteps : World → List (List NumberedLine) → List Session → List Reply → List Session → Type 0
-RoundsSteps w [] sessions replies after = (replies ≡ []) × (after ≡ sessions)
-RoundsSteps w (round ∷ rounds) sessions replies after =
+abbrev pub RoundsSteps : Reading → World → List (List NumberedLine) → List Session → List Reply → List Session → Type 0
+RoundsSteps reading w [] sessions replies after = (replies ≡ []) × (after ≡ sessions)
+RoundsSteps reading w (round ∷ rounds) sessions replies after =
     (own : List Reply) × (others : List Reply) × (between : List Session) × (replies ≡ own ++ others)
-    × RoundSteps w round 0 (met sessions) own between
-    × RoundsSteps w rounds between others after
+    × RoundSteps reading w round 0 (met sessions) own between
+    × RoundsSteps reading w rounds between others after
 
 -- ---- the numbers in replies
 
@@ -70,6 +71,7 @@ last_id (e ∷ []) = id_in e.ident where
   id_in (Name x) = []
 last_id (e ∷ f ∷ es) = last_id (f ∷ es)
 
+-- the ids that a reply tells as drawn: an automatic one, or a range
 abbrev pub drawn_by_call : Call → Body → List ℕ
 drawn_by_call (call.Put key true properties) (body.Put printed place) = last_id printed.elems
 drawn_by_call (call.AllocateIds count) (body.AllocateIds first printed) = range_with_len first printed
@@ -79,15 +81,12 @@ abbrev pub drawn_by : Result Request (ℕ × Body) → Body → List ℕ
 drawn_by (Ok r) said = drawn_by_call r.call said
 drawn_by (Err e) said = []
 
--- the ids that the reply to a line tells as drawn: an automatic one, or a range
-abbrev pub drawn : ℕ → NumberedLine → Reply → List ℕ
-drawn shards line reply = drawn_by (asked shards line.content) reply.body
+-- the ids that the replies to these lines tell as drawn; there is one reply for each line
+abbrev pub drawn_in : Reading → List NumberedLine → List Reply → List ℕ
+drawn_in reading (line ∷ lines) (reply ∷ replies) = drawn_by (reading line.content) reply.body ++ drawn_in reading lines replies
+drawn_in reading _ _ = []
 
--- those of the replies to these lines; there is one reply for each line
-abbrev pub drawn_in : ℕ → List NumberedLine → List Reply → List ℕ
-drawn_in shards (line ∷ lines) (reply ∷ replies) = drawn shards line reply ++ drawn_in shards lines replies
-drawn_in shards _ _ = []
-
+-- the ids of a path that only the counter gives: 2^52 and more
 abbrev pub counter_id : Ident → List ℕ
 counter_id (Id n) = cond (nat_le first_id n) (n ∷ []) []
 counter_id (Name x) = []
@@ -113,27 +112,33 @@ printed_next_in _ = []
 abbrev pub printed_next : Reply → List ℕ
 printed_next r = printed_next_in r.body
 
--- the lines that are answered, in the order of the replies: by round, then by client, and then by line
-abbrev pub by_client : ℕ → List NumberedLine → List NumberedLine
-by_client shards round =
-    flat_map (λ client. filter (λ line. client_of shards line.content == client) round) (range_with_len 0 (greatest_client + 1))
+-- a round's lines by client, from 0 up to the greatest one, each client's in their order
+abbrev pub by_client : Reading → List NumberedLine → List NumberedLine
+by_client reading round =
+    flat_map (λ client. filter (λ line. client_of reading line.content == client) round) (range_with_len 0 (greatest_client + 1))
 
-abbrev pub answered_lines : ℕ → List (List NumberedLine) → List NumberedLine
-answered_lines shards = flat_map (by_client shards)
+-- the lines that are answered, in the order of the replies: by round, then by client, and then by line
+abbrev pub answered_lines : Reading → List (List NumberedLine) → List NumberedLine
+answered_lines reading = flat_map (by_client reading)
 
 -- the drawn ids are those from the first one up to a bound, each once; accepted ids are below it, printed counters not above
-pub record IdsDrawn (shards : ℕ) (rounds : List (List NumberedLine)) (replies : List Reply) : Type 0 where
+pub record IdsDrawn (reading : Reading) (rounds : List (List NumberedLine)) (replies : List Reply) : Type 0 where
   pub bound : ℕ
   pub from_first : first_id ≤ bound
-  pub each_once : IsPermutation (drawn_in shards (answered_lines shards rounds) replies) (range_with_len first_id (bound - first_id))
+  pub each_once : IsPermutation (drawn_in reading (answered_lines reading rounds) replies) (range_with_len first_id (bound - first_id))
   pub accepted_below : All (λ id. id < bound) (flat_map accepted replies)
   pub printed_within : All (λ next. next ≤ bound) (flat_map printed_next replies)
 
--- one legal run: the replies of the rounds are steps of the sessions over one journal, from the first sessions to those after the
--- run; the journal holds the acknowledged commits, each once, and no other; and ids are drawn each once
-pub record Legal (definitions : List IndexDef) (shards : ℕ) (window : Option ℕ) (rounds : List (List NumberedLine))
-    (journal : List Commit) (replies : List Reply) : Type 0 where
+-- One legal run, of lines that are read in this way: the replies of the rounds are steps of the sessions over one journal, from the
+-- first sessions to those after the run; the journal holds the acknowledged commits, each once, and no other; and ids are drawn
+-- each once.
+pub record LegalBy (reading : Reading) (definitions : List IndexDef) (shards : ℕ) (window : Option ℕ)
+    (rounds : List (List NumberedLine)) (journal : List Commit) (replies : List Reply) : Type 0 where
   pub after : List Session
-  pub steps : RoundsSteps (world_of definitions shards window journal) rounds (first_sessions shards) replies after
+  pub steps : RoundsSteps reading (world_of definitions shards window journal) rounds (first_sessions shards) replies after
   pub commits : IsPermutation (flat_map acknowledged replies) (range_with_len 1 (length journal))
-  pub ids : IdsDrawn shards rounds replies
+  pub ids : IdsDrawn reading rounds replies
+
+-- a legal run of lines that are read by the tables of requests
+abbrev pub Legal : List IndexDef → ℕ → Option ℕ → List (List NumberedLine) → List Commit → List Reply → Type 0
+Legal definitions shards = LegalBy (asked shards) definitions shards

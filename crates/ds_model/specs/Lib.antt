@@ -1,7 +1,6 @@
 pub mod Answers
 pub mod Asked
 pub mod Bounds
-pub mod Built
 pub mod Groups
 pub mod Legal
 pub mod Refusals

@@ -1,5 +1,5 @@
 -- The refusals that the line and the session before decide, each request's in its order: the first that holds is answered.
-use Rattle.std.specs.Prelude.{◌≡◌, ℕ, Bool, true, false, nat_lt, ◌&&◌, min, List, [], ◌∷◌, Option, Some, None, Result, Err, cond, ⊤}
+use Rattle.std.specs.Prelude.{◌≡◌, ℕ, Bool, true, false, nat_lt, ◌&&◌, min, List, [], ◌∷◌, Option, Some, None, Result, Ok, Err, cond, ⊤}
 use Rattle.ds_base.specs.declared.entity.EntityRefused.{EntityRefused}
 use Rattle.ds_base.specs.declared.entity.EntityRefused.TheVariants as entity
 use Rattle.ds_base.specs.declared.key.Elem.{Elem}
@@ -64,19 +64,28 @@ group_asked incomplete k = cond (incomplete && is_root k.elems) None (Some (root
 
 -- ---- queries
 
--- what the texts of a search's cursors stand for; nothing where there is no text
-pub record Places : Type 0 where
-  pub start : Option (Result (Option Place) CursorRefused)
-  pub end : Option (Result (Option Place) CursorRefused)
+-- what a search says of one end of its window: nothing, a text that is refused, the place before the first row, or one behind a row
+pub data Told : Type 0 where
+  Nothing : Told
+  Refused : CursorRefused → Told
+  BeforeFirst : Told
+  Behind : Place → Told
 
-abbrev pub PlaceRead : Branch → Option (List ℕ) → Option (Result (Option Place) CursorRefused) → Type 0
-PlaceRead q None None = ⊤
-PlaceRead q (Some text) (Some place) = CursorIs q text place
+pub record Places : Type 0 where
+  pub start : Told
+  pub end : Told
+
+-- what the text of a cursor stands for
+abbrev pub PlaceRead : Branch → Option (List ℕ) → Told → Type 0
+PlaceRead q None Nothing = ⊤
+PlaceRead q (Some text) (Refused why) = CursorIs q text (Err why)
+PlaceRead q (Some text) BeforeFirst = CursorIs q text (Ok None)
+PlaceRead q (Some text) (Behind place) = CursorIs q text (Ok (Some place))
 PlaceRead q _ _ = ⊥
 
-abbrev pub cursor_refusal : Field → Option (Result (Option Place) CursorRefused) → Option Body
-cursor_refusal f (Some (Err cursor.BadCursor)) = Some (body.BadCursor f)
-cursor_refusal f (Some (Err cursor.CursorMismatch)) = Some (body.CursorMismatch f)
+abbrev pub cursor_refusal : Field → Told → Option Body
+cursor_refusal f (Refused cursor.BadCursor) = Some (body.BadCursor f)
+cursor_refusal f (Refused cursor.CursorMismatch) = Some (body.CursorMismatch f)
 cursor_refusal f _ = None
 
 -- this holds where nothing is refused
@@ -88,7 +97,7 @@ IfUnrefused (Some refusal) fact = ⊤
 abbrev pub PlacesRead : List Branch → Search → Places → Type 0
 PlacesRead (q ∷ []) search places =
     PlaceRead q search.start places.start × IfUnrefused (cursor_refusal field.Start places.start) (PlaceRead q search.end places.end)
-PlacesRead _ search places = (places.start ≡ None) × (places.end ≡ None)
+PlacesRead _ search places = (places.start ≡ Nothing) × (places.end ≡ Nothing)
 
 -- what no index serves of a branch
 abbrev pub missing_body : Option Missing → Option Body

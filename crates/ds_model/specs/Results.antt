@@ -52,7 +52,8 @@ same_mark columns names x y =
     same_key x.key y.key
     && pointwise (λ v w. is_eq (index_value_cmp v w)) (projected_values columns names x) (projected_values columns names y)
 
--- the rows in their order, and of each mark the first
+-- The rows in their order, and of each mark the first. Rows that tie are equal in all columns and in their key, so it tells nothing
+-- which of them comes first.
 abbrev pub first_rows : List Column → List (List ℕ) → List RowParts → List RowParts
 first_rows columns names found = first_of_each (same_mark columns names) (sorted_by (compare_rows columns) found)
 

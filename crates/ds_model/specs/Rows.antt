@@ -22,9 +22,9 @@ use Rattle.ds_rows.specs.IndexedValues.{kind_in, indexed_values, each_way}
 -- ---- which entities count
 
 -- its kind is the asked one; any is where none is asked
-abbrev pub is_of_kind : Option (List ℕ) → KeyParts → Bool
-is_of_kind None k = true
-is_of_kind (Some kind) k = kind_in kind k
+abbrev pub has_kind : Option (List ℕ) → KeyParts → Bool
+has_kind None k = true
+has_kind (Some kind) k = kind_in kind k
 
 -- it lies under the ancestor, or is the ancestor itself; anything does where there is none
 abbrev pub is_under : Option KeyParts → KeyParts → Bool
@@ -39,11 +39,11 @@ has_value e p = list_any (λ v. is_eq (index_value_cmp v p.value)) (indexed_valu
 -- a different value of one property
 abbrev pub is_found : Branch → EntityParts → Bool
 is_found q e =
-    bytes_eq e.key.namespace q.namespace && is_of_kind q.kind e.key && is_under q.ancestor e.key && list_all (has_value e) q.equal
+    bytes_eq e.key.namespace q.namespace && has_kind q.kind e.key && is_under q.ancestor e.key && list_all (has_value e) q.equal
 
 -- ---- the rows of one entity
 
--- the columns other than `__key__`: a row has a value for each
+-- the columns other than `__key__`, wherever it stands: a row has a value for each
 abbrev pub value_columns : List Column → List Column
 value_columns = filter (λ c. not (is_key_name c.name))
 
@@ -73,8 +73,8 @@ entity_rows columns e =
 
 -- ---- the rows of a branch
 
--- the rows of the entities that count, the first column's value within the range; entities have distinct keys, so each row
--- stands once
+-- the rows of the entities that count, the first column's value within the range. Of one entity each row stands once, and so do the
+-- rows of entities with distinct keys; of several versions of one entity each has its own.
 abbrev pub rows : Branch → List EntityParts → List RowParts
 rows q entities =
     filter (λ row. is_within q.range (first_value row)) (flat_map (entity_rows q.columns) (filter (is_found q) entities))

@@ -1,6 +1,6 @@
 -- What a client has seen: its replies so far raise it, and nothing lowers it.
 use Rattle.std.specs.Prelude.{ℕ, zero, suc, ◌+◌, max, List, [], ◌∷◌, Bool, nat_le, cond, Option, None, unwrap_or}
-use Rattle.std.specs.Prelude.{replicate, slice_get, take, fold}
+use Rattle.std.specs.Prelude.{replicate, slice_get, take, fold, map}
 use Rattle.ds_base.specs.Limits.{first_drawn_id, greatest_client}
 use Rattle.ds_base.specs.declared.key.Ident.{Ident}
 use Rattle.ds_base.specs.declared.key.Ident.TheVariants.{Id, Name}
@@ -47,6 +47,7 @@ counted_place [] counts = 0
 counted_place (entries ∷ lists) [] = 0
 counted_place (entries ∷ lists) (count ∷ counts) = max (last_commit (take count entries)) (counted_place lists counts)
 
+-- shard by shard the greater count
 abbrev pub greater_counts : List ℕ → List ℕ → List ℕ
 greater_counts [] counts = []
 greater_counts (c ∷ cs) [] = c ∷ cs
@@ -64,14 +65,15 @@ count_of counts shard = unwrap_or (slice_get counts shard) 0
 abbrev pub list_of : List (List Entry) → ℕ → List Entry
 list_of lists shard = unwrap_or (slice_get lists shard) []
 
+-- the counts, that of one shard raised to a count
 abbrev pub raised_at : ℕ → ℕ → List ℕ → List ℕ
 raised_at shard count [] = []
 raised_at zero count (c ∷ cs) = max c count ∷ cs
 raised_at (suc shard) count (c ∷ cs) = c ∷ raised_at shard count cs
 
 -- a printed count of one shard raises that shard's count, and the place to the commit of its last counted entry
-abbrev pub saw_count : List (List Entry) → ℕ → ℕ → Session → Session
-saw_count lists shard count s = record s {
+abbrev pub saw_shard_count : List (List Entry) → ℕ → ℕ → Session → Session
+saw_shard_count lists shard count s = record s {
   place = max s.place (last_commit (take count (list_of lists shard)));
   counts = raised_at shard count s.counts;
 }
@@ -104,11 +106,12 @@ greatest_counts = fold (λ counts s. greater_counts counts s.counts)
 abbrev pub greatest_next : List Session → ℕ
 greatest_next = fold (λ m s. max m s.next_id) 0
 
-abbrev pub met : List Session → List Session
-met sessions = raise_all sessions where
-  raised : Session → Session
-  raised s = record s { place = greatest_place sessions; counts = greatest_counts s.counts sessions; next_id = greatest_next sessions }
+abbrev pub raised_to : List Session → Session → Session
+raised_to all s = record s {
+  place = greatest_place all;
+  counts = greatest_counts s.counts all;
+  next_id = greatest_next all;
+}
 
-  raise_all : List Session → List Session
-  raise_all [] = []
-  raise_all (s ∷ ss) = raised s ∷ raise_all ss
+abbrev pub met : List Session → List Session
+met sessions = map (raised_to sessions) sessions

@@ -6,12 +6,12 @@ ghost use Rattle.ds_base.specs.Values.{index_of};
 ghost use Rattle.std.specs.BTreeSet.{insert_key};
 ghost use Rattle.ds_rows.specs.IndexedValues.{kind_of, property_values, indexed_values, is_key_name};
 
-use ds_base::{IndexValue, IndexValues, Key, NoMemory, Property, TextString, Value};
+use ds_base::{Entity, IndexValue, IndexValues, Key, NoMemory, Property, TextString, Value};
 use std::alloc::Global;
 use std::collections::BTreeSet;
 
-/// The kind of the key's last element.
-pub(crate) fn kind_of(key: &Key) -> &[u8]
+/// The kind of an entity: that of its key's last element, as UTF-8.
+pub fn kind_of(key: &Key) -> &[u8]
     ensures { result.now ≡ kind_of key.now }
 {
     match key.elems().as_slice().last() {
@@ -40,6 +40,23 @@ pub(crate) fn indexed_lists(
         lists.push(values)?;
     }
     Ok(lists)
+}
+
+/// The values that the indexes hold of the entity's property of this name, each once, ascending; none where it has no such property.
+/// One pass over the properties. A refusal is want of memory.
+pub fn indexed_values(
+    alloc: Global,
+    entity: &Entity,
+    name: &TextString,
+) -> Result<IndexValues, NoMemory>
+    ensures { IfOk result (λ values. values ≡ indexed_values entity.now name.now) }
+{
+    for property in entity.properties().as_slice() {
+        if property.name.text() == name.text() {
+            return property_values(alloc, property);
+        }
+    }
+    Ok(IndexValues::new(alloc))
 }
 
 /// The values of a property that its indexes hold, each once, ascending. It takes no memory where the property isn't indexed.

@@ -12,7 +12,7 @@
 mod composite;
 pub mod count;
 mod fronts;
-mod indexed;
+pub mod indexed;
 pub mod laws;
 pub mod refused;
 mod row_set;
@@ -21,6 +21,7 @@ pub mod tables;
 mod ways;
 
 pub use count::count_rows;
+pub use indexed::{indexed_values, kind_of};
 pub use laws::{
     rows_are_apart, rows_are_counted, rows_are_its_own, rows_are_ordered, rows_stand_together,
 };

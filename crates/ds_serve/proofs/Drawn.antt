@@ -12,8 +12,8 @@ use Rattle.ds_request.specs.declared.call.RequestRefused.TheVariants as refused
 use Rattle.ds_reply.specs.declared.reply.Body.{Body}
 use Rattle.ds_reply.specs.declared.reply.Body.TheVariants as body
 use Rattle.ds_rounds.specs.Lines.{Content, Kept, TooLong}
-use Rattle.ds_model.specs.Asked.{asked, request_within, has_shard}
-use Rattle.ds_model.specs.Built.{served, served_by, unbuilt_member}
+use Rattle.ds_model.specs.Asked.{request_within, has_shard}
+use Rattle.ds_single.specs.Built.{asked_here, served, served_by, unbuilt_member}
 use Rattle.ds_model.specs.Legal.{drawn_by, drawn_by_call}
 
 by_call : (client : ℕ) (c : Call) (said : Body) → unbuilt_member c ≡ None → drawn_by_call c said ≡ []
@@ -45,6 +45,6 @@ of_read (Err (refused.BadKey client f)) said = of_refused (client == 0) (refused
 of_read (Err (refused.BadValue client f)) said = of_refused (client == 0) (refused.BadValue client f) said
 of_read (Err refused.NoMemory) said = refl
 
-pub nothing_drawn : (line : Content) (said : Body) → drawn_by (asked 1 line) said ≡ []
+pub nothing_drawn : (line : Content) (said : Body) → drawn_by (asked_here line) said ≡ []
 nothing_drawn (Kept bytes) said = of_read (request_of bytes) said
 nothing_drawn TooLong said = refl

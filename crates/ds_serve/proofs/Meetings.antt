@@ -10,6 +10,7 @@ use Rattle.ds_model.specs.Asked.{client_of}
 use Rattle.ds_model.specs.Worlds.{World}
 use Rattle.ds_model.specs.Legal.{Steps, RoundSteps}
 use Rattle.ds_model.specs.Sessions.{Session, first_id, greater_counts, greatest_counts, greatest_next, greatest_place, met}
+use Rattle.ds_single.specs.Built.{asked_here}
 use Rattle.ds_single.specs.State.{SingleParts}
 use Rattle.ds_single.specs.ReplySteps.{session_of}
 use Rattle.ds_serve.specs.RunSteps.{onlooker}
@@ -60,32 +61,32 @@ meeting s place count place_within count_within =
 
 -- ---- the other clients have no line
 
-all_own : (shards : ℕ) (lines : List NumberedLine) → All (λ line. client_of shards line.content ≡ 0) lines → filter (λ line. client_of shards line.content == 0) lines ≡ lines
-all_own shards [] own = refl
-all_own shards (l ∷ lines) own =
-    ap (λ b. cond b (l ∷ filter (λ line. client_of shards line.content == 0) lines) (filter (λ line. client_of shards line.content == 0) lines)) (ap (λ n. n == 0) (All-head (λ (line : NumberedLine). client_of shards line.content ≡ 0) l lines own))
-    ∙ ap (λ ls. l ∷ ls) (all_own shards lines (All-tail (λ (line : NumberedLine). client_of shards line.content ≡ 0) l lines own))
+all_own : (lines : List NumberedLine) → All (λ line. client_of asked_here line.content ≡ 0) lines → filter (λ line. client_of asked_here line.content == 0) lines ≡ lines
+all_own [] own = refl
+all_own (l ∷ lines) own =
+    ap (λ b. cond b (l ∷ filter (λ line. client_of asked_here line.content == 0) lines) (filter (λ line. client_of asked_here line.content == 0) lines)) (ap (λ n. n == 0) (All-head (λ (line : NumberedLine). client_of asked_here line.content ≡ 0) l lines own))
+    ∙ ap (λ ls. l ∷ ls) (all_own lines (All-tail (λ (line : NumberedLine). client_of asked_here line.content ≡ 0) l lines own))
 
-none_other : (shards client : ℕ) (lines : List NumberedLine) → All (λ line. client_of shards line.content ≡ 0) lines → 0 < client → filter (λ line. client_of shards line.content == client) lines ≡ []
-none_other shards client [] own above = refl
-none_other shards client (l ∷ lines) own above =
-    ap (λ b. cond b (l ∷ filter (λ line. client_of shards line.content == client) lines) (filter (λ line. client_of shards line.content == client) lines))
-    (ap (λ n. n == client) (All-head (λ (line : NumberedLine). client_of shards line.content ≡ 0) l lines own) ∙ ne_eqb 0 client (λ same. absurd (omega (arith, same))))
-    ∙ none_other shards client lines (All-tail (λ (line : NumberedLine). client_of shards line.content ≡ 0) l lines own) above
+none_other : (client : ℕ) (lines : List NumberedLine) → All (λ line. client_of asked_here line.content ≡ 0) lines → 0 < client → filter (λ line. client_of asked_here line.content == client) lines ≡ []
+none_other client [] own above = refl
+none_other client (l ∷ lines) own above =
+    ap (λ b. cond b (l ∷ filter (λ line. client_of asked_here line.content == client) lines) (filter (λ line. client_of asked_here line.content == client) lines))
+    (ap (λ n. n == client) (All-head (λ (line : NumberedLine). client_of asked_here line.content ≡ 0) l lines own) ∙ ne_eqb 0 client (λ same. absurd (omega (arith, same))))
+    ∙ none_other client lines (All-tail (λ (line : NumberedLine). client_of asked_here line.content ≡ 0) l lines own) above
 
-idle : (w : World) (round : List NumberedLine) (client : ℕ) (sessions : List Session) → All (λ line. client_of w.shards line.content ≡ 0) round → 0 < client → RoundSteps w round client sessions [] sessions
+idle : (w : World) (round : List NumberedLine) (client : ℕ) (sessions : List Session) → All (λ line. client_of asked_here line.content ≡ 0) round → 0 < client → RoundSteps asked_here w round client sessions [] sessions
 idle w round client [] own above = (refl, refl)
 idle w round client (s ∷ sessions) own above =
-    ([], [], refl, subst (λ lines. Steps w s lines [] s) (sym (none_other w.shards client round own above)) refl, idle w round (client + 1) sessions own (omega arith))
+    ([], [], refl, subst (λ lines. Steps asked_here w s lines [] s) (sym (none_other client round own above)) refl, idle w round (client + 1) sessions own (omega arith))
 
 -- a round of lines of client 0 alone, from sessions that have met
-pub round_of_one : (w : World) (round : List NumberedLine) (s t : SingleParts) (place count : ℕ) (replies : List Reply) → place ≤ s.place → count ≤ s.count → All (λ line. client_of w.shards line.content ≡ 0) round → Steps w (session_of s) round replies (session_of t) →
-    RoundSteps w round 0 (met (session_of s ∷ replicate 15 (onlooker place count))) replies (session_of t ∷ replicate 15 (onlooker s.place s.count))
+pub round_of_one : (w : World) (round : List NumberedLine) (s t : SingleParts) (place count : ℕ) (replies : List Reply) → place ≤ s.place → count ≤ s.count → All (λ line. client_of asked_here line.content ≡ 0) round → Steps asked_here w (session_of s) round replies (session_of t) →
+    RoundSteps asked_here w round 0 (met (session_of s ∷ replicate 15 (onlooker place count))) replies (session_of t ∷ replicate 15 (onlooker s.place s.count))
 round_of_one w round s t place count replies place_within count_within own steps =
-    subst (λ before. RoundSteps w round 0 before replies (session_of t ∷ replicate 15 (onlooker s.place s.count))) (sym (meeting s place count place_within count_within)) (
+    subst (λ before. RoundSteps asked_here w round 0 before replies (session_of t ∷ replicate 15 (onlooker s.place s.count))) (sym (meeting s place count place_within count_within)) (
       replies,
       [],
       sym (append-nil replies),
-      subst (λ lines. Steps w (session_of s) lines replies (session_of t)) (sym (all_own w.shards round own)) steps,
+      subst (λ lines. Steps asked_here w (session_of s) lines replies (session_of t)) (sym (all_own round own)) steps,
       idle w round 1 (replicate 15 (onlooker s.place s.count)) own (omega arith),
     )

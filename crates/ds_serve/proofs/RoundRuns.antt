@@ -15,14 +15,15 @@ use Rattle.ds_model.specs.Asked.{client_of}
 use Rattle.ds_model.specs.Worlds.{World}
 use Rattle.ds_model.specs.Legal.{Steps, acknowledged, accepted, printed_next}
 use Rattle.ds_model.specs.Sessions.{Session, first_id}
+use Rattle.ds_single.specs.Built.{asked_here}
 use Rattle.ds_single.specs.State.{SingleParts}
 use Rattle.ds_single.specs.ReplySteps.{Answered, no_memory_reply, session_of, world}
 use Rattle.ds_serve.specs.RunSteps.{Ran, room_from}
 
 -- ---- one more line
 
-steps-push : (w : World) (s t u : Session) (lines : List NumberedLine) (replies : List Reply) (line : NumberedLine) (reply : Reply) → Steps w s lines replies t → Answers w t line reply u → Steps w s (lines ++ line ∷ []) (replies ++ reply ∷ []) u
-steps-push w s t u [] [] line reply same answers = (u, subst (λ v. Answers w v line reply u) same answers, refl)
+steps-push : (w : World) (s t u : Session) (lines : List NumberedLine) (replies : List Reply) (line : NumberedLine) (reply : Reply) → Steps asked_here w s lines replies t → Answers asked_here w t line reply u → Steps asked_here w s (lines ++ line ∷ []) (replies ++ reply ∷ []) u
+steps-push w s t u [] [] line reply same answers = (u, subst (λ v. Answers asked_here w v line reply u) same answers, refl)
 steps-push w s t u [] (r ∷ replies) line reply steps answers = absurd steps
 steps-push w s t u (l ∷ lines) [] line reply steps answers = absurd steps
 steps-push w s t u (l ∷ lines) (r ∷ replies) line reply (next, first, steps) answers =
@@ -56,7 +57,7 @@ ran-none s = record {
   acknowledges = refl;
   accepts = refl;
   prints = All-nil (λ next. next ≤ first_id);
-  own = All-nil (λ (line : NumberedLine). client_of 1 line.content ≡ 0);
+  own = All-nil (λ (line : NumberedLine). client_of asked_here line.content ≡ 0);
   later_place = omega arith;
   later_count = omega arith;
 }
@@ -67,7 +68,7 @@ ran-push s t u lines line text reply ran answered = record {
   added = ran.added ++ answered.told.added;
   steps = λ more.
       steps-push (world (u.journal ++ more)) (session_of s) (session_of t) (session_of u) lines ran.replies line reply
-      (subst (λ cs. Steps (world cs) (session_of s) lines ran.replies (session_of t)) (sym (longer more)) (ran.steps (answered.told.added ++ more)))
+      (subst (λ cs. Steps asked_here (world cs) (session_of s) lines ran.replies (session_of t)) (sym (longer more)) (ran.steps (answered.told.added ++ more)))
       (answered.answers more);
   printed = ap (λ bs. bs ++ reply_text reply) ran.printed ∙ sym (texts-push ran.replies reply);
   journal = answered.told.journal ∙ ap (λ cs. cs ++ answered.told.added) ran.journal ∙ append_assoc s.journal ran.added answered.told.added;
@@ -79,7 +80,7 @@ ran-push s t u lines line text reply ran answered = record {
       ∙ ap (range_with_len (length s.journal + 1)) (sym (length-append ran.added answered.told.added));
   accepts = collected-push accepted ran.replies reply ∙ ap (λ ns. ns ++ accepted reply) ran.accepts ∙ answered.told.accepts;
   prints = subst (All (λ next. next ≤ first_id)) (sym (collected-push printed_next ran.replies reply)) (All-append (λ next. next ≤ first_id) (flat_map printed_next ran.replies) (printed_next reply) ran.prints answered.told.prints);
-  own = All-push (λ (l : NumberedLine). client_of 1 l.content ≡ 0) lines line ran.own answered.own;
+  own = All-push (λ (l : NumberedLine). client_of asked_here l.content ≡ 0) lines line ran.own answered.own;
   later_place = omega (arith, ran.later_place, answered.told.later_place);
   later_count = omega (arith, ran.later_count, answered.told.later_count);
 } where

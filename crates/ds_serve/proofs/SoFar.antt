@@ -17,8 +17,9 @@ use Rattle.ds_reply.specs.declared.reply.Reply.{Reply}
 use Rattle.ds_reply.specs.Replies.{reply_text, replies_text}
 use Rattle.ds_log.specs.declared.Commit.{Commit}
 use Rattle.ds_model.specs.Worlds.{World}
-use Rattle.ds_model.specs.Legal.{RoundSteps, RoundsSteps, Legal, acknowledged, accepted, printed_next, answered_lines, drawn_in}
+use Rattle.ds_model.specs.Legal.{RoundSteps, RoundsSteps, LegalBy, acknowledged, accepted, printed_next, answered_lines, drawn_in}
 use Rattle.ds_model.specs.Sessions.{Session, first_id, first_sessions, met}
+use Rattle.ds_single.specs.Built.{asked_here}
 use Rattle.ds_single.specs.State.{SingleParts}
 use Rattle.ds_single.specs.ReplySteps.{session_of, world}
 use Rattle.ds_serve.proofs.Drawn.{nothing_drawn}
@@ -28,9 +29,9 @@ use Rattle.ds_serve.proofs.RoundRuns.{numbers-append}
 
 -- ---- one more round
 
-rounds-push : (w : World) (rounds : List (List NumberedLine)) (round : List NumberedLine) (first before after : List Session) (replies own : List Reply) → RoundsSteps w rounds first replies before → RoundSteps w round 0 (met before) own after → RoundsSteps w (rounds ++ round ∷ []) first (replies ++ own) after
+rounds-push : (w : World) (rounds : List (List NumberedLine)) (round : List NumberedLine) (first before after : List Session) (replies own : List Reply) → RoundsSteps asked_here w rounds first replies before → RoundSteps asked_here w round 0 (met before) own after → RoundsSteps asked_here w (rounds ++ round ∷ []) first (replies ++ own) after
 rounds-push w [] round first before after replies own (none, same) last =
-    (own, [], after, ap (λ rs. rs ++ own) none ∙ sym (append-nil own), subst (λ ss. RoundSteps w round 0 (met ss) own after) same last, (refl, refl))
+    (own, [], after, ap (λ rs. rs ++ own) none ∙ sym (append-nil own), subst (λ ss. RoundSteps asked_here w round 0 (met ss) own after) same last, (refl, refl))
 rounds-push w (r ∷ rounds) round first before after replies own (now, later, between, is, step, steps) last =
     (now, later ++ own, between, ap (λ rs. rs ++ own) is ∙ append_assoc now later own, step, rounds-push w rounds round between before after later own steps last)
 
@@ -61,7 +62,7 @@ run_more rounds round s t text more so_far ran = record {
   count_within = ran.later_count;
   steps = λ later.
       rounds-push (world (t.journal ++ later)) rounds round (first_sessions 1) (session_of s ∷ replicate 15 (onlooker so_far.place so_far.count)) (session_of t ∷ replicate 15 (onlooker s.place s.count)) so_far.replies ran.replies
-      (subst (λ cs. RoundsSteps (world cs) rounds (first_sessions 1) so_far.replies (session_of s ∷ replicate 15 (onlooker so_far.place so_far.count))) (sym (longer later)) (so_far.steps (ran.added ++ later)))
+      (subst (λ cs. RoundsSteps asked_here (world cs) rounds (first_sessions 1) so_far.replies (session_of s ∷ replicate 15 (onlooker so_far.place so_far.count))) (sym (longer later)) (so_far.steps (ran.added ++ later)))
       (round_of_one (world (t.journal ++ later)) round s t so_far.place so_far.count ran.replies so_far.place_within so_far.count_within ran.own (ran.steps later));
   printed = ap (λ bs. bs ++ more) so_far.printed ∙ ap (λ bs. replies_text so_far.replies ++ bs) ran.printed ∙ sym (texts-append so_far.replies ran.replies);
   acknowledges =
@@ -84,20 +85,20 @@ run_more rounds round s t text more so_far ran = record {
 
 -- ---- the legal run
 
-none_drawn : (lines : List NumberedLine) (replies : List Reply) → drawn_in 1 lines replies ≡ []
+none_drawn : (lines : List NumberedLine) (replies : List Reply) → drawn_in asked_here lines replies ≡ []
 none_drawn [] replies = refl
 none_drawn (l ∷ lines) [] = refl
-none_drawn (l ∷ lines) (r ∷ replies) = ap (λ ids. ids ++ drawn_in 1 lines replies) (nothing_drawn l.content r.body) ∙ none_drawn lines replies
+none_drawn (l ∷ lines) (r ∷ replies) = ap (λ ids. ids ++ drawn_in asked_here lines replies) (nothing_drawn l.content r.body) ∙ none_drawn lines replies
 
-pub legal_run : {rounds : List (List NumberedLine)} {now : SingleParts} {text : List ℕ} → (so_far : HasRun rounds now text) → Legal [] 1 (Some greatest_window) rounds now.journal so_far.replies
+pub legal_run : {rounds : List (List NumberedLine)} {now : SingleParts} {text : List ℕ} → (so_far : HasRun rounds now text) → LegalBy asked_here [] 1 (Some greatest_window) rounds now.journal so_far.replies
 legal_run {rounds} {now} {text} so_far = record {
   after = session_of now ∷ replicate 15 (onlooker so_far.place so_far.count);
-  steps = subst (λ cs. RoundsSteps (world cs) rounds (first_sessions 1) so_far.replies (session_of now ∷ replicate 15 (onlooker so_far.place so_far.count))) (append-nil now.journal) (so_far.steps []);
+  steps = subst (λ cs. RoundsSteps asked_here (world cs) rounds (first_sessions 1) so_far.replies (session_of now ∷ replicate 15 (onlooker so_far.place so_far.count))) (append-nil now.journal) (so_far.steps []);
   commits = subst (λ ns. IsPermutation (flat_map acknowledged so_far.replies) ns) so_far.acknowledges (IsPermutation-refl (flat_map acknowledged so_far.replies));
   ids = record {
     bound = first_id;
     from_first = omega arith;
-    each_once = subst (λ ns. IsPermutation ns []) (sym (none_drawn (answered_lines 1 rounds) so_far.replies)) (IsPermutation-refl []);
+    each_once = subst (λ ns. IsPermutation ns []) (sym (none_drawn (answered_lines asked_here rounds) so_far.replies)) (IsPermutation-refl []);
     accepted_below = subst (All (λ id. id < first_id)) (sym so_far.accepts) (All-nil (λ id. id < first_id));
     printed_within = so_far.prints;
   };

@@ -14,6 +14,7 @@ use Rattle.ds_log.specs.declared.Commit.{Commit}
 use Rattle.ds_model.specs.Asked.{client_of}
 use Rattle.ds_model.specs.Legal.{Steps, RoundsSteps, acknowledged, accepted, printed_next}
 use Rattle.ds_model.specs.Sessions.{Session, first_id, first_sessions}
+use Rattle.ds_single.specs.Built.{asked_here}
 use Rattle.ds_single.specs.State.{SingleParts}
 use Rattle.ds_single.specs.ReplySteps.{no_memory_reply, session_of, world}
 use Rattle.ds_serve.specs.Runs.{IsLegalRun}
@@ -40,13 +41,13 @@ onlooker place count = record { place = place; counts = count ∷ []; next_id = 
 pub record Ran (old new : SingleParts) (lines : List NumberedLine) (text : List ℕ) : Type 0 where
   pub replies : List Reply
   pub added : List Commit
-  pub steps : (more : List Commit) → Steps (world (new.journal ++ more)) (session_of old) lines replies (session_of new)
+  pub steps : (more : List Commit) → Steps asked_here (world (new.journal ++ more)) (session_of old) lines replies (session_of new)
   pub printed : text ≡ replies_text replies
   pub journal : new.journal ≡ old.journal ++ added
   pub acknowledges : flat_map acknowledged replies ≡ range_with_len (length old.journal + 1) (length added)
   pub accepts : flat_map accepted replies ≡ []
   pub prints : All (λ next. next ≤ first_id) (flat_map printed_next replies)
-  pub own : All (λ line. client_of 1 line.content ≡ 0) lines
+  pub own : All (λ line. client_of asked_here line.content ≡ 0) lines
   pub later_place : old.place ≤ new.place
   pub later_count : old.count ≤ new.count
 
@@ -58,7 +59,7 @@ pub record HasRun (rounds : List (List NumberedLine)) (now : SingleParts) (text 
   pub count : ℕ
   pub place_within : place ≤ now.place
   pub count_within : count ≤ now.count
-  pub steps : (more : List Commit) → RoundsSteps (world (now.journal ++ more)) rounds (first_sessions 1) replies (session_of now ∷ replicate 15 (onlooker place count))
+  pub steps : (more : List Commit) → RoundsSteps asked_here (world (now.journal ++ more)) rounds (first_sessions 1) replies (session_of now ∷ replicate 15 (onlooker place count))
   pub printed : text ≡ replies_text replies
   pub acknowledges : flat_map acknowledged replies ≡ range_with_len 1 (length now.journal)
   pub accepts : flat_map accepted replies ≡ []

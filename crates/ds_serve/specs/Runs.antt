@@ -7,7 +7,8 @@ use Rattle.ds_rounds.specs.Rounds.{NumberedLine, ended_rounds, rounds_in, rounds
 use Rattle.ds_reply.specs.declared.reply.Reply.{Reply}
 use Rattle.ds_reply.specs.Replies.{replies_text}
 use Rattle.ds_log.specs.declared.Commit.{Commit}
-use Rattle.ds_model.specs.Legal.{Legal}
+use Rattle.ds_model.specs.Legal.{LegalBy}
+use Rattle.ds_single.specs.Built.{asked_here}
 use Rattle.ds_words.specs.declared.status.Status.{Status}
 use Rattle.ds_words.specs.declared.status.Status.TheVariants as status
 
@@ -51,7 +52,7 @@ pub record IsLegalRun (how : Status) (left rest : Option (List ℕ)) (journal : 
   pub rounds : List (List NumberedLine)
   pub replies : List Reply
   pub run : WereRun how ended read rounds
-  pub legal : Legal [] 1 (Some greatest_window) rounds journal replies
+  pub legal : LegalBy asked_here [] 1 (Some greatest_window) rounds journal replies
   pub written : Wrote old new unsent (replies_text replies)
 
 -- ---- how a run ends

@@ -31,7 +31,7 @@ use Rattle.ds_model.specs.Answers.{BodyAnswers, AskedAnswers, CallAnswers, Unles
 use Rattle.ds_model.specs.Asked.{search_of}
 use Rattle.ds_model.specs.Refusals.{refusal_of, entity_body, row_refusal, first_refusal}
 use Rattle.ds_model.specs.Worlds.{World}
-use Rattle.ds_model.specs.Built.{unbuilt_member, unless, is_empty, is_entities}
+use Rattle.ds_single.specs.Built.{unbuilt_member, unless, is_empty, is_entities}
 use Rattle.ds_single.specs.KindResults.{kind_results}
 use Rattle.ds_model.specs.Sessions.{Session, first_id, saw_next}
 use Rattle.ds_single.specs.State.{SingleParts, IsSingle, applied_writes, put_into}

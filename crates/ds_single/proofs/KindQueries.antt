@@ -19,7 +19,7 @@ use Rattle.ds_log.specs.declared.Write.{Write}
 use Rattle.ds_log.specs.After.{after}
 use Rattle.ds_model.specs.Answers.{page_over}
 use Rattle.ds_model.specs.Asked.{Search}
-use Rattle.ds_model.specs.Refusals.{Places}
+use Rattle.ds_model.specs.Refusals.{Nothing, Places}
 use Rattle.ds_model.specs.Results.{first_of_each, same_mark, item_of, items_of, first_rows}
 use Rattle.ds_model.specs.Rows.{compare_rows, entity_rows}
 use Rattle.ds_single.specs.KindResults.{is_of_kind, entity_cmp, sorted_by_key, whole_item, kind_results}
@@ -38,7 +38,7 @@ kind_search kind = record {
 }
 
 abbrev pub no_places : Places
-no_places = record { start = None; end = None }
+no_places = record { start = Nothing; end = Nothing }
 
 -- the only column
 abbrev by_key : List Column

@@ -14,8 +14,8 @@ use Rattle.ds_reply.specs.declared.reply.Reply.{Reply}
 use Rattle.ds_request.specs.Requests.{request_of}
 use Rattle.ds_rounds.specs.Lines.{Content, Kept, TooLong}
 use Rattle.ds_model.specs.Answers.{BodyAnswers, AskedAnswers}
-use Rattle.ds_model.specs.Asked.{asked, request_within, has_shard, client_asked, client_of}
-use Rattle.ds_model.specs.Built.{served, served_by, unbuilt_member}
+use Rattle.ds_model.specs.Asked.{request_within, has_shard, client_asked, client_of}
+use Rattle.ds_single.specs.Built.{asked_here, served, served_by, unbuilt_member}
 use Rattle.ds_single.specs.State.{SingleParts}
 use Rattle.ds_single.specs.ReplySteps.{session_of, world}
 use Rattle.ds_single.specs.ReplySteps.{Says, Answered, CallAnswered, IsQuiet, no_memory_reply}
@@ -47,7 +47,7 @@ client_zero-served (Err (refused.BadKey client f)) = client_zero-refused client 
 client_zero-served (Err (refused.BadValue client f)) = client_zero-refused client (refused.BadValue client f) refl
 client_zero-served (Err refused.NoMemory) = refl
 
-pub client_zero : (line : Content) → client_of 1 line ≡ 0
+pub client_zero : (line : Content) → client_of asked_here line ≡ 0
 client_zero (Kept bytes) = client_zero-served (request_of bytes)
 client_zero TooLong = refl
 
@@ -71,13 +71,13 @@ asked_quiet-of (Err (refused.BadKey own f)) client b is = subst IsQuiet (inner i
 asked_quiet-of (Err (refused.BadValue own f)) client b is = subst IsQuiet (inner is) (record { acknowledges = refl; accepts = refl; prints = refl })
 asked_quiet-of (Err refused.NoMemory) client b is = subst IsQuiet (inner is) no_memory_quiet
 
-asked_quiet : (line : Content) (client : ℕ) (b : Body) → asked 1 line ≡ Err (client, b) → IsQuiet b
+asked_quiet : (line : Content) (client : ℕ) (b : Body) → asked_here line ≡ Err (client, b) → IsQuiet b
 asked_quiet (Kept bytes) client b is = asked_quiet-of (served (request_of bytes)) client b is
 asked_quiet TooLong client b is = subst IsQuiet (inner is) (record { acknowledges = refl; accepts = refl; prints = refl })
 
 -- ---- the reply
 
-pub answered_call : (s t : SingleParts) (number : ℕ) (line : Content) (c : Call) (reply : Reply) → asked 1 line ≡ Ok (record { client = 0; call = c }) → CallAnswered s t number c reply → Answered s t (record { number = number; content = line }) reply
+pub answered_call : (s t : SingleParts) (number : ℕ) (line : Content) (c : Call) (reply : Reply) → asked_here line ≡ Ok (record { client = 0; call = c }) → CallAnswered s t number c reply → Answered s t (record { number = number; content = line }) reply
 answered_call s t number line c reply is a = record {
   own = client_zero line;
   answers = λ more. record {
@@ -96,7 +96,7 @@ answered_no_memory s number line reply is = subst (λ r. Answered s s (record { 
   told = quiet_tells s s (no_memory_reply number) refl (omega arith) (omega arith) no_memory_quiet;
 })
 
-pub answered_refused : (s : SingleParts) (number : ℕ) (line : Content) (b : Body) (reply : Reply) → Says number b reply → (b ≡ body.NoMemory) ⊎ (asked 1 line ≡ Err (0, b)) → Answered s s (record { number = number; content = line }) reply
+pub answered_refused : (s : SingleParts) (number : ℕ) (line : Content) (b : Body) (reply : Reply) → Says number b reply → (b ≡ body.NoMemory) ⊎ (asked_here line ≡ Err (0, b)) → Answered s s (record { number = number; content = line }) reply
 answered_refused s number line b reply (inr is) why = answered_no_memory s number line reply is
 answered_refused s number line b reply (inl is) (inl none) = answered_no_memory s number line reply (is ∙ ap (λ b. record { client = 0; line = number; body = b }) none)
 answered_refused s number line b reply (inl is) (inr refused) = subst (λ r. Answered s s (record { number = number; content = line }) r) (sym is) (record {
@@ -104,7 +104,7 @@ answered_refused s number line b reply (inl is) (inr refused) = subst (λ r. Ans
   answers = λ more. record {
     numbered = refl;
     addressed = sym (client_zero line);
-    said = said (world (s.journal ++ more)) (session_of s) (session_of s) (asked 1 line) b (subst (λ l. AskedAnswers (world (s.journal ++ more)) (session_of s) l b (session_of s)) (sym refused) (refl, refl)) refl;
+    said = said (world (s.journal ++ more)) (session_of s) (session_of s) (asked_here line) b (subst (λ l. AskedAnswers (world (s.journal ++ more)) (session_of s) l b (session_of s)) (sym refused) (refl, refl)) refl;
   };
   told = quiet_tells s s (record { client = 0; line = number; body = b }) refl (omega arith) (omega arith) (asked_quiet line 0 b refused);
 })

@@ -1,3 +1,4 @@
+pub mod Built
 pub mod KindResults
 pub mod ReplySteps
 pub mod State

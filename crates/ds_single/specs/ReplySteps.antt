@@ -17,6 +17,7 @@ use Rattle.ds_model.specs.Asked.{client_of}
 use Rattle.ds_model.specs.Worlds.{World, world_of}
 use Rattle.ds_model.specs.Legal.{acknowledged, accepted, printed_next, acknowledged_in, accepted_in, printed_next_in}
 use Rattle.ds_model.specs.Sessions.{Session, first_id}
+use Rattle.ds_single.specs.Built.{asked_here}
 use Rattle.ds_single.specs.State.{SingleParts}
 
 -- what the client has seen, of the one shard; no id was ever drawn, and there is no transaction
@@ -55,8 +56,8 @@ pub record CallAnswered (old new : SingleParts) (number : ℕ) (c : Call) (reply
 
 -- the reply to a line, over every journal that begins with the new one; while client 0 alone is served, each line is its
 pub record Answered (old new : SingleParts) (line : NumberedLine) (reply : Reply) : Type 0 where
-  pub own : client_of 1 line.content ≡ 0
-  pub answers : (more : List Commit) → Answers (world (new.journal ++ more)) (session_of old) line reply (session_of new)
+  pub own : client_of asked_here line.content ≡ 0
+  pub answers : (more : List Commit) → Answers asked_here (world (new.journal ++ more)) (session_of old) line reply (session_of new)
   pub told : Tells old new reply
 
 -- a line was answered: its reply's text stands behind the text before

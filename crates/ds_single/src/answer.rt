@@ -7,8 +7,8 @@ ghost use Rattle.ds_reply.specs.Replies.{reply_text};
 ghost use Rattle.ds_request.specs.Lawful.{IsLawfulCall};
 ghost use Rattle.ds_log.specs.Ids.{first_unissued, unissued};
 ghost use Rattle.ds_model.specs.Refusals.{entity_body, row_refusal};
-ghost use Rattle.ds_model.specs.Built.{unbuilt_member};
 ghost use Rattle.ds_model.specs.Sessions.{first_id};
+ghost use Rattle.ds_single.specs.Built.{unbuilt_member};
 ghost use Rattle.ds_single.specs.ReplySteps.{Answered, CallAnswered, HasAnswered, IsQuiet, no_memory_reply, kind_query};
 
 use crate::ask::ask;

@@ -2,8 +2,8 @@
 ghost use Rattle.std.specs.Prelude.{◌≡◌, ◌⊎◌, Ok, Err, None, is_none, IfOk, IfErr};
 ghost use Rattle.ds_rounds.specs.Lines.{IsWithinLimit, handed};
 ghost use Rattle.ds_request.specs.Lawful.{IsLawfulCall};
-ghost use Rattle.ds_model.specs.Asked.{asked, request_within};
-ghost use Rattle.ds_model.specs.Built.{unbuilt_member, served, unless, is_empty, is_entities};
+ghost use Rattle.ds_model.specs.Asked.{request_within};
+ghost use Rattle.ds_single.specs.Built.{asked_here, unbuilt_member, served, unless, is_empty, is_entities};
 
 use ds_query::{Field, Select};
 use ds_reply::Body;
@@ -14,10 +14,10 @@ use std::alloc::Global;
 /// The request of a line that is served, or what the reply says instead. Each is client 0's.
 pub(crate) fn ask(alloc: Global, line: Line<'_>) -> Result<Call, Body>
     requires { IsWithinLimit line }
-    ensures ok { IfOk result (λ c. asked 1 (handed line.entry) ≡ Ok (record { client = 0; call = c })) }
+    ensures ok { IfOk result (λ c. asked_here (handed line.entry) ≡ Ok (record { client = 0; call = c })) }
     ensures lawful { IfOk result IsLawfulCall }
     ensures built { IfOk result (λ c. unbuilt_member c ≡ None) }
-    ensures refused { IfErr result (λ b. (b ≡ Body.NoMemory) ⊎ (asked 1 (handed line.entry) ≡ Err (0, b))) }
+    ensures refused { IfErr result (λ b. (b ≡ Body.NoMemory) ⊎ (asked_here (handed line.entry) ≡ Err (0, b))) }
 {
     match line {
         Line::Kept(bytes) => match read_request(alloc, bytes) {

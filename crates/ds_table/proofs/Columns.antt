@@ -1,7 +1,12 @@
 -- The versions of a block's columns, where each column changes.
-use Rattle.std.proofs.Common.{◌≡◌, ℕ, zero, suc, ◌+◌, ◌<◌, ◌≤◌, List, [], ◌∷◌, ◌++◌, length, take, drop, get_or, map, refl, ap, sym, ◌∙◌, arith}
+use Rattle.std.proofs.Common.{◌≡◌, ℕ, zero, suc, ◌<◌, ◌≤◌, List, [], ◌∷◌, ◌++◌, length, take, drop, get_or, map, refl, ap, arith}
 use Rattle.std.proofs.Math.ListN.{set}
 use Rattle.std.specs.List.{insert, remove}
+use Rattle.std.specs.Prelude.{true, nat_lt}
+use Rattle.std.proofs.lemmas.Bool.Decides.{nat_tests}
+use Rattle.ds_table.specs.Each.{Each}
+use Rattle.ds_table.specs.declared.change.Change.TheVariants.{Trim}
+use Rattle.ds_table.specs.Changes.{changed}
 use Rattle.ds_table.specs.Versions.{Version, ended_at}
 use Rattle.ds_table.specs.Blocks.{versions_of}
 
@@ -77,3 +82,22 @@ after_close i (q ∷ rs) [] ts t d a b h = absurd (omega (arith, a))
 after_close i (q ∷ rs) (g ∷ fs) [] t d a b h = absurd (omega (arith, b))
 after_close zero (q ∷ rs) (g ∷ fs) (u ∷ ts) t d a b h = refl
 after_close (suc i) (q ∷ rs) (g ∷ fs) (u ∷ ts) t d a b h = ap (λ l. record { row = q; from = g; to = u } ∷ l) (after_close i rs fs ts t d (omega (arith, a)) (omega (arith, b)) (omega (arith, h)))
+
+-- ---- what holds of each element, where a column changes
+
+-- a bound that is lower holds, too
+pub each_lower : (m n : ℕ) → m ≤ n → (xs : List ℕ) → Each (λ x. n ≤ x) xs → Each (λ x. m ≤ x) xs
+each_lower m n l [] h = tt
+each_lower m n l (x ∷ xs) h = (omega (arith, l, h.0), each_lower m n l xs h.1)
+
+above : (floor to : ℕ) → floor < to → nat_lt floor to ≡ true
+above floor to h = grind (arith, nat_tests)
+
+-- a trim changes nothing where no version ends at or before its floor
+pub nothing_due : (floor due : ℕ) → floor < due → (rs : List (List ℕ)) (fs ts : List ℕ) → Each (λ to. due ≤ to) ts
+    → changed (Trim floor) (versions_of rs fs ts) ≡ versions_of rs fs ts
+nothing_due floor due l [] fs ts h = refl
+nothing_due floor due l (r ∷ rs) [] ts h = refl
+nothing_due floor due l (r ∷ rs) (f ∷ fs) [] h = refl
+nothing_due floor due l (r ∷ rs) (f ∷ fs) (t ∷ ts) h =
+    rw (above floor t (omega (arith, l, h.0))) (ap (λ l. record { row = r; from = f; to = t } ∷ l) (nothing_due floor due l rs fs ts h.1))

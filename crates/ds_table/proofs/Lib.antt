@@ -1,9 +1,11 @@
 pub mod Columns
 pub mod Lists
 pub mod Order
+pub mod Heads
 pub mod Placing
 pub mod Spacing
 pub mod Looking
 pub mod Lives
 pub mod Sorted
 pub mod Splitting
+pub mod Bytes

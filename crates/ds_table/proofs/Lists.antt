@@ -1,6 +1,8 @@
 -- What holds of each element of a list.
-use Rattle.std.proofs.Common.{◌≡◌, ℕ, zero, suc, ◌+◌, ◌<◌, ◌≤◌, Bool, true, false, List, [], ◌∷◌, ◌++◌, length, take, drop, get_or, map, refl, ap, sym, ◌∙◌, arith}
+use Rattle.std.proofs.Common.{◌≡◌, ℕ, zero, suc, ◌<◌, ◌≤◌, Bool, true, false, List, [], ◌∷◌, ◌++◌, length, take, drop, get_or, map, refl, ap, sym, arith}
 use Rattle.std.specs.Prelude.{filter, not}
+use Rattle.std.proofs.Math.ListN.{set}
+use Rattle.std.specs.List.{insert, remove}
 use Rattle.ds_table.specs.Each.{Each}
 
 pub not_both : (b : Bool) → b ≡ true → b ≡ false → ⊥
@@ -86,3 +88,31 @@ pub each_at : {X : Type 0} (P : X → Type 0) (xs : List X) (i : ℕ) (d : X) �
 each_at P [] i d l h = absurd (omega (arith, l))
 each_at P (x ∷ xs) zero d l h = h.0
 each_at P (x ∷ xs) (suc i) d l h = each_at P xs i d (omega (arith, l)) h.1
+
+-- ---- where a list changes
+
+pub each_insert : {X : Type 0} (P : X → Type 0) (i : ℕ) (xs : List X) (x : X) → P x → Each P xs → Each P (insert xs i x)
+each_insert P zero xs x p h = (p, h)
+each_insert P (suc i) [] x p h = (p, tt)
+each_insert P (suc i) (y ∷ xs) x p h = (h.0, each_insert P i xs x p h.1)
+
+pub each_set : {X : Type 0} (P : X → Type 0) (i : ℕ) (xs : List X) (x : X) → P x → Each P xs → Each P (set xs i x)
+each_set P i [] x p h = tt
+each_set P zero (y ∷ xs) x p h = (p, h.1)
+each_set P (suc i) (y ∷ xs) x p h = (h.0, each_set P i xs x p h.1)
+
+pub each_remove : {X : Type 0} (P : X → Type 0) (i : ℕ) (xs : List X) → Each P xs → Each P (remove xs i)
+each_remove P zero [] h = tt
+each_remove P (suc i) [] h = tt
+each_remove P zero (y ∷ xs) h = h.1
+each_remove P (suc i) (y ∷ xs) h = (h.0, each_remove P i xs h.1)
+
+pub each_take : {X : Type 0} (P : X → Type 0) (i : ℕ) (xs : List X) → Each P xs → Each P (take i xs)
+each_take P zero xs h = tt
+each_take P (suc i) [] h = tt
+each_take P (suc i) (y ∷ xs) h = (h.0, each_take P i xs h.1)
+
+pub each_drop : {X : Type 0} (P : X → Type 0) (i : ℕ) (xs : List X) → Each P xs → Each P (drop i xs)
+each_drop P zero xs h = h
+each_drop P (suc i) [] h = tt
+each_drop P (suc i) (y ∷ xs) h = each_drop P i xs h.1

@@ -1,14 +1,13 @@
 -- That the versions stay in order, and their stamps within those given, at each call.
-use Rattle.std.proofs.Common.{◌≡◌, ◌≢◌, ℕ, zero, suc, ◌+◌, ◌<◌, ◌≤◌, Bool, true, false, ◌==◌, eqb, cond, List, [], ◌∷◌, ◌++◌, length, take, drop, get_or, map, refl, ap, sym, ◌∙◌, arith, subst}
-use Rattle.std.specs.Prelude.{filter, not, ◌||◌, ◌&&◌, Option, Some, None, nat_lt, bytes_eq}
-use Rattle.std.specs.List.{filter_map, list_any}
+use Rattle.std.proofs.Common.{◌≡◌, ℕ, suc, ◌<◌, ◌≤◌, Bool, true, false, ◌==◌, List, [], ◌∷◌, ◌++◌, length, refl, ap, sym, ◌∙◌, arith, subst}
+use Rattle.std.specs.Prelude.{◌||◌, Option, Some, None, nat_lt, bytes_eq}
+use Rattle.std.specs.List.{filter_map}
 use Rattle.std.proofs.lemmas.Bool.Decides.{nat_tests}
 use Rattle.std.proofs.lemmas.Slice.Eq.{bytes_eq-Decides}
 use Rattle.ds_table.specs.Each.{Each}
-use Rattle.ds_table.specs.declared.change.Change.{Change}
 use Rattle.ds_table.specs.declared.change.Change.TheVariants.{Undo, Trim}
-use Rattle.ds_table.specs.Versions.{Version, never, is_below, is_alive, has_alive, with_version, added, closed, undone, trimmed, ended_at, before_stamp}
-use Rattle.ds_table.specs.Blocks.{joined, IsOrdered, Precedes, IsGiven}
+use Rattle.ds_table.specs.Versions.{Version, never, is_below, is_alive, has_alive, with_version, closed, trimmed, ended_at}
+use Rattle.ds_table.specs.Blocks.{IsOrdered, Precedes, IsGiven}
 use Rattle.ds_table.specs.Changes.{kept, changed}
 use Rattle.ds_table.specs.Places.{comes_before}
 use Rattle.ds_table.proofs.Lists.{all_then, all_both, all_left, all_right, each_append, not_both, true_unless, false_unless, was_false, was_true}

@@ -1,17 +1,16 @@
 -- What a seek finds, block by block.
-use Rattle.std.proofs.Common.{◌≡◌, ℕ, zero, suc, ◌+◌, ◌-◌, ◌<◌, ◌≤◌, Bool, true, false, ◌&&◌, List, [], ◌∷◌, ◌++◌, length, take, drop, get_or, map, refl, ap, sym, ◌∙◌, arith, subst}
-use Rattle.std.specs.Prelude.{filter, find, not, Option, Some, None, option_map}
+use Rattle.std.proofs.Common.{◌≡◌, ℕ, zero, suc, ◌+◌, ◌-◌, ◌<◌, ◌≤◌, Bool, true, false, List, [], ◌∷◌, ◌++◌, length, take, drop, get_or, map, refl, ap, sym, ◌∙◌, arith}
+use Rattle.std.specs.Prelude.{filter, find, Option, Some, None, option_map}
 use Rattle.std.proofs.lemmas.List.Elements.{filter-append}
 use Rattle.ds_lanes.specs.Kernels.{first_visible}
 use Rattle.ds_table.specs.Each.{Each}
 use Rattle.ds_table.specs.Versions.{Version, is_below, is_before, in_range, is_seen, seen_rows, unseen_before, versions_within}
 use Rattle.ds_table.specs.Blocks.{versions_of, joined, IsOrdered, Precedes}
 use Rattle.ds_table.specs.Places.{IsPlace, comes_before, row_before}
-use Rattle.ds_table.proofs.Lists.{filter_none, all_then, not_both, false_unless, was_true}
+use Rattle.ds_table.proofs.Lists.{filter_none, all_then, not_both, false_unless}
 use Rattle.ds_table.proofs.Order.{upto_below}
-use Rattle.ds_table.proofs.Columns.{after_take, after_drop, as_many, rows_of}
+use Rattle.ds_table.proofs.Columns.{after_take, after_drop}
 use Rattle.ds_table.proofs.Placing.{place_by_rows, ordered_right}
-use Rattle.ds_table.proofs.Spacing.{joined_drop_at}
 use Rattle.std.proofs.lemmas.List.{get_or-take, get_or-drop, length-drop, length-take}
 
 -- the versions of a range are those between its two places

@@ -1,10 +1,10 @@
 -- Places in the order, in one list of rows and in a list of blocks.
-use Rattle.std.proofs.Common.{◌≡◌, ℕ, zero, suc, ◌+◌, ◌<◌, ◌≤◌, Bool, true, false, List, [], ◌∷◌, ◌++◌, length, take, drop, get_or, map, refl, ap, sym, ◌∙◌, arith, add-one, subst}
+use Rattle.std.proofs.Common.{◌≡◌, ℕ, zero, suc, ◌<◌, Bool, true, false, List, [], ◌∷◌, ◌++◌, length, take, drop, get_or, map, sym, arith, subst}
 use Rattle.ds_table.specs.Each.{Each}
 use Rattle.ds_table.specs.Versions.{Version, is_below}
 use Rattle.ds_table.specs.Blocks.{joined, Precedes, IsOrdered}
-use Rattle.ds_table.specs.Places.{row_before, comes_before, IsRising, IsPlace, IsBegun, IsPlaced}
-use Rattle.ds_table.proofs.Lists.{each_append, each_at, all_then, all_left, all_right, all_mapped, all_taken, all_dropped, drop_further}
+use Rattle.ds_table.specs.Places.{row_before, comes_before, IsRising, IsPlace}
+use Rattle.ds_table.proofs.Lists.{each_append, each_at, all_then, all_left, all_right, all_taken, all_dropped}
 use Rattle.ds_table.proofs.Order.{keeps, lacks}
 
 pub rising : (vs : List Version) → IsOrdered vs → IsRising (map (λ v. v.row) vs)

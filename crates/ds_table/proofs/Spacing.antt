@@ -1,5 +1,5 @@
 -- The versions of all blocks, and the spacing of blocks, where a block changes.
-use Rattle.std.proofs.Common.{◌≡◌, ℕ, zero, suc, ◌+◌, ◌*◌, ◌/◌, ◌<◌, ◌≤◌, List, [], ◌∷◌, ◌++◌, length, take, drop, get_or, map, refl, ap, sym, ◌∙◌, arith, append_assoc, subst}
+use Rattle.std.proofs.Common.{◌≡◌, ℕ, zero, suc, ◌+◌, ◌*◌, ◌/◌, ◌<◌, ◌≤◌, List, [], ◌∷◌, ◌++◌, length, take, drop, get_or, refl, ap, sym, ◌∙◌, arith, append_assoc}
 use Rattle.std.proofs.Math.ListN.{set}
 use Rattle.std.proofs.lemmas.List.{length-append, append-nil}
 use Rattle.std.specs.Prelude.{Option, Some, None, option_to_list}
@@ -176,7 +176,7 @@ long_removed [] i h = absurd (omega (arith, h))
 long_removed (b ∷ bs) zero h = refl
 long_removed (b ∷ bs) (suc i) h = ap suc (long_removed bs i (omega (arith, h)))
 
-pub long_insert : (vs : List Version) (p : ℕ) (v : Version) → p ≤ length vs → length (insert vs p v) ≡ suc (length vs)
+pub long_insert : {X : Type 0} (vs : List X) (p : ℕ) (v : X) → p ≤ length vs → length (insert vs p v) ≡ suc (length vs)
 long_insert vs zero v h = refl
 long_insert [] (suc p) v h = absurd (omega (arith, h))
 long_insert (w ∷ vs) (suc p) v h = ap suc (long_insert vs p v (omega (arith, h)))

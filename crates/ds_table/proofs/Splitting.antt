@@ -1,5 +1,5 @@
 -- Where a place is after a full block was split, and what an insertion makes of all versions.
-use Rattle.std.proofs.Common.{◌≡◌, ℕ, zero, suc, ◌+◌, ◌<◌, ◌≤◌, true, false, Bool, List, [], ◌∷◌, ◌++◌, length, take, drop, get_or, refl, ap, sym, ◌∙◌, arith, subst, append_assoc, add-one}
+use Rattle.std.proofs.Common.{◌≡◌, ℕ, zero, suc, ◌<◌, ◌≤◌, true, false, Bool, List, [], ◌∷◌, ◌++◌, length, take, drop, get_or, refl, ap, sym, ◌∙◌, arith, subst, append_assoc, add-one}
 use Rattle.std.proofs.Math.ListN.{set}
 use Rattle.std.specs.List.{insert}
 use Rattle.std.proofs.lemmas.List.{length-append, append-nil, take-append-drop, get_or-take, get_or-drop, length-take, length-drop}
@@ -7,7 +7,7 @@ use Rattle.ds_table.specs.Each.{Each}
 use Rattle.ds_table.specs.Versions.{Version, never, is_alive, has_alive, with_version, added, closed, ended_at}
 use Rattle.ds_table.specs.Blocks.{joined, IsOrdered, IsGiven}
 use Rattle.ds_table.specs.Places.{comes_before, IsPlace, IsPlaced}
-use Rattle.ds_table.proofs.Lists.{each_append, each_at, all_left, all_right, all_then, take_fewer, drop_further, not_both}
+use Rattle.ds_table.proofs.Lists.{each_append, each_at, all_right, all_then, take_fewer, drop_further, not_both}
 use Rattle.ds_table.proofs.Spacing.{joined_at, joined_set, set_parts}
 use Rattle.ds_table.proofs.Lives.{with_version_is, added_ordered, inserted_each, given_new, given_more, closed_is, closed_ordered, closed_given, none_alive, later_not_alive}
 

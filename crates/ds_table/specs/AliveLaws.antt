@@ -1,10 +1,9 @@
 -- Which rows are alive after each call: for callers that keep count of them.
-use Rattle.std.specs.Prelude.{◌≡◌, ℕ, ◌<◌, ◌≤◌, Bool, true, false, ◌&&◌, ◌||◌, ◌==◌, not, nat_lt, if◌then◌else◌, List, [], ◌∷◌, bytes_eq, refl}
-use Rattle.std.specs.List.{list_any}
-use Rattle.std.proofs.Common.{sym, ap, ◌∙◌, subst, arith}
+use Rattle.std.specs.Prelude.{◌≡◌, ℕ, ◌<◌, ◌≤◌, Bool, true, false, ◌&&◌, ◌||◌, ◌==◌, nat_lt, List, [], ◌∷◌, bytes_eq, refl}
+use Rattle.std.proofs.Common.{sym, ap, ◌∙◌, arith}
 use Rattle.std.proofs.lemmas.Bool.Decides.{nat_tests}
 use Rattle.std.proofs.lemmas.Slice.Eq.{bytes_eq-Decides}
-use Rattle.ds_table.specs.Versions.{Version, never, is_below, is_alive, has_alive, with_version, added, closed, trimmed, ended_at}
+use Rattle.ds_table.specs.Versions.{Version, never, is_below, is_alive, has_alive, added, closed, trimmed}
 
 same_row : (x y : List ℕ) → x ≡ y → bytes_eq x y ≡ true
 same_row x y e = (bytes_eq-Decides x y).1 e

@@ -1,7 +1,7 @@
 -- How a table keeps its versions: in blocks, each with its rows and two columns of stamps.
 use Rattle.std.specs.Prelude.{◌≡◌, ℕ, ◌+◌, ◌<◌, ◌≤◌, false, List, [], ◌∷◌, ◌++◌, length}
 use Rattle.ds_table.specs.Each.{Each}
-use Rattle.ds_table.specs.Versions.{Version, is_below, never}
+use Rattle.ds_table.specs.Versions.{Version, IsOfBytes, is_below, never}
 
 -- what a table is seen as
 pub record Tabled : Type 0 where
@@ -32,12 +32,12 @@ versions_of (row ∷ rows) [] tos = []
 versions_of (row ∷ rows) (from ∷ froms) [] = []
 versions_of (row ∷ rows) (from ∷ froms) (to ∷ tos) = record { row = row; from = from; to = to } ∷ versions_of rows froms tos
 
--- the columns of a block are equally long, at most 256, and have room for that many
-pub record IsBlock (rows : List (List ℕ)) (froms tos : List ℕ) (rows_room froms_room tos_room : ℕ) : Type 0 where
+-- the columns of a block are equally long, at most 256, and have room for that many, and no version ends before the stamp `due`
+pub record IsBlock (rows : List (List ℕ)) (froms tos : List ℕ) (due froms_room tos_room : ℕ) : Type 0 where
   pub froms_long : length froms ≡ length rows
   pub tos_long : length tos ≡ length rows
   pub within : length rows ≤ 256
-  pub rows_fit : 256 ≤ rows_room
+  pub not_due : Each (λ to. due ≤ to) tos
   pub froms_fit : 256 ≤ froms_room
   pub tos_fit : 256 ≤ tos_room
 
@@ -65,6 +65,7 @@ IsSpaced (a ∷ b ∷ bs) = ((0 < length a) × (0 < length b) × (128 ≤ length
 -- what holds of the blocks of a table to which no stamp above `last` was given, and that counts its versions
 pub record IsTable (blocks : List (List Version)) (last count : ℕ) : Type 0 where
   pub ordered : IsOrdered (joined blocks)
+  pub of_bytes : Each IsOfBytes (joined blocks)
   pub given : Each (IsGiven last) (joined blocks)
   pub spaced : IsSpaced blocks
   pub filled : Each (λ b. 0 < length b) blocks

@@ -1,11 +1,11 @@
 -- Undoing a stamp leaves the versions that stood before the calls at it: it takes back what an addition did, and what a close
 -- did, and changes nothing where there is nothing of the stamp.
-use Rattle.std.specs.Prelude.{◌≡◌, ℕ, ◌<◌, Bool, true, false, ◌&&◌, ◌==◌, ◌||◌, if◌then◌else◌, List, [], ◌∷◌, Option, Some, None, bytes_eq, refl}
-use Rattle.std.specs.List.{filter_map, cons_option}
-use Rattle.std.proofs.Common.{sym, ap, ◌∙◌, arith}
+use Rattle.std.specs.Prelude.{◌≡◌, ℕ, ◌<◌, Bool, true, false, ◌==◌, if◌then◌else◌, List, [], ◌∷◌, Some, None, bytes_eq, refl}
+use Rattle.std.specs.List.{cons_option}
+use Rattle.std.proofs.Common.{sym, ap, arith}
 use Rattle.std.proofs.lemmas.Bool.Decides.{nat_tests}
 use Rattle.ds_table.specs.Each.{Each}
-use Rattle.ds_table.specs.Versions.{Version, never, is_below, is_alive, with_version, added, closed, undone, before_stamp, ended_at}
+use Rattle.ds_table.specs.Versions.{Version, never, is_below, added, closed, undone, before_stamp, ended_at}
 
 same_number : (m n : ℕ) → m ≡ n → (m == n) ≡ true
 same_number m n e = grind (arith, nat_tests)

@@ -1,5 +1,5 @@
 -- Rows with lifetimes: what a table holds, what is seen of it at a stamp, and what each call makes of it.
-use Rattle.std.specs.Prelude.{◌≡◌, ℕ, ◌<◌, ◌≤◌, suc, Bool, true, false, ◌&&◌, ◌==◌, not, nat_le, nat_lt, if◌then◌else◌, List, [], ◌∷◌, Option, Some, None, map, find, filter, bytes_eq}
+use Rattle.std.specs.Prelude.{ℕ, ◌<◌, suc, Bool, true, ◌&&◌, ◌==◌, not, nat_le, nat_lt, if◌then◌else◌, List, [], ◌∷◌, Option, Some, None, All, map, filter, bytes_eq}
 use Rattle.std.specs.List.{filter_map, list_any}
 use Rattle.std.specs.Ordering.{is_lt}
 use Rattle.ds_base.specs.KeyOrder.{bytes_cmp}
@@ -10,6 +10,14 @@ pub record Version : Type 0 where
   pub row : List ℕ
   pub from : ℕ
   pub to : ℕ
+
+-- each element is a byte
+abbrev pub AreBytes : List ℕ → Type 0
+AreBytes = All (λ b. b < 256)
+
+-- the row of the version is bytes
+abbrev pub IsOfBytes : Version → Type 0
+IsOfBytes v = AreBytes v.row
 
 -- the end of a version that isn't closed, 2^64 - 1, which no stamp reaches
 abbrev pub never : ℕ

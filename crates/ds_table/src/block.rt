@@ -1,13 +1,14 @@
 //! A block of versions, in columns.
-ghost use Rattle.std.specs.Prelude.{◌≡◌, ℕ, ◌+◌, ◌<◌, ◌≤◌, Bool, true, false, List, [], ◌++◌, length, take, drop, find, Some, None, option_copied, option_to_list, slice_index_or, slice_set, IfOk, OnErr, MatchOption};
+ghost use Rattle.std.specs.Prelude.{◌≡◌, ℕ, ◌+◌, ◌<◌, ◌≤◌, Bool, true, false, IsFalse, List, [], ◌++◌, length, take, drop, find, Some, None, option_copied, option_to_list, slice_index_or, slice_set, IfOk, OnErr, MatchOption};
 ghost use Rattle.std.specs.List.{insert};
 ghost use Rattle.ds_table.specs.Versions.{Version, never, is_before, is_seen, ended_at, unseen_before, versions_within};
 ghost use Rattle.ds_table.specs.Blocks.{IsOrdered};
 ghost use Rattle.ds_table.specs.Changes.{kept_end, kept, changed};
 ghost use Rattle.ds_table.specs.Places.{comes_before, IsPlace};
+ghost use Rattle.ds_table.specs.Each.{Each};
 
 use crate::change::{Change, kept_end};
-use crate::places::{place_of, place_of_bound};
+use crate::rows::{Rows, copy_behind};
 use ds_base::ByteString;
 use ds_lanes::first_visible;
 use std::alloc::{AllocError, Global};
@@ -17,12 +18,14 @@ use std::marker::Model;
 pub const MOST_VERSIONS: usize = 256;
 
 /// Some versions in their order: their rows, and two columns of stamps, from which and up to which each is seen. The room for
-/// all that it may have is taken when it is made.
+/// all that it may have is taken when it is made. No version ends before the stamp `due`, so that a trim passes over blocks of
+/// which nothing goes.
 #[derive(Drop)]
 pub struct Block {
-    rows: Vec<ByteString>,
+    rows: Rows,
     froms: Vec<u64>,
     tos: Vec<u64>,
+    due: u64,
 }
 
 impl Model for Block {
@@ -33,9 +36,9 @@ impl Model for Block {
 
     ghost Value = { List Version };
 
-    ghost view = { λ b. versions_of b.rows.items b.froms.items b.tos.items };
+    ghost view = { λ b. versions_of b.rows b.froms.items b.tos.items };
 
-    ghost invariant = { λ b. IsBlock b.rows.items b.froms.items b.tos.items (vec_capacity b.rows) (vec_capacity b.froms) (vec_capacity b.tos) };
+    ghost invariant = { λ b. IsBlock b.rows b.froms.items b.tos.items b.due (vec_capacity b.froms) (vec_capacity b.tos) };
 }
 
 /// What a seek finds in one block.
@@ -52,10 +55,15 @@ impl Block {
     pub fn new(alloc: Global) -> Result<Block, AllocError>
         ensures { IfOk result (λ b. b ≡ []) }
     {
-        let rows = Vec::with_capacity(alloc, MOST_VERSIONS)?;
+        let rows = Rows::new(alloc)?;
         let froms = Vec::with_capacity(alloc, MOST_VERSIONS)?;
         let tos = Vec::with_capacity(alloc, MOST_VERSIONS)?;
-        Ok(Block { rows, froms, tos })
+        Ok(Block {
+            rows,
+            froms,
+            tos,
+            due: u64::MAX,
+        })
     }
 
     /// How many versions it has.
@@ -71,7 +79,7 @@ impl Block {
         requires { i < length self.now }
         ensures { (d : Version) → result.now ≡ (slice_index_or self.now i d).row }
     {
-        self.rows[i].bytes()
+        self.rows.row(i)
     }
 
     /// The place behind all versions that come before the row, or aren't above it where `same_too`.
@@ -79,7 +87,7 @@ impl Block {
         requires { IsOrdered self.now }
         ensures { IsPlace (comes_before row.now same_too) self.now result }
     {
-        place_of(self.rows.as_slice(), row, same_too)
+        self.rows.place(row, same_too)
     }
 
     /// What a seek finds in it.
@@ -91,8 +99,8 @@ impl Block {
             (λ i. (i < length self.now) × ((d : Version) →
             find (is_seen at) (versions_within at_least.now (option_copied below.entry) self.now) ≡ Some (slice_index_or self.now i d))) }
     {
-        let low = place_of(self.rows.as_slice(), at_least, false);
-        let high = place_of_bound(self.rows.as_slice(), below);
+        let low = self.rows.place(at_least, false);
+        let high = self.rows.place_of_bound(below);
         if high <= low {
             return Found {
                 passed: 0,
@@ -119,7 +127,7 @@ impl Block {
         requires room { length self.old < 256 }
         ensures { self.new ≡ insert self.old i (record { row = row; from = stamp; to = never }) }
     {
-        let _ = self.rows.insert(i, row);
+        self.rows.insert(i, row);
         let _ = self.froms.insert(i, stamp);
         let _ = self.tos.insert(i, u64::MAX);
     }
@@ -130,10 +138,37 @@ impl Block {
         ensures { (d : Version) → self.new ≡ slice_set self.old i (ended_at stamp (slice_index_or self.old i d)) }
     {
         self.tos[i] = stamp;
+        self.due = self.due.min(stamp);
     }
 
     /// Changes all versions, and takes out those that go. It takes no memory.
     pub fn change(&mut self, change: Change)
+        ensures { self.new ≡ changed change self.old }
+    {
+        if self.may_change(change) {
+            self.change_each(change);
+            self.find_due();
+        }
+    }
+
+    /// Whether a version may change or go.
+    fn may_change(&self, change: Change) -> bool
+        ensures { IsFalse result → changed change self.now ≡ self.now }
+    {
+        match change {
+            Change::Undo(_) => true,
+            Change::Trim(floor) => self.due <= floor,
+        }
+    }
+
+    /// Sets `due` to the least stamp at which a version ends.
+    fn find_due(&mut self)
+        ensures { self.new ≡ self.old }
+    {
+        self.due = least(self.tos.as_slice());
+    }
+
+    fn change_each(&mut self, change: Change)
         ensures { self.new ≡ changed change self.old }
     {
         let mut i = self.len();
@@ -166,7 +201,7 @@ impl Block {
         requires { i < length self.old }
         ensures { self.new ≡ take i self.old ++ drop (i + 1) self.old }
     {
-        let _row = self.rows.remove(i);
+        self.rows.remove(i);
         let _from = self.froms.remove(i);
         let _to = self.tos.remove(i);
     }
@@ -177,14 +212,17 @@ impl Block {
         ensures parts { IfOk result (λ rest. (self.new ≡ take i self.old) × (rest ≡ drop i self.old)) }
         ensures unchanged { OnErr result (self.new ≡ self.old) }
     {
-        let mut rest = Block::new(alloc)?;
-        let mut rows = self.rows.split_off(i)?;
-        let _ = rest.rows.append(&mut rows);
-        let _ = rest.froms.extend_from_slice(&self.froms[i..]);
-        let _ = rest.tos.extend_from_slice(&self.tos[i..]);
+        let froms = copy_behind(alloc, self.froms.as_slice(), i)?;
+        let tos = copy_behind(alloc, self.tos.as_slice(), i)?;
+        let rows = self.rows.split(alloc, i)?;
         self.froms.truncate(i);
         self.tos.truncate(i);
-        Ok(rest)
+        Ok(Block {
+            rows,
+            froms,
+            tos,
+            due: self.due,
+        })
     }
 
     /// Puts the versions of another block behind its own. It takes no memory.
@@ -192,9 +230,26 @@ impl Block {
         requires { length self.old + length other ≤ 256 }
         ensures { self.new ≡ self.old ++ other }
     {
-        let mut other = other;
-        let _ = self.rows.append(&mut other.rows);
-        let _ = self.froms.append(&mut other.froms);
-        let _ = self.tos.append(&mut other.tos);
+        let Block {
+            rows,
+            mut froms,
+            mut tos,
+            due,
+        } = other;
+        self.rows.append(rows);
+        let _ = self.froms.append(&mut froms);
+        let _ = self.tos.append(&mut tos);
+        self.due = self.due.min(due);
     }
+}
+
+/// The least of the stamps, 2^64 - 1 where there is none.
+fn least(stamps: &[u64]) -> u64
+    ensures { Each (λ s. result ≤ s) stamps.now }
+{
+    let mut least = u64::MAX;
+    for stamp in stamps {
+        least = least.min(*stamp);
+    }
+    least
 }

@@ -3,8 +3,9 @@
 //! it is for are the index tables of the Datastore, read at an older state while newer entries are applied.
 //!
 //! The crate stands on `ds_base` for the order of bytes, on `ds_io` for counted steps, and on `ds_lanes` for the search of the
-//! columns of stamps. Begin with `Table`, in `table`, and `TableView`, in `view`. What each call makes of the versions is said in
-//! `specs/Versions`, and how they are kept in blocks in `specs/Blocks`.
+//! columns of stamps and for what rows have in common. Begin with `Table`, in `table`, and `TableView`, in `view`. What each call
+//! makes of the versions is said in `specs/Versions`, how they are kept in blocks in `specs/Blocks`, and how the rows of a block
+//! are found by a few of their bytes in `specs/Heads`.
 #![tactic(auto)]
 
 mod adding;
@@ -12,6 +13,7 @@ mod block;
 mod change;
 mod joining;
 mod places;
+mod rows;
 mod table;
 mod view;
 

@@ -1,6 +1,6 @@
 //! The table of all versions.
 ghost use Rattle.std.specs.Prelude.{◌≡◌, ℕ, ◌+◌, ◌/◌, ◌<◌, ◌≤◌, List, [], length, max, IsTrue, IsFalse, OnOk, OnErr, IfSome, slice_get, option_map};
-ghost use Rattle.ds_table.specs.Versions.{Version, never, has_alive, added, closed, undone, trimmed};
+ghost use Rattle.ds_table.specs.Versions.{Version, IsOfBytes, never, has_alive, added, closed, undone, trimmed};
 ghost use Rattle.ds_table.specs.Blocks.{Tabled, versions, joined, IsOrdered};
 ghost use Rattle.ds_table.specs.Each.{Each};
 
@@ -104,6 +104,7 @@ impl Table {
     pub(crate) fn as_blocks(&self) -> &[Block]
         ensures value { result.now ≡ self.now.blocks }
         ensures ordered { IsOrdered (joined self.now.blocks) }
+        ensures of_bytes { Each IsOfBytes (joined self.now.blocks) }
         ensures filled { Each (λ b. 0 < length b) self.now.blocks }
     {
         self.blocks.as_slice()
@@ -171,7 +172,8 @@ impl Table {
     }
 
     /// Takes out each version that was closed at or before the floor, which isn't below the last one, and keeps all others. No
-    /// view is below the floor from now on, and each stamp given is above it. It takes no memory.
+    /// view is below the floor from now on, and each stamp given is above it. It takes no memory. It asks of each block when the
+    /// first of its versions ends, and looks at the versions of those blocks alone of which one goes.
     pub fn trim(&mut self, floor: u64)
         requires not_below_the_last { self.old.floor ≤ floor }
         requires a_stamp { floor < never }

@@ -2,14 +2,14 @@
 ghost use Rattle.std.specs.Prelude.{◌≡◌, ℕ, ◌+◌, ◌<◌, ◌≤◌, suc, true, false, length, take, find, option_copied, IsTrue, IsSorted};
 ghost use Rattle.std.specs.List.Sorted.{IsStrictlySortedBy};
 ghost use Rattle.ds_base.specs.KeyOrder.{bytes_cmp};
-ghost use Rattle.ds_table.specs.Versions.{Version, in_range, is_before, seen_rows, unseen_rows, unseen_before, versions_within};
+ghost use Rattle.ds_table.specs.Versions.{Version, IsOfBytes, in_range, is_before, seen_rows, unseen_rows, unseen_before, versions_within};
 ghost use Rattle.ds_table.specs.Blocks.{joined, IsOrdered};
 ghost use Rattle.ds_table.specs.Places.{comes_before};
 ghost use Rattle.ds_table.specs.Seen.{Seen};
 ghost use Rattle.ds_table.specs.Each.{Each};
 
 use crate::block::Block;
-use crate::places::{block_of, is_begun};
+use crate::places::{block_near, block_of};
 use crate::table::Table;
 use ds_io::Steps;
 use std::marker::Model;
@@ -44,7 +44,7 @@ impl<'a> TableView<'a> {
     /// none. It takes no memory. It takes one step, and one more for each version of that range that isn't seen and that
     /// stands before the one found, or in the whole range where none is.
     ///
-    /// The rows seen ascend, and those of the versions that aren't seen don't fall.
+    /// The rows seen ascend, and those of the versions that aren't seen don't fall. All are bytes, and the versions stand in order.
     pub fn seek<L: Ledger>(
         &self,
         at_least: &[u8],
@@ -55,6 +55,8 @@ impl<'a> TableView<'a> {
         ensures steps { steps.new ≡ steps.old + 1 + unseen_before self.now.stamp (versions_within at_least.now (option_copied below.entry) self.now.versions) }
         ensures rows_ascend { IsStrictlySortedBy bytes_cmp (seen_rows self.now.stamp self.now.versions) }
         ensures passed_do_not_fall { IsSorted bytes_cmp (unseen_rows self.now.stamp self.now.versions) }
+        ensures in_order { IsOrdered self.now.versions }
+        ensures of_bytes { Each IsOfBytes self.now.versions }
     {
         let table = self.table;
         let start = block_of(table.as_blocks(), at_least, false);
@@ -62,7 +64,8 @@ impl<'a> TableView<'a> {
     }
 
     /// The same, with a hint: `near` is where the last seek began, at first 0, and each value of it gives the same answer with
-    /// the same steps. It looks there first, which is quick where seeks go on in order, and leaves there where it began.
+    /// the same steps. It looks from there on in steps that double, which is
+    /// quick where seeks go on in order, and leaves there where it began.
     pub fn seek_near<L: Ledger>(
         &self,
         at_least: &[u8],
@@ -74,24 +77,13 @@ impl<'a> TableView<'a> {
         ensures steps { steps.new ≡ steps.old + 1 + unseen_before self.now.stamp (versions_within at_least.now (option_copied below.entry) self.now.versions) }
         ensures rows_ascend { IsStrictlySortedBy bytes_cmp (seen_rows self.now.stamp self.now.versions) }
         ensures passed_do_not_fall { IsSorted bytes_cmp (unseen_rows self.now.stamp self.now.versions) }
+        ensures in_order { IsOrdered self.now.versions }
+        ensures of_bytes { Each IsOfBytes self.now.versions }
     {
         let table = self.table;
-        let start = start_near(table.as_blocks(), at_least, *near as usize);
+        let start = block_near(table.as_blocks(), at_least, *near as usize);
         *near = start as u64;
         seek_from(table.as_blocks(), start, at_least, below, self.at, steps)
-    }
-}
-
-/// A block before which all rows are below this one: the hint, or the block behind it, if the row's place is there.
-fn start_near(blocks: &[Block], row: &[u8], near: usize) -> usize
-    requires ordered { IsOrdered (joined blocks.now) }
-    requires filled { Each (λ b. 0 < length b) blocks.now }
-    ensures { Each (λ v. comes_before row.now false v ≡ true) (joined (take result blocks.now)) }
-{
-    if is_begun(blocks, near, row) && !is_begun(blocks, near + 1, row) {
-        near
-    } else {
-        block_of(blocks, row, false)
     }
 }
 

@@ -92,6 +92,16 @@ fn add_each(rows: &mut Numbered, from: usize, end: usize, stamp: u64) -> Result<
     Ok(true)
 }
 
+/// Closes the rows from `from` on and below `end` at the stamp.
+fn close_each(rows: &mut Numbered, from: usize, end: usize, stamp: u64) -> bool {
+    for number in from..end {
+        if !rows.close(number, stamp) {
+            return false;
+        }
+    }
+    true
+}
+
 /// Adds 1,000 rows at 1, not in their order.
 fn add_scattered(rows: &mut Numbered) -> Result<bool, AllocError> {
     for k in 0..1000usize {
@@ -170,32 +180,56 @@ fn sees_each_of_three_lives(rt: HostRuntime) -> Result<(), Fail> {
     Ok(())
 }
 
+/// Row 5 lives three times, with a trim in each pause: one that takes out the life that has ended, and one that leaves it, since
+/// it ended above the floor. No row is added below the floor.
+fn live_between_trims(rows: &mut Numbered) -> Result<bool, AllocError> {
+    Ok(
+        rows.add(5, 1)?
+            && rows.close(5, 2)
+            && rows.trim(2)
+            && rows.table.versions() == 0
+            && rows.add(5, 4)?
+            && rows.close(5, 6)
+            && rows.trim(5)
+            && rows.table.versions() == 1
+            && !rows.add(5, 5)?
+            && rows.add(5, 6)?,
+    )
+}
+
+#[test]
+fn trims_between_three_lives(rt: HostRuntime) -> Result<(), Fail> {
+    let mut rows = Numbered::make(rt.alloc())?;
+    assert!(rt; live_between_trims(&mut rows)?);
+    assert!(rt; rows.table.versions() == 2);
+    assert!(rt; finds_three_lives::<Brand>(Blank::new(1), &rows.table, 5));
+    Ok(())
+}
+
 /// Adds 600 rows at 1; at 2 closes the first half of them, adds 300 others, and adds one again that was closed.
 fn replace_half(rows: &mut Numbered) -> Result<bool, AllocError> {
     if !add_each(rows, 0, 600, 1)? {
         return Ok(false);
     }
-    for k in 0..300usize {
-        if !rows.close(k, 2) {
-            return Ok(false);
-        }
+    if !close_each(rows, 0, 300, 2) {
+        return Ok(false);
     }
     Ok(add_each(rows, 600, 900, 2)? && rows.add(0, 2)?)
 }
 
-/// The rows below 600 are seen at 2, and no others.
-fn finds_the_first<L: Ledger>(blank: Blank, table: &Table) -> bool
+/// The rows of the numbers below this one are seen at the stamp, and no others.
+fn finds_those_below<L: Ledger>(blank: Blank, table: &Table, at: u64, end: usize) -> bool
     requires name { blank.name ≡ L.name }
     requires parts { blank.parts ≡ L.parts }
     requires some { 0 < blank.parts }
 {
     let mut steps = Steps::<L>::new(blank);
-    for from in 0..600usize {
-        if found(table, 2, from, &mut steps) != Some(from) {
+    for from in 0..end {
+        if found(table, at, from, &mut steps) != Some(from) {
             return false;
         }
     }
-    found(table, 2, 600, &mut steps).is_none()
+    found(table, at, end, &mut steps).is_none()
 }
 
 #[test]
@@ -206,7 +240,28 @@ fn undoes_what_was_done_at_a_stamp(rt: HostRuntime) -> Result<(), Fail> {
     assert!(rt; rows.undo(2));
     assert!(rt; rows.table.versions() == 600);
     assert!(rt; rows.table.blocks() <= 10, "few blocks");
-    assert!(rt; finds_the_first::<Brand>(Blank::new(1), &rows.table));
+    assert!(rt; finds_those_below::<Brand>(Blank::new(1), &rows.table, 2, 600));
+    Ok(())
+}
+
+/// Adds 600 rows at 1, closes the last hundred of them at 2, and trims to 2; at 4 closes the first half of the others, and adds the
+/// hundred again.
+fn replace_after_a_trim(rows: &mut Numbered) -> Result<bool, AllocError> {
+    if !add_each(rows, 0, 600, 1)? || !close_each(rows, 500, 600, 2) || !rows.trim(2) {
+        return Ok(false);
+    }
+    Ok(close_each(rows, 0, 250, 4) && add_each(rows, 500, 600, 4)?)
+}
+
+#[test]
+fn undoes_a_stamp_after_a_trim(rt: HostRuntime) -> Result<(), Fail> {
+    let mut rows = Numbered::make(rt.alloc())?;
+    assert!(rt; replace_after_a_trim(&mut rows)?);
+    assert!(rt; rows.table.versions() == 600);
+    assert!(rt; !rows.undo(2), "a stamp that was trimmed");
+    assert!(rt; rows.undo(4));
+    assert!(rt; rows.table.versions() == 500);
+    assert!(rt; finds_those_below::<Brand>(Blank::new(1), &rows.table, 4, 500));
     Ok(())
 }
 

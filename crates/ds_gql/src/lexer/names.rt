@@ -1,5 +1,5 @@
 //! Words, names in double quotes, and bindings.
-ghost use Rattle.std.specs.Prelude.{◌≡◌, ◌<◌, drop, length, slice_index, true, map, MatchOption};
+ghost use Rattle.std.specs.Prelude.{◌≡◌, ◌<◌, drop, length, slice_index, true, is_some, map, MatchOption};
 ghost use Rattle.std.specs.List.{before_first, after_first, position_or_len};
 ghost use Rattle.std.specs.Str.{str_eq_ignore_ascii_case};
 ghost use Rattle.ds_gql.specs.Fronts.{Fronts};
@@ -60,6 +60,13 @@ fn word_of(word: &str) -> Piece<'_>
         Some(keyword) => Piece::Fixed(keyword),
         None => Piece::Name(word),
     }
+}
+
+/// Whether a word is a keyword, in any case of letters.
+pub(crate) fn is_keyword(word: &str) -> bool
+    ensures { result ≡ is_some (spec.lookup spec.keywords word.now) }
+{
+    lookup(&KEYWORDS, word.as_bytes()).is_some()
 }
 
 /// The word at the front.

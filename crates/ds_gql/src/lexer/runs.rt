@@ -1,6 +1,6 @@
 //! Runs of bytes of one class, and where they end.
 ghost use Rattle.std.specs.Prelude.{◌≡◌, ◌-◌, ◌<◌, ◌≤◌, ◌+◌, drop, take, length, slice_index};
-ghost use Rattle.std.specs.List.{prefix_len};
+ghost use Rattle.std.specs.List.{list_all, prefix_len};
 ghost use Rattle.ds_gql.specs.Fronts.{class_test};
 ghost use Rattle.ds_gql.specs.Tokens as spec;
 
@@ -32,7 +32,7 @@ fn is_in(class: Class, byte: u8) -> bool
 }
 
 /// Whether a word may begin with this byte: an ASCII letter, `_` or `$`.
-pub(super) fn begins_word(byte: u8) -> bool
+pub(crate) fn begins_word(byte: u8) -> bool
     ensures { result ≡ spec.begins_word byte }
 {
     byte.is_ascii_alphabetic() || byte == b'_' || byte == b'$'
@@ -81,4 +81,11 @@ pub(crate) fn skip(text: &str, n: usize) -> &str
     ensures { result.now ≡ drop n text.now }
 {
     &text[n..]
+}
+
+/// Whether all bytes may stand in a word.
+pub(crate) fn all_word_bytes(bytes: &[u8]) -> bool
+    ensures { result ≡ list_all spec.is_word_byte bytes.now }
+{
+    bytes.iter().all(|byte| is_in(Class::Word, *byte))
 }

@@ -4,8 +4,8 @@ ghost use Rattle.ds_gql.specs.Taking.{Takes, TakesUnlessNoMemory};
 ghost use Rattle.ds_gql.specs.Steps as spec;
 ghost use Rattle.ds_gql.specs.Pieces.{seen};
 
+use crate::arguments::Arguments;
 use crate::draft::{Draft, KeyFor, Phase};
-use crate::statement::Bindings;
 use crate::steps::operands::{compare_in, value_of};
 use crate::token::{Mark, Piece};
 use ds_base::{Key, NoMemory, TextString, Value, Values};
@@ -72,15 +72,15 @@ impl Draft {
     pub(super) fn at_operand(
         &mut self,
         alloc: Global,
-        bindings: &Bindings,
+        arguments: &Arguments<'_>,
         piece: Piece<'_>,
     ) -> Result<bool, NoMemory>
-        ensures { TakesUnlessNoMemory (spec.at_operand bindings.now self.old (seen piece.entry)) result self.new }
+        ensures { TakesUnlessNoMemory (spec.at_operand arguments.now self.old (seen piece.entry)) result self.new }
     {
         if piece.is(Mark::Key) {
             return Ok(self.begin_key(alloc, KeyFor::Operand));
         }
-        match value_of(alloc, bindings, piece)? {
+        match value_of(alloc, arguments, piece)? {
             Some(value) => {
                 self.put_operand(alloc, value)?;
                 Ok(true)
@@ -93,15 +93,15 @@ impl Draft {
     pub(super) fn at_listed(
         &mut self,
         alloc: Global,
-        bindings: &Bindings,
+        arguments: &Arguments<'_>,
         piece: Piece<'_>,
     ) -> Result<bool, NoMemory>
-        ensures { TakesUnlessNoMemory (spec.at_listed bindings.now self.old (seen piece.entry)) result self.new }
+        ensures { TakesUnlessNoMemory (spec.at_listed arguments.now self.old (seen piece.entry)) result self.new }
     {
         if piece.is(Mark::Key) {
             return Ok(self.begin_key(alloc, KeyFor::Listed));
         }
-        match value_of(alloc, bindings, piece)? {
+        match value_of(alloc, arguments, piece)? {
             Some(value) => {
                 self.put_listed(value)?;
                 Ok(true)
@@ -132,15 +132,15 @@ impl Draft {
     pub(super) fn at_ancestor_key(
         &mut self,
         alloc: Global,
-        bindings: &Bindings,
+        arguments: &Arguments<'_>,
         piece: Piece<'_>,
     ) -> Result<bool, NoMemory>
-        ensures { TakesUnlessNoMemory (spec.at_ancestor_key bindings.now self.old (seen piece.entry)) result self.new }
+        ensures { TakesUnlessNoMemory (spec.at_ancestor_key arguments.now self.old (seen piece.entry)) result self.new }
     {
         if piece.is(Mark::Key) {
             return Ok(self.begin_key(alloc, KeyFor::Ancestor));
         }
-        match value_of(alloc, bindings, piece)? {
+        match value_of(alloc, arguments, piece)? {
             Some(Value::Key(key)) => {
                 self.put_ancestor(key);
                 Ok(true)

@@ -3,11 +3,11 @@ ghost use Rattle.std.specs.Prelude.{◌≡◌, IfOk, option_map};
 ghost use Rattle.ds_gql.specs.Steps as spec;
 ghost use Rattle.ds_gql.specs.Pieces.{seen, undoubled};
 
-use crate::statement::Bindings;
+use crate::arguments::Arguments;
 use crate::steps::strings::undoubled;
 use crate::token::{Mark, Piece};
 use ds_base::limits::MAX_ID;
-use ds_base::{Ident, NamedValue, NoMemory, TextString, TryCopy, Value, Values, is_name};
+use ds_base::{Ident, NoMemory, TextString, TryCopy, Value, is_name};
 use ds_query::Op;
 use std::alloc::Global;
 
@@ -39,18 +39,18 @@ fn compare_of(mark: Mark) -> Option<Op>
 /// given.
 pub(super) fn value_of(
     alloc: Global,
-    bindings: &Bindings,
+    arguments: &Arguments<'_>,
     piece: Piece<'_>,
 ) -> Result<Option<Value>, NoMemory>
-    ensures { IfOk result (λ value. value ≡ spec.value_of bindings.now (seen piece.entry)) }
+    ensures { IfOk result (λ value. value ≡ spec.value_of arguments.now (seen piece.entry)) }
 {
     match piece {
         Piece::Fixed(mark) => Ok(constant_of(mark)),
         Piece::Name(_) => Ok(None),
         Piece::Integer(n) => Ok(Some(Value::Int(n))),
         Piece::Quoted(raw) => Ok(Some(Value::Str(undoubled(alloc, raw)?))),
-        Piece::Numbered(n) => copied(alloc, argument(&bindings.args, n)),
-        Piece::Named(name) => copied(alloc, first_named(bindings.names.as_slice(), name)),
+        Piece::Numbered(n) => copied(alloc, arguments.numbered(n)),
+        Piece::Named(name) => copied(alloc, arguments.named(name)),
         Piece::Strange => Ok(None),
     }
 }
@@ -73,28 +73,6 @@ fn copied(alloc: Global, value: Option<&Value>) -> Result<Option<Value>, NoMemor
         Some(value) => Ok(Some(value.copy(alloc)?)),
         None => Ok(None),
     }
-}
-
-/// The argument with this number, counted from 1.
-fn argument(args: &Values, number: u64) -> Option<&Value>
-    ensures { option_map (λ v. v.now) result ≡ spec.argument args.now number }
-{
-    if number == 0 {
-        return None;
-    }
-    args.get((number - 1) as usize)
-}
-
-/// The first argument of this name.
-fn first_named<'a>(names: &'a [NamedValue], name: &str) -> Option<&'a Value>
-    ensures { option_map (λ v. v.now) result ≡ spec.first_named names.now name.now }
-{
-    for named in names {
-        if named.name.text() == name {
-            return Some(&named.value);
-        }
-    }
-    None
 }
 
 /// The kind or the name that a string is in a key literal: 1 to 1,500 bytes.

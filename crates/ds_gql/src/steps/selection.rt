@@ -98,7 +98,7 @@ impl Draft {
 }
 
 /// Whether the name is that of keys.
-fn is_key_name(name: &str) -> bool
+pub(crate) fn is_key_name(name: &str) -> bool
     ensures { result ≡ bytes_eq name.now spec.key_name }
 {
     name == "__key__"

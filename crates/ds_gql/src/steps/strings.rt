@@ -30,7 +30,7 @@ pub(super) fn undoubled(alloc: Global, raw: &str) -> Result<TextString, NoMemory
 }
 
 /// What stands before the first quote, and what behind it.
-fn split_quote(text: &str) -> Option<(&str, &str)>
+pub(crate) fn split_quote(text: &str) -> Option<(&str, &str)>
     ensures { MatchOption result (position_or_len is_quote text.now ≡ length text.now)
         (λ parts. (position_or_len is_quote text.now < length text.now)
         × (parts.0.now ≡ before_first is_quote text.now)

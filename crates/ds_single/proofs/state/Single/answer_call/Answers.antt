@@ -1,7 +1,7 @@
 use Rattle.std.proofs.Common.{◌≡◌, sym, ◌∙◌, ap, subst, Option, None, List, ℕ}
 use Rattle.ds_request.specs.declared.call.Call.{Call}
 use Rattle.ds_request.specs.declared.call.Call.TheVariants as call
-use Rattle.ds_model.specs.Built.{unbuilt_member}
+use Rattle.ds_single.specs.Built.{unbuilt_member}
 use Rattle.ds_single.specs.ReplySteps.{CallAnswered}
 use Rattle.ds_single.proofs.CallReplies.{query_built}
 use Rattle.ds_single.proofs.state.Single.answer_call.Goals as goal

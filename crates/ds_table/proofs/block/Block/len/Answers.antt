@@ -5,4 +5,4 @@ use Rattle.ds_table.proofs.block.Block.len.Goals as goal
 pub returns-clause-value : goal.returns-clause-value
 returns-clause-value c =
     let b = c.self.inside in
-    rw (← c.self.view_is) (c.len.ensures ∙ (b.rows.ok.0 ∙ sym (as_many b.rows.items b.froms.items b.tos.items c.self.invariant.froms_long c.self.invariant.tos_long)))
+    rw (← c.self.view_is) (c.len.ensures ∙ sym (as_many b.rows b.froms.items b.tos.items c.self.invariant.froms_long c.self.invariant.tos_long))

@@ -2,12 +2,13 @@ use Rattle.std.proofs.Common.{◌≡◌, ◌<◌, ◌≤◌, true, false, [], le
 use Rattle.std.specs.List.{insert}
 use Rattle.std.proofs.lemmas.List.{get_or_read}
 use Rattle.ds_table.specs.Each.{Each}
-use Rattle.ds_table.specs.Versions.{Version, never, has_alive, added}
+use Rattle.ds_table.specs.Versions.{Version, IsOfBytes, never, has_alive, added}
 use Rattle.ds_table.specs.Blocks.{Tabled, joined, IsOrdered, IsGiven}
 use Rattle.ds_table.specs.Places.{comes_before, IsPlace, IsPlaced}
 use Rattle.ds_table.proofs.Placing.{block_ordered}
 use Rattle.ds_table.proofs.Spacing.{spaced_longer, long_insert}
 use Rattle.ds_table.proofs.Splitting.{added_joined, added_in_order, added_given, added_long}
+use Rattle.ds_table.proofs.Bytes.{slice_of_bytes, added_of_bytes}
 use Rattle.ds_table.proofs.table.Table.add.Goals as goal
 
 pub place-place-requires : goal.place-place-requires
@@ -45,8 +46,10 @@ invariant_of-self-2 c =
     let alive : has_alive row (joined bs) ≡ false = rw same (subst (λ (t : Tabled). has_alive row (joined t.blocks) ≡ false) (sym c.self.view_is) c.requires.not_alive) in
     let h : c.self.inside.last ≤ stamp = subst (λ (t : Tabled). t.last ≤ stamp) (sym c.self.view_is) c.requires.not_before in
     let long = long_insert (get_or bs i []) p v r.within in
+    let bytes = slice_of_bytes row (λ k. omega (arith, c.type_inv.row k)) in
     record {
       ordered = rw new (added_in_order row bs i p l q r stamp c.self.inside.last h o given alive);
+      of_bytes = rw (new, added_joined row bs i p l q r stamp) (added_of_bytes row stamp (joined bs) bytes (subst (Each IsOfBytes) (sym same) inv.of_bytes));
       given = rw new (added_given row bs i p l q r stamp c.self.inside.last h given);
       spaced = spaced_longer bs i c.insert.new.self c.in_ok-i.ensures.spaced (omega (arith, ap length new, long));
       filled = c.in_ok-i.ensures.filled c.insert.new.self (omega (arith, ap length new, long));

@@ -7,6 +7,7 @@ use Rattle.ds_table.specs.Places.{comes_before, IsPlace, IsPlaced}
 use Rattle.ds_table.proofs.Placing.{block_ordered}
 use Rattle.ds_table.proofs.Spacing.{spaced_longer, filled_set}
 use Rattle.ds_table.proofs.Splitting.{closed_joined, closed_in_order, closed_all_given, closed_long, some_before, some_blocks}
+use Rattle.ds_table.proofs.Bytes.{closed_of_bytes}
 use Rattle.ds_table.proofs.table.Table.close.Goals as goal
 
 pub place-place-requires : goal.place-place-requires
@@ -62,6 +63,7 @@ invariant_of-self c =
     let long = length-set (get_or bs i []) j (ended_at stamp (get_or (get_or bs i []) j d)) in
     record {
       ordered = rw new (closed_in_order row bs i j l q s stamp inv.ordered);
+      of_bytes = rw (new, closed_joined row bs i j l q s stamp c.self.inside.last inv.below_never inv.ordered inv.given alive) (closed_of_bytes row stamp (joined bs) inv.of_bytes);
       given = rw new (closed_all_given row bs i j l q s stamp c.self.inside.last h inv.given);
       spaced = spaced_longer bs i c.close.new.self inv.spaced (omega (arith, ap length new, long));
       filled = filled_set bs i c.close.new.self inv.filled (omega (arith, ap length new, long, r.within, some));

@@ -3,6 +3,7 @@ use Rattle.ds_table.specs.declared.change.Change.TheVariants.{Trim}
 use Rattle.ds_table.specs.Blocks.{joined}
 use Rattle.ds_table.specs.Changes.{kept}
 use Rattle.ds_table.proofs.Lives.{map_fewer, trim_ordered, trim_all_given, trimmed_is}
+use Rattle.ds_table.proofs.Bytes.{changed_of_bytes}
 use Rattle.ds_table.proofs.table.Table.trim.Goals as goal
 
 pub count-self-inside-requires : goal.count-self-inside-requires
@@ -16,6 +17,7 @@ invariant_of-self c =
     let inv = c.self.invariant in
     record {
       ordered = rw c.change_all.ensures.changed (trim_ordered c.args.floor c.self.inside.last vs inv.given inv.ordered);
+      of_bytes = rw c.change_all.ensures.changed (changed_of_bytes (Trim c.args.floor) vs inv.of_bytes);
       given = rw c.change_all.ensures.changed (trim_all_given c.args.floor c.self.inside.last vs inv.given);
       below_never = inv.below_never;
       spaced = c.change_all.ensures.spaced;

@@ -3,6 +3,7 @@ use Rattle.ds_table.specs.declared.change.Change.TheVariants.{Undo}
 use Rattle.ds_table.specs.Blocks.{Tabled, joined}
 use Rattle.ds_table.specs.Changes.{kept}
 use Rattle.ds_table.proofs.Lives.{map_fewer, undo_ordered, undo_all_given}
+use Rattle.ds_table.proofs.Bytes.{changed_of_bytes}
 use Rattle.ds_table.proofs.table.Table.undo.Goals as goal
 
 pub count-self-inside-requires : goal.count-self-inside-requires
@@ -17,6 +18,7 @@ invariant_of-self c =
     let h : c.self.inside.last ≤ c.args.stamp = subst (λ (t : Tabled). t.last ≤ c.args.stamp) (sym c.self.view_is) c.requires.not_before in
     record {
       ordered = rw c.change_all.ensures.changed (undo_ordered c.args.stamp c.self.inside.last vs h inv.given inv.ordered);
+      of_bytes = rw c.change_all.ensures.changed (changed_of_bytes (Undo c.args.stamp) vs inv.of_bytes);
       given = rw c.change_all.ensures.changed (undo_all_given c.args.stamp c.self.inside.last vs h inv.given);
       below_never = c.requires.a_stamp;
       spaced = c.change_all.ensures.spaced;

@@ -7,3 +7,9 @@ returns-clause-rows_ascend g c = rw (← c.self.view_is) (seen_ascend c.self.ins
 
 pub returns-clause-passed_do_not_fall : goal.returns-clause-passed_do_not_fall
 returns-clause-passed_do_not_fall g c = rw (← c.self.view_is) (unseen_rises c.self.inside.at (joined c.self.inside.table.now.blocks) c.as_blocks.ensures.ordered)
+
+pub returns-clause-in_order : goal.returns-clause-in_order
+returns-clause-in_order g c = rw (← c.self.view_is) c.as_blocks.ensures.ordered
+
+pub returns-clause-of_bytes : goal.returns-clause-of_bytes
+returns-clause-of_bytes g c = rw (← c.self.view_is) c.as_blocks.ensures.of_bytes

@@ -1,0 +1,4 @@
+pub mod AppliedLists
+pub mod ByKey
+pub mod Routing
+pub mod Sources

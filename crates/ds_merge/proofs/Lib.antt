@@ -1,0 +1,4 @@
+pub mod FirstLaws
+pub mod MarkLaws
+pub mod PageLaws
+pub mod PlaceOrder

@@ -1,0 +1,183 @@
+//! The keys that queries find, shown as text.
+ghost use Rattle.ds_query.specs.Lawful.{IsLawfulNormal};
+
+use crate::asked::query;
+use crate::written::entities;
+use ds_base::{Entities, Ident, Key, Names, NoMemory};
+use ds_merge::merge;
+use ds_plain::{Plain, answer, branch_lists};
+use ds_query::{Normal, Place, Row, Window, normalize};
+use std::alloc::Global;
+use std::test::Fail;
+
+fn from(start: Option<Place>, offset: u32, limit: Option<u32>) -> Window {
+    Window {
+        start,
+        end: None,
+        offset,
+        limit,
+    }
+}
+
+fn show_key(key: &Key, onto: &mut String) -> Result<(), NoMemory> {
+    for elem in key.elems().as_slice() {
+        match &elem.ident {
+            Ident::Name(name) => onto.push_str(name.text())?,
+            Ident::Id(_) => onto.push_str("?")?,
+        }
+    }
+    Ok(())
+}
+
+fn show_rows(rows: &[Row], onto: &mut String) -> Result<(), NoMemory> {
+    for row in rows {
+        onto.push_str(" ")?;
+        show_key(&row.key, onto)?;
+    }
+    Ok(())
+}
+
+/// The keys of the lists of the branches, united.
+fn show_merged(
+    alloc: Global,
+    entities: &Entities,
+    normal: &Normal,
+    window: &Window,
+    onto: &mut String,
+) -> Result<(), NoMemory> {
+    let mut lent = Vec::with_capacity(alloc, entities.len())?;
+    for entity in entities.as_slice() {
+        lent.push(entity)?;
+    }
+    let lists = branch_lists(alloc, lent.as_slice(), normal)?;
+    let merged = merge(alloc, lists, &normal.merged, &Names::new(alloc), window)?;
+    show_rows(merged.rows.as_slice(), onto)
+}
+
+/// The keys of a page that begins with the first result, found by sorting one list and by uniting those of the branches.
+fn show_first(
+    alloc: Global,
+    entities: &Entities,
+    normal: &Normal,
+    window: &Window,
+    onto: &mut String,
+) -> Result<Plain, NoMemory>
+    requires { IsLawfulNormal normal.now }
+{
+    let found = answer(alloc, entities, normal, window)?;
+    let mut keys = String::new(alloc);
+    show_rows(found.rows.as_slice(), &mut keys)?;
+    let mut united = String::new(alloc);
+    show_merged(alloc, entities, normal, window, &mut united)?;
+    onto.push_str(keys.as_str())?;
+    if keys.as_str() != united.as_str() {
+        onto.push_str(" or")?;
+        onto.push_str(united.as_str())?;
+    }
+    Ok(found)
+}
+
+/// The keys of a page, and those of all that follows it.
+fn show_pages(
+    alloc: Global,
+    entities: &Entities,
+    normal: &Normal,
+    window: &Window,
+    onto: &mut String,
+) -> Result<(), NoMemory>
+    requires { IsLawfulNormal normal.now }
+{
+    let first = show_first(alloc, entities, normal, window, onto)?;
+    onto.push_str(" |")?;
+    let second = answer(alloc, entities, normal, &from(first.next, 0, None))?;
+    show_rows(second.rows.as_slice(), onto)
+}
+
+fn show_normal(
+    alloc: Global,
+    entities: &Entities,
+    normal: &Normal,
+    page: Option<(u32, u32)>,
+    onto: &mut String,
+) -> Result<(), NoMemory>
+    requires { IsLawfulNormal normal.now }
+{
+    match page {
+        Some((offset, limit)) => {
+            let window = from(None, offset, Some(limit));
+            show_pages(alloc, entities, normal, &window, onto)
+        }
+        None => {
+            show_first(alloc, entities, normal, &from(None, 0, None), onto)?;
+            Ok(())
+        }
+    }
+}
+
+/// What a query finds, all of it or page after page.
+fn shown(
+    alloc: Global,
+    written: &str,
+    asked: &str,
+    page: Option<(u32, u32)>,
+) -> Result<String, Fail> {
+    let mut shown = String::new(alloc);
+    let entities = entities(alloc, written)?;
+    let query = query(alloc, asked)?;
+    if !query.is_lawful() {
+        return Ok(shown);
+    }
+    match normalize(alloc, &query) {
+        Ok(normal) => show_normal(alloc, &entities, &normal, page, &mut shown)?,
+        Err(_) => shown.push_str(" refused")?,
+    }
+    Ok(shown)
+}
+
+/// Two entities whose values lie among each other.
+const MANY: &str = "b:4,5,6,7 a:1,9";
+
+/// Three entities, of which one has two values.
+const FEW: &str = "c:3 b:4 a:1,5";
+
+/// The numbers from 1 to 30.
+const THIRTY: &str =
+    "in 1,2,3,4,5,6,7,8,9,10,11,12,13,14,15,16,17,18,19,20,21,22,23,24,25,26,27,28,29,30";
+
+/// Entities, queries, a page's offset and limit where there is one, and the keys that are found.
+const FOUND: [(&str, &str, Option<(u32, u32)>, &str); 16] = [
+    // an entity with 1 and 9 comes before one with 4 to 7 in both directions
+    (MANY, "asc", None, " a b"),
+    (MANY, "desc", None, " a b"),
+    (MANY, "", None, " a b"),
+    // behind the first row of `a` there is another one of it
+    (MANY, "asc", Some((0, 1)), " a | b a"),
+    (MANY, "asc", Some((1, 1)), " b | b a"),
+    (MANY, "asc", Some((0, 0)), " | a b"),
+    (MANY, "asc", Some((9, 9)), " | b a"),
+    (MANY, "", Some((0, 1)), " a | b"),
+    // one value meets both bounds
+    (MANY, "> 3; < 6", None, " b"),
+    (MANY, "> 1; < 9", None, " b"),
+    (MANY, "> 7", None, " a"),
+    // two values of one property meet two equalities
+    (MANY, "= 1; = 9", None, " a"),
+    (MANY, "= 1; = 4", None, ""),
+    // several branches: the first row of each key
+    (FEW, THIRTY, None, " a b c"),
+    (FEW, "!= 3; desc", None, " a b"),
+    (FEW, "in 5,4; asc", None, " b a"),
+];
+
+fn is_found(alloc: Global, row: &(&str, &str, Option<(u32, u32)>, &str)) -> Result<bool, Fail> {
+    let text = shown(alloc, row.0, row.1, row.2)?;
+    Ok(text.as_str() == row.3)
+}
+
+#[test]
+fn finds_and_pages(rt: HostRuntime) -> Result<(), Fail> {
+    for row in &FOUND {
+        assert!(rt; is_found(rt.alloc(), row)?, "{} of {}", row.1, row.0);
+    }
+    Ok(())
+}

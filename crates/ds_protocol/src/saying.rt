@@ -1,0 +1,82 @@
+//! Writing one reply into room that is taken before anything is changed.
+ghost use Rattle.std.specs.Prelude.{◌≡◌, ◌+◌, ◌-◌, ◌^◌, ◌≤◌, ◌++◌, min, length, IsTrue};
+ghost use Rattle.ds_reply.specs.Replies.{reply_text};
+ghost use Rattle.ds_protocol.specs.Saying.{Says, no_memory_reply};
+
+use ds_base::Buffer;
+use ds_reply::{Body, Reply, reply_room, write_reply};
+
+/// How many bytes the reply to a line takes that there was no memory, or 2^64 - 1 where they are more. It takes no memory.
+pub fn room(client: u32, number: u64) -> usize
+    ensures { result ≡ min (length (reply_text (no_memory_reply client number))) (2 ^ 64 - 1) }
+{
+    reply_room(&no_memory(client, number)) as usize
+}
+
+fn no_memory(client: u32, number: u64) -> Reply
+    ensures { result ≡ no_memory_reply client number }
+{
+    Reply {
+        client,
+        line: number,
+        body: Body::NoMemory,
+    }
+}
+
+/// Makes room for a reply, and `keep` bytes beside it; false where there is no memory for them.
+pub fn make_room(reply: &Reply, keep: usize, out: &mut Buffer) -> bool
+    ensures same { out.new.bytes ≡ out.old.bytes }
+    ensures kept { out.old.spare ≤ out.new.spare }
+    ensures room { IsTrue result → keep + length (reply_text reply.now) ≤ out.new.spare }
+{
+    let room = reply_room(reply);
+    if room == u64::MAX {
+        return false;
+    }
+    match (room as usize).checked_add(keep) {
+        Some(total) => out.make_room(total).is_ok(),
+        None => false,
+    }
+}
+
+/// Writes the reply to a line that there was no memory, for which there is room, and leaves `keep` bytes of room.
+pub fn say_no_memory(client: u32, number: u64, keep: usize, out: &mut Buffer) -> Reply
+    requires { keep + length (reply_text (no_memory_reply client number)) ≤ out.old.spare }
+    ensures said { result ≡ no_memory_reply client number }
+    ensures text { out.new.bytes ≡ out.old.bytes ++ reply_text result }
+    ensures kept { keep ≤ out.new.spare }
+{
+    let reply = no_memory(client, number);
+    write_within(&reply, out);
+    reply
+}
+
+/// Writes a reply to a line, or where there is no room for it that there was no memory; `keep` bytes of room are left.
+pub fn say(client: u32, number: u64, body: Body, keep: usize, out: &mut Buffer) -> Reply
+    requires { keep + length (reply_text (no_memory_reply client number)) ≤ out.old.spare }
+    ensures said { Says client number body result }
+    ensures text { out.new.bytes ≡ out.old.bytes ++ reply_text result }
+    ensures kept { keep ≤ out.new.spare }
+{
+    let reply = Reply {
+        client,
+        line: number,
+        body,
+    };
+    if !make_room(&reply, keep, out) {
+        return say_no_memory(client, number, keep, out);
+    }
+    write_within(&reply, out);
+    reply
+}
+
+/// Writes a reply for which there is room; the room is lowered by the reply's length at most.
+pub fn write_within(reply: &Reply, out: &mut Buffer)
+    requires { length (reply_text reply.now) ≤ out.old.spare }
+    ensures text { out.new.bytes ≡ out.old.bytes ++ reply_text reply.now }
+    ensures room { out.old.spare ≤ out.new.spare + length (reply_text reply.now) }
+{
+    if write_reply(reply, out).is_err() {
+        unreachable!();
+    }
+}
