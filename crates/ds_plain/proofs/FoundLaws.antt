@@ -12,7 +12,7 @@ use Rattle.ds_query.specs.declared.branch.Branch.{Branch}
 use Rattle.ds_rows.specs.IndexedValues.{indexed_values, each_way}
 use Rattle.ds_model.specs.Rows.{entity_rows, is_within, first_value, value_columns}
 use Rattle.ds_plain.specs.declared.found.Found.{Found}
-use Rattle.ds_plain.specs.FoundRows.{found_parts, found_of}
+use Rattle.ds_plain.specs.FoundRows.{found_parts, found_of, is_in}
 
 -- the rows of one entity that are in the range
 abbrev pub in_range : Branch → List RowParts → List RowParts
@@ -50,15 +50,15 @@ way_put p f done new left rest x whole next put all =
 -- all ways
 pub ways_put : (q : Branch) (e : EntityParts) (done old : List Found) (left lists : List (List IndexValue))
     → left ≡ [] → lists ≡ map (λ c. indexed_values e c.name) (value_columns q.columns)
-    → done ++ filter (λ f. is_within q.range (first_value (found_parts f))) (map (found_of e.key) left)
-    ≡ old ++ filter (λ f. is_within q.range (first_value (found_parts f))) (map (found_of e.key) (each_way lists))
+    → done ++ filter (is_in q.range) (map (found_of e.key) left)
+    ≡ old ++ filter (is_in q.range) (map (found_of e.key) (each_way lists))
     → map found_parts done ≡ map found_parts old ++ in_range q (entity_rows q.columns e)
 ways_put q e done old left lists none_left are all =
-    let last : done ≡ old ++ filter (λ f. is_within q.range (first_value (found_parts f))) (map (found_of e.key) (each_way lists)) =
+    let last : done ≡ old ++ filter (is_in q.range) (map (found_of e.key) (each_way lists)) =
     sym (append-nil done)
-    ∙ ap (λ ls. done ++ filter (λ f. is_within q.range (first_value (found_parts f))) (map (found_of e.key) ls)) (sym none_left) ∙ all in
+    ∙ ap (λ ls. done ++ filter (is_in q.range) (map (found_of e.key) ls)) (sym none_left) ∙ all in
     ap (map found_parts) last
-    ∙ map-append found_parts old (filter (λ f. is_within q.range (first_value (found_parts f))) (map (found_of e.key) (each_way lists)))
+    ∙ map-append found_parts old (filter (is_in q.range) (map (found_of e.key) (each_way lists)))
     ∙ ap (λ rs. map found_parts old ++ rs)
     (parts-filter (λ row. is_within q.range (first_value row)) (map (found_of e.key) (each_way lists))
     ∙ ap (in_range q) (parts-ways e.key (each_way lists))

@@ -4,7 +4,7 @@ ghost use Rattle.ds_base.specs.Entities.{EntityParts};
 ghost use Rattle.ds_cursor.specs.RowsOfColumns.{directions};
 ghost use Rattle.ds_model.specs.Rows.{value_columns, entity_rows, first_value, is_within, rows};
 ghost use Rattle.ds_rows.specs.IndexedValues.{indexed_values};
-ghost use Rattle.ds_plain.specs.FoundRows.{found_parts, found_of, IsLong};
+ghost use Rattle.ds_plain.specs.FoundRows.{found_parts, found_of, is_in, IsLong};
 
 use crate::matching::{is_found, is_within};
 use crate::places::is_key_name;
@@ -83,7 +83,7 @@ fn put_way(
     found: &mut Vec<Found>,
 ) -> Result<(), NoMemory>
     ensures { OnOk result (found.new.items ≡ found.old.items
-        ++ filter (λ f. is_within range.now (first_value (found_parts f))) (found_of key.now values ∷ [])) }
+        ++ filter (is_in range.now) (found_of key.now values ∷ [])) }
 {
     if is_in_range(alloc, range, values.as_slice(), key)? {
         let key = key.copy(alloc)?;

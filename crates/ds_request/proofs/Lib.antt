@@ -1,4 +1,5 @@
 pub mod ArraysLemmas
+pub mod CompletedKeys
 pub mod ClientLemmas
 pub mod Each
 pub mod EntitiesLemmas

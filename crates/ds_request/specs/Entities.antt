@@ -3,7 +3,7 @@ use Rattle.std.specs.Prelude.{ℕ, List, [], ◌∷◌, Bool, not, ◌||◌, Opt
 use Rattle.serde_json.specs.Data.{Data, object}
 use Rattle.ds_base.specs.declared.value.Value.{Value}
 use Rattle.ds_base.specs.declared.entity.Property.{Property}
-use Rattle.ds_base.specs.Keys.{KeyParts, is_name, is_reserved}
+use Rattle.ds_base.specs.Keys.{KeyParts, ends_in_id, is_name, is_reserved}
 use Rattle.ds_base.specs.Entities.{names_ascend}
 use Rattle.ds_request.specs.declared.refusal.Refusal.{Refusal}
 use Rattle.ds_request.specs.declared.refusal.Refusal.TheVariants as refusal
@@ -41,7 +41,12 @@ entity_of (object ms) =
     (defaulted [] properties_of (member_of (codes "properties") ms)))
 entity_of _ = Err refusal.Request
 
--- what the properties of every put keep, so that its entity can be made: names ascend, and there are fewer than 2^32 of them
-pub record IsPut (properties : List Property) : Type 0 where
+-- the properties of every put, so that its entity can be made: names ascend, and there are fewer than 2^32 of them
+pub record ArePut (properties : List Property) : Type 0 where
   pub ascending : IsTrue (names_ascend properties)
   pub few : length properties < 2 ^ 32
+
+-- what every put keeps beside: an incomplete key ends in an id
+pub record IsPut (key : KeyParts) (incomplete : Bool) (written : List Property) : Type 0 where
+  pub completes : IsTrue incomplete → IsTrue (ends_in_id key.elems)
+  pub properties : ArePut written

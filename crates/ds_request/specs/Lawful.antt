@@ -7,10 +7,10 @@ use Rattle.ds_request.specs.declared.call.Call.{Call}
 use Rattle.ds_request.specs.declared.call.Call.TheVariants as call
 use Rattle.ds_request.specs.Entities.{IsPut}
 
--- a put has properties that an entity may have; a query and a statement have a namespace, a query's filters their values;
+-- a put has a key and properties that an entity may have; a query and a statement have a namespace, a query's filters their values;
 -- at least one id is asked for
 abbrev pub IsLawfulCall : Call → Type 0
-IsLawfulCall (call.Put key incomplete properties) = IsPut properties
+IsLawfulCall (call.Put key incomplete properties) = IsPut key incomplete properties
 IsLawfulCall (call.Query namespace kind ancestor filters orders selected offset limit start end cursor) =
     IsTrue (is_namespace namespace) × IsTrue (list_all has_operands filters)
 IsLawfulCall (call.Gql namespace text args names start end cursor) = IsTrue (is_namespace namespace)

@@ -17,9 +17,11 @@ use Rattle.ds_rounds.specs.declared.stage.Stage.{Stage}
 use Rattle.ds_rounds.specs.declared.stage.Stage.TheVariants as stage
 use Rattle.ds_reply.specs.Replies.{replies_text}
 use Rattle.ds_log.specs.declared.Commit.{Commit}
-use Rattle.ds_single.specs.State.{SingleParts}
-use Rattle.ds_serve.specs.Runs.{AreFirst, HasNoFiles, HasTaken, IsBelow, IsLegalRun, IsSteady, WereRun, Wrote, read_faults, write_faults}
-use Rattle.ds_serve.specs.RunSteps.{HasBegun, HasRun, HasServed, Ran, first_state, status_of}
+use Rattle.ds_core.specs.States.{CoreParts}
+use Rattle.ds_serve.specs.declared.settings.Setting.{Setting}
+use Rattle.ds_serve.specs.Settings.{IsSetting}
+use Rattle.ds_serve.specs.Runs.{AreFirst, HasTaken, IsBelow, IsLegalRun, IsSteady, WasSetUp, WereRun, Wrote, read_faults, write_faults}
+use Rattle.ds_serve.specs.RunSteps.{HasBegun, HasRun, HasServed, RanRound, first_core, status_of}
 use Rattle.ds_words.specs.declared.status.Status.{Status}
 use Rattle.ds_words.specs.declared.status.Status.TheVariants as status
 use Rattle.ds_serve.proofs.SoFar.{counted_more, legal_run, run_more, run_nothing}
@@ -57,17 +59,20 @@ given {first} {now} {bytes} {rounds} {reader} so_far = by_stage reader.stage ref
   by_stage stage.Failed is = absurd (so_far.going is)
 
 -- a legal run, from what was run and written and the rounds that these are
-ends : (how : Status) {left_first left held_first held : Option (List ℕ)} {now : SingleParts} {text unsent : List ℕ} {rounds : List (List NumberedLine)} (bytes : List ℕ) (ended : Bool) → HasRun rounds now text → Consumes left_first left bytes → (ended ≡ true → IfSome left_first (λ all. all ≡ bytes)) → WereRun how ended bytes rounds → Wrote held_first held unsent text →
-    IsLegalRun how left_first left now.journal held_first held unsent
-ends how {left_first} {left} {held_first} {held} {now} {text} {unsent} {rounds} bytes ended has_run told at_the_end run wrote = record {
+ends : (how : Status) {words : List (List ℕ)} {content : List ℕ → Option (List ℕ)} {left_first left held_first held : Option (List ℕ)} {now : CoreParts} {text unsent : List ℕ} {rounds : List (List NumberedLine)} (setting : Setting) (bytes : List ℕ) (ended : Bool) →
+    WasSetUp how rounds (IsSetting words content setting) → HasRun setting.defs setting.shards rounds now text → Consumes left_first left bytes → (ended ≡ true → IfSome left_first (λ all. all ≡ bytes)) → WereRun how ended bytes rounds → Wrote held_first held unsent text →
+    IsLegalRun words content how left_first left now.journal held_first held unsent
+ends how {words} {content} {left_first} {left} {held_first} {held} {now} {text} {unsent} {rounds} setting bytes ended set_up has_run told at_the_end run wrote = record {
   read = bytes;
   told = told;
   ended = ended;
   at_the_end = at_the_end;
   rounds = rounds;
   replies = has_run.replies;
+  setting = setting;
   run = run;
-  legal = legal_run has_run;
+  set_up = set_up;
+  legal = legal_run setting.defs setting.shards (Some setting.window) rounds now text has_run;
   written = subst (λ (bs : List ℕ). Wrote held_first held unsent bs) has_run.printed wrote;
 }
 
@@ -78,21 +83,21 @@ all_wrote h0 h1 text wrote = (text, wrote, sym (append-nil text))
 -- ---- a round was given
 
 -- a write failed
-pub ends_unsent : {left_first left next held_first held held_next : Option (List ℕ)} {old new : ReaderParts} {s t : SingleParts} {round : Round} (text : List ℕ) (sent : ℕ) → HasServed left_first left held_first held old s → ReadsRound old new left next (Ok (Some round)) → Ran s t (lines_of_round round) text → Appends held held_next (take sent text) →
-    IsLegalRun status.WriteFault left_first next t.journal held_first held_next (drop sent text)
-ends_unsent {left_first} {left} {next} {held_first} {held} {held_next} {old} {new} {s} {t} {round} text sent before call ran wrote =
+pub ends_unsent : {words : List (List ℕ)} {content : List ℕ → Option (List ℕ)} {left_first left next held_first held held_next : Option (List ℕ)} {old new : ReaderParts} {s t : CoreParts} {round : Round} (text : List ℕ) (sent : ℕ) → HasServed words content left_first left held_first held old s → ReadsRound old new left next (Ok (Some round)) → RanRound s t (lines_of_round round) text → Appends held held_next (take sent text) →
+    IsLegalRun words content status.WriteFault left_first next t.journal held_first held_next (drop sent text)
+ends_unsent {words} {content} {left_first} {left} {next} {held_first} {held} {held_next} {old} {new} {s} {t} {round} text sent before call ran wrote =
     let has_read = read_round before.has_read call in
     let so_far = given has_read in
-    ends status.WriteFault (before.bytes ++ call.read) so_far.ended (run_more before.rounds (lines_of_round round) s t before.text text before.has_run ran) has_read.told so_far.at_the_end (so_far.behind, so_far.first_ones) (wrote_part held_first held held_next before.text text sent before.wrote wrote)
+    ends status.WriteFault before.setting (before.bytes ++ call.read) so_far.ended before.set_up (run_more before.setting.defs before.setting.shards before.rounds (lines_of_round round) s t before.text text before.has_run ran) has_read.told so_far.at_the_end (so_far.behind, so_far.first_ones) (wrote_part held_first held held_next before.text text sent before.wrote wrote)
 
 -- there was no memory to run it
-pub ends_unrun : {left_first left next held_first held : Option (List ℕ)} {old new : ReaderParts} {s t : SingleParts} {round : Round} → HasServed left_first left held_first held old s → ReadsRound old new left next (Ok (Some round)) → t ≡ s →
-    IsLegalRun status.NoMemory left_first next t.journal held_first held []
-ends_unrun {left_first} {left} {next} {held_first} {held} {old} {new} {s} {t} {round} before call same_state =
+pub ends_unrun : {words : List (List ℕ)} {content : List ℕ → Option (List ℕ)} {left_first left next held_first held : Option (List ℕ)} {old new : ReaderParts} {s t : CoreParts} {round : Round} → HasServed words content left_first left held_first held old s → ReadsRound old new left next (Ok (Some round)) → t ≡ s →
+    IsLegalRun words content status.NoMemory left_first next t.journal held_first held []
+ends_unrun {words} {content} {left_first} {left} {next} {held_first} {held} {old} {new} {s} {t} {round} before call same_state =
     let now = read_round before.has_read call in
     let so_far = given now in
-    subst (λ (u : SingleParts). IsLegalRun status.NoMemory left_first next u.journal held_first held []) (sym same_state)
-    (ends status.NoMemory (before.bytes ++ call.read) so_far.ended before.has_run now.told so_far.at_the_end
+    subst (λ (u : CoreParts). IsLegalRun words content status.NoMemory left_first next u.journal held_first held []) (sym same_state)
+    (ends status.NoMemory before.setting (before.bytes ++ call.read) so_far.ended (inr before.set_up) before.has_run now.told so_far.at_the_end
     (lines_of_round round ∷ so_far.behind, so_far.first_ones ∙ append_assoc before.rounds (lines_of_round round ∷ []) so_far.behind, inl (omega arith))
     (all_wrote held_first held before.text before.wrote))
 
@@ -104,9 +109,9 @@ end_met stage.Ended now going reading ended = ended refl
 end_met stage.Failed now going reading ended = absurd (going refl)
 
 -- the input has ended
-pub ends_done : {left_first left next held_first held : Option (List ℕ)} {old new : ReaderParts} {s : SingleParts} → HasServed left_first left held_first held old s → ReadsRound old new left next (Ok None) → IsLegalRun status.Done left_first next s.journal held_first held []
-ends_done {left_first} {left} {next} {held_first} {held} {old} {new} {s} before call =
-    ends status.Done (before.bytes ++ call.read) true before.has_run (Consumes-then left_first left next before.bytes call.read before.has_read.told call.told) (λ is. at_the_end)
+pub ends_done : {words : List (List ℕ)} {content : List ℕ → Option (List ℕ)} {left_first left next held_first held : Option (List ℕ)} {old new : ReaderParts} {s : CoreParts} → HasServed words content left_first left held_first held old s → ReadsRound old new left next (Ok None) → IsLegalRun words content status.Done left_first next s.journal held_first held []
+ends_done {words} {content} {left_first} {left} {next} {held_first} {held} {old} {new} {s} before call =
+    ends status.Done before.setting (before.bytes ++ call.read) true before.set_up before.has_run (Consumes-then left_first left next before.bytes call.read before.has_read.told call.told) (λ is. at_the_end)
     (refl, subst (λ n. n < most_input_bytes) (counted_more old new before.bytes call.read before.counted call.counted) call.outcome.2, sym (read_all before.has_read call))
     (all_wrote held_first held before.text before.wrote) where
       met_before : old.stage ≡ stage.Ended → IfSome left_first (λ all. all ≡ before.bytes ++ call.read)
@@ -121,36 +126,47 @@ ends_done {left_first} {left} {next} {held_first} {held} {old} {new} {s} before 
           met_before
 
 -- no further round was read
-pub ends_refused : {left_first left next held_first held : Option (List ℕ)} {old new : ReaderParts} {s : SingleParts} (why : RoundRefused) → HasServed left_first left held_first held old s → ReadsRound old new left next (Err why) → IsLegalRun (status_of why) left_first next s.journal held_first held []
-ends_refused {left_first} {left} {next} {held_first} {held} {old} {new} {s} why before = by_cause why where
+pub ends_refused : {words : List (List ℕ)} {content : List ℕ → Option (List ℕ)} {left_first left next held_first held : Option (List ℕ)} {old new : ReaderParts} {s : CoreParts} (why : RoundRefused) → HasServed words content left_first left held_first held old s → ReadsRound old new left next (Err why) → IsLegalRun words content (status_of why) left_first next s.journal held_first held []
+ends_refused {words} {content} {left_first} {left} {next} {held_first} {held} {old} {new} {s} why before = by_cause why where
   counted : (read : List ℕ) → new.taken ≡ old.taken + length read → new.taken ≡ length (before.bytes ++ read)
   counted read more = counted_more old new before.bytes read before.counted more
 
-  ended : (read : List ℕ) (how : Status) → Consumes left next read → WereRun how false (before.bytes ++ read) before.rounds → IsLegalRun how left_first next s.journal held_first held []
-  ended read how told run =
-      ends how (before.bytes ++ read) false before.has_run (Consumes-then left_first left next before.bytes read before.has_read.told told) (λ is. false_true is) run (all_wrote held_first held before.text before.wrote)
+  ended : (read : List ℕ) (how : Status) → WasSetUp how before.rounds (IsSetting words content before.setting) → Consumes left next read → WereRun how false (before.bytes ++ read) before.rounds → IsLegalRun words content how left_first next s.journal held_first held []
+  ended read how set_up told run =
+      ends how before.setting (before.bytes ++ read) false set_up before.has_run (Consumes-then left_first left next before.bytes read before.has_read.told told) (λ is. false_true is) run (all_wrote held_first held before.text before.wrote)
 
-  by_cause : (cause : RoundRefused) → ReadsRound old new left next (Err cause) → IsLegalRun (status_of cause) left_first next s.journal held_first held []
+  by_cause : (cause : RoundRefused) → ReadsRound old new left next (Err cause) → IsLegalRun words content (status_of cause) left_first next s.journal held_first held []
   by_cause refused.ReadFault call =
-      ended call.read status.ReadFault call.told (subst (λ n. n < most_input_bytes) (counted call.read call.counted) call.outcome.2, sym (read_until_fault before.has_read call))
+      ended call.read status.ReadFault before.set_up call.told (subst (λ n. n < most_input_bytes) (counted call.read call.counted) call.outcome.2, sym (read_until_fault before.has_read call))
   by_cause refused.InputLimit call =
-      ended call.read status.InputLimit call.told (sym (counted call.read call.counted) ∙ call.outcome.2, sym (read_until_limit before.has_read call))
+      ended call.read status.InputLimit before.set_up call.told (sym (counted call.read call.counted) ∙ call.outcome.2, sym (read_until_limit before.has_read call))
   by_cause refused.NoMemory call =
-      ended call.read status.NoMemory call.told
+      ended call.read status.NoMemory (inr before.set_up) call.told
       (rounds_in false old.number (old.buffered ++ call.read), before.has_read.so_far false call.read going, inr (refl, subst (λ n. n < most_input_bytes) (counted call.read call.counted) call.outcome.1)) where
         going : MayFollow old.stage false call.read
         going = end_met old.stage (MayFollow old.stage false call.read) before.has_read.going (λ reading. subst (λ s. MayFollow s false call.read) (sym reading) tt) (λ end. let none = (call.past_the_end end).1 in cc)
 
 -- ---- nothing was read
 
-ends_unread : (how : Status) (left held : Option (List ℕ)) → WereRun how false [] [] → IsLegalRun how left left [] held held []
-ends_unread how left held run = ends how [] false run_nothing (Consumes-none left) (λ is. false_true is) run (all_wrote held held [] (Appends-none held))
+-- a setting, where none was set up
+abbrev none_set : Setting
+none_set = record { shards = 1; window = 1; defs = [] }
 
-pub ends_at_once : (how s : Status) (left held : Option (List ℕ)) (journal : Option (List Commit)) (unsent : List ℕ) (single : SingleParts) → WereRun how false [] [] → s ≡ how → journal ≡ Some single.journal → single ≡ first_state → unsent ≡ [] → IfSome journal (λ journal. IsLegalRun s left left journal held held unsent)
-ends_at_once how s left held journal unsent single run same_status same_journal same_state none =
-    subst (λ (o : Option (List Commit)). IfSome o (λ journal. IsLegalRun s left left journal held held unsent)) (sym (same_journal ∙ ap (λ (t : SingleParts). Some t.journal) same_state))
-    (subst (λ (t : Status). IsLegalRun t left left [] held held unsent) (sym same_status)
-    (subst (λ (rest : List ℕ). IsLegalRun how left left [] held held rest) (sym none) (ends_unread how left held run)))
+pub ends_at_once : (how : Status) (words : List (List ℕ)) (content : List ℕ → Option (List ℕ)) (s : Status) (left held : Option (List ℕ)) (journal : Option (List Commit)) (unsent : List ℕ) → WereRun how false [] [] → WasSetUp how [] (IsSetting words content none_set) → s ≡ how → journal ≡ Some [] → unsent ≡ [] →
+    IfSome journal (λ journal. IsLegalRun words content s left left journal held held unsent)
+ends_at_once how words content s left held journal unsent run set_up same_status same_journal none =
+    subst (λ (o : Option (List Commit)). IfSome o (λ journal. IsLegalRun words content s left left journal held held unsent)) (sym same_journal)
+    (subst (λ (t : Status). IsLegalRun words content t left left [] held held unsent) (sym same_status)
+    (subst (λ (rest : List ℕ). IsLegalRun words content how left left [] held held rest) (sym none)
+    (ends how none_set [] false set_up (run_nothing none_set.defs none_set.shards) (Consumes-none left) (λ is. false_true is) run (all_wrote held held [] (Appends-none held)))))
+
+-- what is given at the end of a run
+pub told-end : (words : List (List ℕ)) (content : List ℕ → Option (List ℕ)) (how s : Status) (left rest held held_next : Option (List ℕ)) (journal : List Commit) (given_journal : Option (List Commit)) (unsent given_unsent : List ℕ) → s ≡ how → given_journal ≡ Some journal → given_unsent ≡ unsent →
+    IsLegalRun words content how left rest journal held held_next unsent → IfSome given_journal (λ journal. IsLegalRun words content s left rest journal held held_next given_unsent)
+told-end words content how s left rest held held_next journal given_journal unsent given_unsent same_status same_journal same_unsent legal =
+    subst (λ (o : Option (List Commit)). IfSome o (λ j. IsLegalRun words content s left rest j held held_next given_unsent)) (sym same_journal)
+    (subst (λ (t : Status). IsLegalRun words content t left rest journal held held_next given_unsent) (sym same_status)
+    (subst (λ (u : List ℕ). IsLegalRun words content how left rest journal held held_next u) (sym same_unsent) legal))
 
 -- ---- what else a legal run tells of its end
 
@@ -160,14 +176,14 @@ taken read None rest whole told = tt
 taken read (Some l) None whole told = absurd told
 taken read (Some l) (Some r) whole told = omega (arith, ap (λ (bs : List ℕ). length bs) told, length-append read r, whole)
 
-at_limit : (how : Status) (left rest old new : Option (List ℕ)) (journal : List Commit) (unsent : List ℕ) → IsLegalRun how left rest journal old new unsent → how ≡ status.InputLimit → HasTaken most_input_bytes left rest
-at_limit how left rest old new journal unsent legal is =
+at_limit : (words : List (List ℕ)) (content : List ℕ → Option (List ℕ)) (how : Status) (left rest old new : Option (List ℕ)) (journal : List Commit) (unsent : List ℕ) → IsLegalRun words content how left rest journal old new unsent → how ≡ status.InputLimit → HasTaken most_input_bytes left rest
+at_limit words content how left rest old new journal unsent legal is =
     let run : WereRun status.InputLimit legal.ended legal.read legal.rounds = subst (λ h. WereRun h legal.ended legal.read legal.rounds) is legal.run in
     taken legal.read left rest run.0 legal.told
 
-pub limit_of : (how : Status) (left rest old new : Option (List ℕ)) (journal : Option (List Commit)) (unsent : List ℕ) → IsSome journal → IfSome journal (λ journal. IsLegalRun how left rest journal old new unsent) → how ≡ status.InputLimit → HasTaken most_input_bytes left rest
-limit_of how left rest old new None unsent some legal is = false_true some
-limit_of how left rest old new (Some journal) unsent some legal is = at_limit how left rest old new journal unsent legal is
+pub limit_of : (words : List (List ℕ)) (content : List ℕ → Option (List ℕ)) (how : Status) (left rest old new : Option (List ℕ)) (journal : Option (List Commit)) (unsent : List ℕ) → IsSome journal → IfSome journal (λ journal. IsLegalRun words content how left rest journal old new unsent) → how ≡ status.InputLimit → HasTaken most_input_bytes left rest
+limit_of words content how left rest old new None unsent some legal is = false_true some
+limit_of words content how left rest old new (Some journal) unsent some legal is = at_limit words content how left rest old new journal unsent legal is
 
 -- a count that is the next one rose
 rose : (old new : ℕ) → new ≡ next_count old → Rose old new

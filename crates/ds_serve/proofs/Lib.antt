@@ -1,6 +1,9 @@
-pub mod Drawn
+pub mod Asking
+pub mod ByClient
 pub mod Ends
-pub mod Meetings
-pub mod RoundRuns
+pub mod Rests
+pub mod ShardBounds
 pub mod SoFar
+pub mod Turns
+pub mod Unset
 pub mod Written

@@ -1,2 +1,4 @@
+pub mod AskedLines
 pub mod RunSteps
 pub mod Runs
+pub mod Settings

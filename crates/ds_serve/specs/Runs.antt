@@ -1,21 +1,17 @@
 -- What a run of the server is: the main theorem's words.
-use Rattle.std.specs.Prelude.{◌≡◌, ℕ, ◌+◌, ◌<◌, ◌≤◌, ◌⊎◌, List, [], ◌∷◌, ◌++◌, Bool, true, false, ◌&&◌, Option, Some, None, IfSome, IsSomeAnd, length, codes, bytes_eq, ⊤}
+use Rattle.std.specs.Prelude.{◌≡◌, ℕ, ◌+◌, ◌<◌, ◌≤◌, ◌⊎◌, List, [], ◌∷◌, ◌++◌, Bool, true, false, Option, Some, None, IfSome, IsSomeAnd, length, ⊤}
 use Rattle.std.specs.Io.KnownBytes.{Appends, Consumes}
-use Rattle.ds_base.specs.Limits.{greatest_window, most_input_bytes}
+use Rattle.ds_base.specs.Limits.{most_input_bytes}
 use Rattle.ds_io.specs.Faults.{Rose, next_count}
 use Rattle.ds_rounds.specs.Rounds.{NumberedLine, ended_rounds, rounds_in, rounds_of_input}
 use Rattle.ds_reply.specs.declared.reply.Reply.{Reply}
 use Rattle.ds_reply.specs.Replies.{replies_text}
 use Rattle.ds_log.specs.declared.Commit.{Commit}
-use Rattle.ds_model.specs.Legal.{LegalBy}
-use Rattle.ds_single.specs.Built.{asked_here}
+use Rattle.ds_model.specs.Legal.{Legal}
 use Rattle.ds_words.specs.declared.status.Status.{Status}
 use Rattle.ds_words.specs.declared.status.Status.TheVariants as status
-
--- the words `--shards 1 --appliers 0`, until the command line is read in full
-abbrev pub is_form : List (List ℕ) → Bool
-is_form (a ∷ b ∷ c ∷ d ∷ []) = bytes_eq a (codes "--shards") && bytes_eq b (codes "1") && bytes_eq c (codes "--appliers") && bytes_eq d (codes "0")
-is_form _ = false
+use Rattle.ds_serve.specs.declared.settings.Setting.{Setting}
+use Rattle.ds_serve.specs.Settings.{IsSetting}
 
 -- ---- the main theorem
 
@@ -41,18 +37,30 @@ WereRun _ ended read rounds = (read ≡ []) × (rounds ≡ [])
 abbrev pub Wrote : Option (List ℕ) → Option (List ℕ) → List ℕ → List ℕ → Type 0
 Wrote old new unsent text = (taken : List ℕ) × Appends old new taken × (text ≡ taken ++ unsent)
 
--- The bytes written, with the unsent rest, are the replies of one legal run, over the journal, of the rounds that were run. The
--- bytes that were read are those that the source had in front of what it has left, and all that it had where its end was met;
--- where it doesn't tell what it has, there are such bytes.
-pub record IsLegalRun (how : Status) (left rest : Option (List ℕ)) (journal : List Commit) (old new : Option (List ℕ)) (unsent : List ℕ) : Type 0 where
+-- what the words and their index file set up, in a run that began to read, and in any that ran a round
+abbrev pub WasSetUp : Status → List (List NumberedLine) → Type 0 → Type 0
+WasSetUp status.Usage rounds set_up = ⊤
+WasSetUp (status.IndexFile line) rounds set_up = ⊤
+WasSetUp status.FileFault rounds set_up = ⊤
+WasSetUp status.NoMemory rounds set_up = (rounds ≡ []) ⊎ set_up
+WasSetUp _ rounds set_up = set_up
+
+-- The bytes written, with the unsent rest, are the replies of one legal run, over the journal, of the rounds that were run; its index
+-- definitions, number of shards and window are those that these words and the file that they name set up. The bytes that were read
+-- are those that the source had in front of what it has left, and all that it had where its end was met; where it doesn't tell what it
+-- has, there are such bytes.
+pub record IsLegalRun (words : List (List ℕ)) (content : List ℕ → Option (List ℕ)) (how : Status) (left rest : Option (List ℕ))
+    (journal : List Commit) (old new : Option (List ℕ)) (unsent : List ℕ) : Type 0 where
   pub read : List ℕ
   pub told : Consumes left rest read
   pub ended : Bool
   pub at_the_end : ended ≡ true → IfSome left (λ bytes. bytes ≡ read)
   pub rounds : List (List NumberedLine)
   pub replies : List Reply
+  pub setting : Setting
   pub run : WereRun how ended read rounds
-  pub legal : LegalBy asked_here [] 1 (Some greatest_window) rounds journal replies
+  pub set_up : WasSetUp how rounds (IsSetting words content setting)
+  pub legal : Legal setting.defs setting.shards (Some setting.window) rounds journal replies
   pub written : Wrote old new unsent (replies_text replies)
 
 -- ---- how a run ends
@@ -63,12 +71,6 @@ IsUntouched status.Usage = ⊤
 IsUntouched (status.IndexFile line) = ⊤
 IsUntouched status.FileFault = ⊤
 IsUntouched _ = ⊥
-
--- while no words name an index file, no run ends for one
-abbrev pub HasNoFiles : Status → Type 0
-HasNoFiles (status.IndexFile line) = ⊥
-HasNoFiles status.FileFault = ⊥
-HasNoFiles _ = ⊤
 
 -- a source's count of faults after a run: one more exactly where a read failed
 abbrev pub read_faults : Status → ℕ → ℕ

@@ -1,15 +1,18 @@
 //! The server: from the bytes of its input to the bytes of its output, with the main theorem.
 //!
-//! Begin with `top`: `serve` reads the input round after round (by `ds_rounds`); `server` runs each round (by `ds_single`) and
-//! writes its replies (`output`) before the next one is read. `outcome` holds what a run gives, `words` the form of the command
-//! line. In `specs/`, `Runs` has the words of the main theorem; `RunSteps` has those of its proof.
+//! Begin with `top`: `serve` reads the words and the index file (`settings`), and then the input round after round (by `ds_rounds`);
+//! `server` runs each round and writes its replies (`output`) before the next one is read. A round's lines are read by client (`asked`)
+//! and answered one after another by `ds_core`. `outcome` holds what a run gives. In `specs/`, `Runs` has the words of the main theorem
+//! and `Settings` those of its causes; `AskedLines` and `RunSteps` have those of its proof.
 #![tactic(auto)]
 
+mod answering;
+mod asked;
 pub mod outcome;
 mod output;
 mod server;
+mod settings;
 pub mod top;
-mod words;
 
 pub use ds_rounds::Unsent;
 pub use ds_words::Status;

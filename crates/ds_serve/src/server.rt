@@ -1,24 +1,25 @@
 //! The server's state, and one step of it: a round is read, run, and its replies are written.
-ghost use Rattle.std.specs.Prelude.{◌≡◌, ◌+◌, ◌<◌, ◌≤◌, List, ℕ, [], Option, Some, length, drop, slice_get, IfSome, OnErr, OnOk};
-ghost use Rattle.ds_base.specs.Limits.{most_input_bytes};
-ghost use Rattle.ds_rounds.specs.Lines.{IsWithinLimit, handed};
+ghost use Rattle.std.specs.Prelude.{◌≡◌, ◌+◌, ◌<◌, ◌≤◌, List, ℕ, [], Option, Some, length, drop, OnErr, OnOk};
+ghost use Rattle.ds_base.specs.Limits.{greatest_client, most_input_bytes};
 ghost use Rattle.ds_rounds.specs.Rounds.{lines_of_round};
 ghost use Rattle.ds_rounds.specs.Reading.{IsRound};
-ghost use Rattle.ds_serve.specs.RunSteps.{HasServed, Leaves, Ran, first_state, room_from, step_read_faults, step_write_faults};
+ghost use Rattle.ds_serve.specs.RunSteps.{HasServed, Leaves, RanRound, step_read_faults, step_write_faults};
 
+use crate::answering::{answer_all, total_room};
+use crate::asked::asked_by_client;
 use crate::outcome::Run;
 use crate::output::write_all;
 use ds_base::Buffer;
+use ds_core::Core;
 use ds_io::{Gate, Sink, Source};
-use ds_rounds::{Line, Lines, Round, RoundRefused, Rounds, Unsent};
-use ds_single::{Single, no_memory_room};
+use ds_rounds::{Round, RoundRefused, Rounds, Unsent};
 use ds_words::Status;
 use std::alloc::{AllocError, Global};
 
-/// The state between rounds: the engine, and the buffer that holds the replies of one round.
+/// The state between rounds: the core, and the buffer that holds the replies of one round.
 #[derive(Drop)]
 pub(crate) struct Server {
-    pub single: Single,
+    pub core: Core,
     pub text: Buffer,
 }
 
@@ -36,28 +37,17 @@ pub(crate) enum Step {
 }
 
 impl Server {
-    /// Nothing committed, nothing to write. It takes no memory.
-    pub fn new(alloc: Global) -> Server
-        ensures single { result.single ≡ first_state }
-        ensures text { result.text.bytes ≡ [] }
-    {
-        Server {
-            single: Single::new(alloc),
-            text: Buffer::new(alloc),
-        }
-    }
-
     /// The end of a run all of whose replies were written.
     pub fn end(self, alloc: Global, status: Status) -> Run
         ensures status { result.status ≡ status }
-        ensures journal { result.journal ≡ Some self.single.journal }
+        ensures journal { result.journal ≡ Some self.core.journal }
         ensures unsent { result.unsent ≡ [] }
     {
-        let Server { single, text } = self;
+        let Server { core, text } = self;
         drop(text);
         Run {
             status,
-            journal: Some(single.into_journal()),
+            journal: Some(core.end()),
             unsent: Unsent::none(alloc),
         }
     }
@@ -66,13 +56,13 @@ impl Server {
     pub fn end_unsent(self, sent: usize) -> Run
         requires { sent ≤ length self.text.bytes }
         ensures status { result.status ≡ Status.WriteFault }
-        ensures journal { result.journal ≡ Some self.single.journal }
+        ensures journal { result.journal ≡ Some self.core.journal }
         ensures unsent { result.unsent ≡ drop sent self.text.bytes }
     {
-        let Server { single, text } = self;
+        let Server { core, text } = self;
         Run {
             status: Status::WriteFault,
-            journal: Some(single.into_journal()),
+            journal: Some(core.end()),
             unsent: Unsent::rest_of(text, sent),
         }
     }
@@ -87,8 +77,9 @@ pub(crate) fn serve_round<I: Source, O: Sink, G: Gate>(
     output: &mut O,
     gate: &G,
 ) -> Step
-    ensures leaves { (left held : Option (List ℕ)) → HasServed left (I.left input.old) held (O.held output.old) rounds.old server.old.single
-        → Leaves result left (I.left input.new) held (O.held output.new) rounds.new server.new.single server.new.text.bytes }
+    ensures leaves { (words : List (List ℕ)) (content : List ℕ → Option (List ℕ)) (left held : Option (List ℕ))
+        → HasServed words content left (I.left input.old) held (O.held output.old) rounds.old server.old.core
+        → Leaves words content result left (I.left input.new) held (O.held output.new) rounds.new server.new.core server.new.text.bytes }
     ensures later { result ≡ Step.Served → rounds.old.number < rounds.new.number }
     ensures within { result ≡ Step.Served → rounds.new.number ≤ most_input_bytes + 1 }
     ensures unsent { (sent : ℕ) → result ≡ Step.Unsent sent → sent ≤ length server.new.text.bytes }
@@ -108,8 +99,8 @@ pub(crate) fn serve_round<I: Source, O: Sink, G: Gate>(
     }
 }
 
-/// Runs a round: its lines are answered, and the buffer then has the replies and nothing else. A refusal is want of memory, and
-/// comes before any line is answered.
+/// Runs a round: the sessions meet, its lines are answered client by client, and the buffer then has the replies and nothing else. A
+/// refusal is want of memory, and comes before any line is answered.
 fn run_round<G: Gate>(
     alloc: Global,
     round: &Round,
@@ -117,64 +108,17 @@ fn run_round<G: Gate>(
     gate: &G,
 ) -> Result<(), AllocError>
     requires { IsRound round.now }
-    ensures ok { OnOk result (Ran server.old.single server.new.single (lines_of_round round.now) server.new.text.bytes) }
-    ensures err { OnErr result (server.new.single ≡ server.old.single) }
+    ensures ok { length server.old.core.sessions ≡ greatest_client + 1
+        → OnOk result (RanRound server.old.core server.new.core (lines_of_round round.now) server.new.text.bytes) }
+    ensures err { OnErr result (server.new.core ≡ server.old.core) }
 {
     server.text.clear();
-    let Some(room) = total_room(round.first, round.lines.len()) else {
+    let lists = asked_by_client(alloc, server.core.shards(), round)?;
+    let Some(room) = total_room(lists.as_slice()) else {
         return Err(AllocError);
     };
     server.text.make_room(room)?;
-    answer_each(alloc, round, room, server, gate);
+    server.core.meet();
+    answer_all(alloc, lists, room, &mut server.core, &mut server.text, gate);
     Ok(())
-}
-
-/// How many bytes a reply to each line takes that there was no memory, of so many lines from this number on; `None` where they
-/// are too many to count.
-fn total_room(first: u64, lines: usize) -> Option<usize>
-    requires { first + lines ≤ most_input_bytes + 1 }
-    ensures { IfSome result (λ total. total ≡ room_from first lines) }
-{
-    let mut total: usize = 0;
-    for i in 0..lines {
-        let room = no_memory_room(first + i as u64);
-        if room == usize::MAX {
-            return None;
-        }
-        total = total.checked_add(room)?;
-    }
-    Some(total)
-}
-
-/// Answers each line of a round. There must be room for a reply to each that there was no memory: `room` bytes.
-fn answer_each<G: Gate>(alloc: Global, round: &Round, room: usize, server: &mut Server, gate: &G)
-    requires numbers { round.now.first + length round.now.lines ≤ most_input_bytes + 1 }
-    requires all { room ≡ room_from round.now.first (length round.now.lines) }
-    requires taken { room ≤ server.old.text.spare }
-    requires empty { server.old.text.bytes ≡ [] }
-    ensures { Ran server.old.single server.new.single (lines_of_round round.now) server.new.text.bytes }
-{
-    let mut keep = room;
-    for i in 0..round.lines.len() {
-        let number = round.first + i as u64;
-        keep -= no_memory_room(number);
-        let line = line_at(&round.lines, i);
-        gate.before(0, number);
-        server
-            .single
-            .answer(alloc, number, line, keep, &mut server.text);
-        gate.after(0, number);
-    }
-}
-
-/// The line at a place.
-fn line_at(lines: &Lines, i: usize) -> Line<'_>
-    requires { i < length lines.now }
-    ensures line { slice_get lines.now i ≡ Some (handed result) }
-    ensures within { IsWithinLimit result }
-{
-    match lines.get(i) {
-        Some(line) => line,
-        None => unreachable!(),
-    }
 }

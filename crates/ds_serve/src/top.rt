@@ -1,36 +1,46 @@
 //! The top call, whose clause `legal` is the main theorem.
 //!
-//! `specs/Runs` has the words of its clauses: begin there with `IsLegalRun`.
-ghost use Rattle.std.specs.Prelude.{◌≡◌, ◌⊎◌, [], map, true, false, IfSome, IsSome, Some};
+//! `specs/Runs` has the words of its clauses: begin there with `IsLegalRun`. `specs/Settings` has those of the words and the index file.
+ghost use Rattle.std.specs.Prelude.{◌≡◌, ◌≤◌, ◌⊎◌, ℕ, List, Option, [], map, Some, None, IfSome, IsSome};
 ghost use Rattle.std.specs.String.{string_bytes};
-ghost use Rattle.ds_base.specs.Limits.{most_input_bytes};
+ghost use Rattle.ds_base.specs.Limits.{most_input_bytes, most_shards};
 ghost use Rattle.ds_rounds.specs.Reading.{first_reader};
-ghost use Rattle.ds_serve.specs.Runs.{is_form, HasNoFiles, HasTaken, IsBelow, IsLegalRun, IsSteady, IsUntouched, read_faults, write_faults};
-ghost use Rattle.ds_serve.specs.RunSteps.{HasBegun, status_of};
+ghost use Rattle.ds_words.specs.Form.{options_of};
+ghost use Rattle.ds_serve.specs.Runs.{HasTaken, IsBelow, IsLegalRun, IsSteady, IsUntouched, read_faults, write_faults};
+ghost use Rattle.ds_serve.specs.RunSteps.{HasBegun, first_core, status_of};
+ghost use Rattle.ds_serve.specs.Settings.{FailedToLoad, IsFine, IsSetting, IsToldWrong, NamesWrongFile, file_faults, indexes_named};
 
 use crate::outcome::Run;
 use crate::server::{Server, Step, serve_round};
-use crate::words::is_form;
+use crate::settings::{Setting, set_up};
+use ds_base::Buffer;
+use ds_core::Core;
 use ds_io::{Files, Gate, Sink, Source};
-use ds_rounds::{RoundRefused, Rounds};
+use ds_log::Journal;
+use ds_rounds::{RoundRefused, Rounds, Unsent};
 use ds_words::Status;
 use std::alloc::Global;
 use std::sync::Wait;
 use std::thread::Threads;
 
-/// Serves one run: reads the input round after round, answers the lines of each in their order, and writes its replies before
-/// the input is read again. The gate is called around each answer. `rt` and `files` are for words that are still to come:
-/// background appliers and an index file.
+/// Serves one run: reads the words and the index file that they name, and then the input round after round; answers the lines of each,
+/// one client after another and each client's lines in their order, and writes the replies before the input is read again. The gate is
+/// called around each answer. `rt` is for background appliers, which are still to come: until then entries wait for a settle, a strong
+/// read or an `apply`, whatever number of appliers the words give.
 ///
-/// The main theorem is `legal`: whatever the source, the sink and the gate do, the bytes that were written in this call, followed
-/// by the unsent ones, are the replies of one legal run of the rounds that were run, over the journal that is given. There is a
-/// journal with every status. The bytes that were read are those that the source tells that it had, or some where it tells none; a
-/// sink that doesn't tell what it holds lets nothing be said of the bytes.
+/// The main theorem is `legal`: whatever the source, the sink, the files and the gate do, the bytes that were written in this call,
+/// followed by the unsent ones, are the replies of one legal run of the rounds that were run, over the journal that is given; the run's
+/// index definitions are those of the file's text, and its number of shards and its window those of the words. There is a journal with
+/// every status. The bytes that were read are those that the source tells that it had, or some where it tells none, and so with the file's
+/// text; a sink that doesn't tell what it holds lets nothing be said of the bytes.
 ///
 /// How a run ends, and when:
 ///
 /// - `Done`: the input was read to its end, and every reply was taken.
-/// - `Usage`: exactly where the words leave their form. Nothing is read or written, and the journal is empty.
+/// - `Usage`: exactly where the words leave their form. With it, as with the next two, nothing is read or written, and the journal is empty.
+/// - `FileFault`: exactly where the file that the words name failed to load, which its count tells. No other file is loaded.
+/// - `IndexFile`: the file's text leaves its form, first at this line. Where the files tell a text that does, the run ends so, unless the
+///   file failed to load or there was no memory for it (`wrong_file`).
 /// - `ReadFault`: exactly where a read failed; the source counts that one fault and no other. The round that was being read isn't
 ///   run, and those before it are.
 /// - `WriteFault`: exactly where a write or a flush failed; the sink counts that one fault and no other. `unsent` is the rest of that
@@ -40,8 +50,8 @@ use std::thread::Threads;
 /// - `NoMemory`: there was no memory to begin, to read a round, or for a reply to each of its lines that there was none. That round
 ///   isn't run, and those before it are.
 ///
-/// Where the words have their form, the input tells that it is below the limit and no count of faults rose, the run ends `Done` or
-/// `NoMemory` (`complete`). No file is loaded, since no words name one.
+/// Where the words have their form, the file is told to have its own, the input tells that it is below the limit and no count of faults
+/// rose, the run ends `Done` or `NoMemory` (`complete`).
 pub fn serve<Rt: Threads + Wait + Sync, F: Files, I: Source, O: Sink, G: Gate + Sync>(
     rt: &Rt,
     alloc: Global,
@@ -51,29 +61,70 @@ pub fn serve<Rt: Threads + Wait + Sync, F: Files, I: Source, O: Sink, G: Gate + 
     output: &mut O,
     gate: &G,
 ) -> Run
-    ensures legal { IfSome result.journal (λ journal. IsLegalRun result.status (I.left input.old) (I.left input.new) journal (O.held output.old) (O.held output.new) result.unsent) }
+    ensures legal { IfSome result.journal (λ journal. IsLegalRun (map string_bytes words.now) (F.content files.old) result.status (I.left input.old) (I.left input.new) journal (O.held output.old) (O.held output.new) result.unsent) }
     ensures journal { IsSome result.journal }
     ensures unsent { (result.status ≡ Status.WriteFault) ⊎ (result.unsent ≡ []) }
 
-    ensures usage { result.status ≡ Status.Usage → is_form (map string_bytes words.now) ≡ false }
-    ensures form { is_form (map string_bytes words.now) ≡ false → result.status ≡ Status.Usage }
+    ensures usage { result.status ≡ Status.Usage → options_of (map string_bytes words.now) ≡ None }
+    ensures form { options_of (map string_bytes words.now) ≡ None → result.status ≡ Status.Usage }
+    ensures file_fault { result.status ≡ Status.FileFault → FailedToLoad (map string_bytes words.now) (F.faults files.old) (F.faults files.new) }
+    ensures file_faults { IfSome (indexes_named (map string_bytes words.now)) (λ name. F.faults files.new name ≡ file_faults result.status (F.faults files.old name)) }
+    ensures no_file { indexes_named (map string_bytes words.now) ≡ None → files.new ≡ files.old }
+    ensures index_file { (line : ℕ) → result.status ≡ Status.IndexFile line → NamesWrongFile (map string_bytes words.now) (F.content files.old) line }
+    ensures wrong_file { (line : ℕ) → IsToldWrong (map string_bytes words.now) (F.content files.old) line → (result.status ≡ Status.IndexFile line) ⊎ ((result.status ≡ Status.FileFault) ⊎ (result.status ≡ Status.NoMemory)) }
     ensures untouched_input { IsUntouched result.status → input.new ≡ input.old }
     ensures untouched_output { IsUntouched result.status → output.new ≡ output.old }
     ensures untouched_journal { IsUntouched result.status → result.journal ≡ Some [] }
-    ensures no_files { HasNoFiles result.status }
-    ensures untouched_files { files.new ≡ files.old }
 
     ensures read_fault { I.faults input.new ≡ read_faults result.status (I.faults input.old) }
     ensures write_fault { O.faults output.new ≡ write_faults result.status (O.faults output.old) }
     ensures input_limit { result.status ≡ Status.InputLimit → HasTaken most_input_bytes (I.left input.old) (I.left input.new) }
-    ensures complete { is_form (map string_bytes words.now) ≡ true → IsBelow most_input_bytes (I.left input.old) → IsSteady (I.faults input.old) (I.faults input.new) → IsSteady (O.faults output.old) (O.faults output.new) → (result.status ≡ Status.Done) ⊎ (result.status ≡ Status.NoMemory) }
+    ensures complete { IsSome (options_of (map string_bytes words.now)) → IsFine (indexes_named (map string_bytes words.now)) (F.content files.old) (F.faults files.old) (F.faults files.new) → IsBelow most_input_bytes (I.left input.old) → IsSteady (I.faults input.old) (I.faults input.new) → IsSteady (O.faults output.old) (O.faults output.new) → (result.status ≡ Status.Done) ⊎ (result.status ≡ Status.NoMemory) }
 {
-    if !is_form(words) {
-        return Server::new(alloc).end(alloc, Status::Usage);
+    match set_up(alloc, words, files) {
+        Ok(setting) => serve_input(alloc, setting, input, output, gate),
+        Err(status) => nothing_run(alloc, status),
     }
+}
+
+/// The end of a run that ran no round.
+fn nothing_run(alloc: Global, status: Status) -> Run
+    ensures status { result.status ≡ status }
+    ensures journal { result.journal ≡ Some [] }
+    ensures unsent { result.unsent ≡ [] }
+{
+    Run {
+        status,
+        journal: Some(Journal::new(alloc)),
+        unsent: Unsent::none(alloc),
+    }
+}
+
+/// Serves an input.
+fn serve_input<I: Source, O: Sink, G: Gate>(
+    alloc: Global,
+    setting: Setting,
+    input: &mut I,
+    output: &mut O,
+    gate: &G,
+) -> Run
+    requires least { 1 ≤ setting.shards }
+    requires most { setting.shards ≤ most_shards }
+    ensures legal { (words : List (List ℕ)) (content : List ℕ → Option (List ℕ)) → IsSetting words content setting
+        → IfSome result.journal (λ journal. IsLegalRun words content result.status (I.left input.old) (I.left input.new) journal (O.held output.old) (O.held output.new) result.unsent) }
+    ensures journal { IsSome result.journal }
+    ensures unsent { (result.status ≡ Status.WriteFault) ⊎ (result.unsent ≡ []) }
+    ensures began { HasBegun result.status }
+    ensures read_fault { I.faults input.new ≡ read_faults result.status (I.faults input.old) }
+    ensures write_fault { O.faults output.new ≡ write_faults result.status (O.faults output.old) }
+{
+    let Setting { shards, defs, .. } = setting;
+    let Ok(core) = Core::make(alloc, shards, defs) else {
+        return nothing_run(alloc, Status::NoMemory);
+    };
     match Rounds::make(alloc) {
-        Ok(rounds) => serve_rounds(alloc, rounds, input, output, gate),
-        Err(_) => Server::new(alloc).end(alloc, Status::NoMemory),
+        Ok(rounds) => serve_rounds(alloc, rounds, core, input, output, gate),
+        Err(_) => nothing_run(alloc, Status::NoMemory),
     }
 }
 
@@ -81,12 +132,15 @@ pub fn serve<Rt: Threads + Wait + Sync, F: Files, I: Source, O: Sink, G: Gate + 
 fn serve_rounds<I: Source, O: Sink, G: Gate>(
     alloc: Global,
     rounds: Rounds,
+    core: Core,
     input: &mut I,
     output: &mut O,
     gate: &G,
 ) -> Run
-    requires { rounds ≡ first_reader }
-    ensures legal { IfSome result.journal (λ journal. IsLegalRun result.status (I.left input.old) (I.left input.new) journal (O.held output.old) (O.held output.new) result.unsent) }
+    requires reader { rounds ≡ first_reader }
+    requires core { core ≡ first_core core.definitions core.shards }
+    ensures legal { (words : List (List ℕ)) (content : List ℕ → Option (List ℕ)) (window : ℕ) → IsSetting words content (record { shards = core.shards; window = window; defs = core.definitions })
+        → IfSome result.journal (λ journal. IsLegalRun words content result.status (I.left input.old) (I.left input.new) journal (O.held output.old) (O.held output.new) result.unsent) }
     ensures journal { IsSome result.journal }
     ensures unsent { (result.status ≡ Status.WriteFault) ⊎ (result.unsent ≡ []) }
     ensures began { HasBegun result.status }
@@ -94,7 +148,10 @@ fn serve_rounds<I: Source, O: Sink, G: Gate>(
     ensures write_fault { O.faults output.new ≡ write_faults result.status (O.faults output.old) }
 {
     let mut rounds = rounds;
-    let mut server = Server::new(alloc);
+    let mut server = Server {
+        core,
+        text: Buffer::new(alloc),
+    };
     'serve: loop {
         match serve_round(alloc, &mut rounds, &mut server, input, output, gate) {
             Step::Served => {}

@@ -45,7 +45,7 @@ fn tells_commits_and_calls_the_gate(rt: HostRuntime) -> Result<(), Fail> {
     let ended = served(&rt, rt.alloc(), FIRST, STEADY)?;
     assert!(rt; commits(&ended) == Some(1));
     assert!(rt; ended.begun == 6 && ended.done == 6);
-    let words = words(rt.alloc(), "2")?;
+    let words = words(rt.alloc(), "17")?;
     let usage = served_with(&rt, rt.alloc(), words.as_slice(), FIRST, STEADY)?;
     assert!(rt; usage.run.status == Status::Usage);
     assert!(rt; commits(&usage) == Some(0));

@@ -1,12 +1,10 @@
 //! Tests of the server's calls over memory; no running code of its own.
 //!
 //! `serving` holds what the tests share: a run over a source and a sink in memory, and how its text is compared. `inputs` are
-//! runs where nothing fails, `faults` those where the outside fails, `limits` long lines and rounds, `waiting` is a source that
-//! waits for the replies to a round, and `engine` the plain engine by itself.
+//! runs where nothing fails, `faults` those where the outside fails, `limits` long lines and rounds, and `waiting` is a source that
+//! waits for the replies to a round.
 #![tactic(auto)]
 
-#[cfg(test)]
-mod engine;
 #[cfg(test)]
 mod faults;
 #[cfg(test)]

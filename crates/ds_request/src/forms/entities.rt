@@ -3,7 +3,7 @@ ghost use Rattle.std.specs.Prelude.{◌≡◌, [], IfOk, option_map};
 ghost use Rattle.serde_json.specs.Data.{object};
 ghost use Rattle.serde_json.specs.View.{view, members_view};
 ghost use Rattle.ds_request.specs.Reading.{Reads, defaulted};
-ghost use Rattle.ds_request.specs.Entities.{property_with, property_of, properties_of, entity_of, IsPut};
+ghost use Rattle.ds_request.specs.Entities.{property_with, property_of, properties_of, entity_of, ArePut};
 
 use crate::call::Call;
 use crate::forms::Form;
@@ -32,7 +32,7 @@ impl Model for Written {
 
     ghost view = { λ w. record { key = w.key; incomplete = w.incomplete; properties = w.properties } };
 
-    ghost invariant = { λ w. IsPut w.properties };
+    ghost invariant = { λ w. IsPut w.key w.incomplete w.properties };
 }
 
 impl Written {
@@ -88,7 +88,7 @@ fn read_entity(alloc: Global, mut members: Members) -> Result<Written, Refusal>
 /// room, is refused as want of memory.
 fn read_properties(alloc: Global, given: Option<Value>) -> Result<Properties, Refusal>
     ensures read { Reads Refusal.NoMemory (defaulted [] properties_of (option_map view given)) result }
-    ensures lawful { IfOk result IsPut }
+    ensures lawful { IfOk result ArePut }
 {
     match given {
         Some(Value::Object(members)) => read_each_property(alloc, members),
@@ -100,7 +100,7 @@ fn read_properties(alloc: Global, given: Option<Value>) -> Result<Properties, Re
 /// Reads the members of an object as properties, whose names ascend as the map's keys do.
 fn read_each_property(alloc: Global, members: Members) -> Result<Properties, Refusal>
     ensures read { Reads Refusal.NoMemory (properties_of (object (members_view members.entries))) result }
-    ensures lawful { IfOk result IsPut }
+    ensures lawful { IfOk result ArePut }
 {
     let properties = read_entries(alloc, &PropertyForm, members)?;
     if properties.len() > u32::MAX as usize {

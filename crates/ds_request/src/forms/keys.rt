@@ -1,8 +1,9 @@
 //! Keys: elements, paths, and the completion of a path.
-ghost use Rattle.std.specs.Prelude.{◌≡◌, ◌++◌, [], IsTrue, length};
+ghost use Rattle.std.specs.Prelude.{◌≡◌, ◌++◌, [], IsTrue, length, IfOk};
 ghost use Rattle.std.specs.Vec.Iter.{into_iter_items};
 ghost use Rattle.serde_json.specs.Data.{array, item, no_items};
 ghost use Rattle.serde_json.specs.View.{view, items_view};
+ghost use Rattle.ds_base.specs.Keys.{ends_in_id};
 ghost use Rattle.ds_request.specs.Reading.{Reads, and_then, each_of};
 ghost use Rattle.ds_request.specs.Keys.{ident_of, elem_of, key_of, lawful_key, writable_key_of, completed, is_incomplete, entity_key_of};
 
@@ -52,7 +53,8 @@ impl Form for WritableKeyForm {
 
 /// Reads the key of an entity, and tells whether it is incomplete: its last identifier is null, and read as the id 1.
 pub(crate) fn read_entity_key(alloc: Global, value: Value) -> Result<(Key, bool), Refusal>
-    ensures { Reads Refusal.NoMemory (entity_key_of (view value)) result }
+    ensures read { Reads Refusal.NoMemory (entity_key_of (view value)) result }
+    ensures completes { IfOk result (λ k. IsTrue k.1 → IsTrue (ends_in_id k.0.elems)) }
 {
     match value {
         Value::Array(items) => read_entity_items(alloc, items),

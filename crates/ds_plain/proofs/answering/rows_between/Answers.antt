@@ -31,7 +31,8 @@ loop-found-preserved c =
           c.loop-found.invariant.rows;
       placed = all_pushed (IsPlaced columns) c.loop-found.rows.items c.push.new.self.items c.in_ok-row.row c.in_ok-push.ensures.items
           c.loop-found.invariant.placed stands.1;
-      long = all_left (IsLong columns) c.loop-found.found-iterator.rest.items rest found c.in-Some.ensures.steps.0 c.loop-found.invariant.long;
+      long = all_left (IsLong columns) c.loop-found.found-iterator.rest.items rest found c.in-Some.ensures.steps.0
+          c.loop-found.invariant.long;
     }
 
 pub loop-found-preserved-then-not-is_between : goal.loop-found-preserved-then-not-is_between
@@ -53,5 +54,6 @@ loop-found-preserved-then-not-is_between c =
           (filter (is_between columns start end) (map found_parts rest)))) (tells ∙ c.if-not-is_between.true))
           c.loop-found.invariant.rows;
       placed = c.loop-found.invariant.placed;
-      long = all_left (IsLong columns) c.loop-found.found-iterator.rest.items rest found c.in-Some.ensures.steps.0 c.loop-found.invariant.long;
+      long = all_left (IsLong columns) c.loop-found.found-iterator.rest.items rest found c.in-Some.ensures.steps.0
+          c.loop-found.invariant.long;
     }

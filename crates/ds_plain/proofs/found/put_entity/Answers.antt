@@ -1,18 +1,18 @@
 use Rattle.std.proofs.Common.{◌++◌, ◌∷◌, [], map, ap, ◌∙◌, arith}
 use Rattle.std.specs.Prelude.{filter}
-use Rattle.ds_model.specs.Rows.{first_value, is_within, value_columns}
+use Rattle.ds_model.specs.Rows.{value_columns}
 use Rattle.ds_rows.specs.IndexedValues.{indexed_values}
-use Rattle.ds_plain.specs.FoundRows.{found_parts, found_of}
+use Rattle.ds_plain.specs.FoundRows.{found_of, is_in}
 use Rattle.ds_plain.proofs.FoundLaws.{way_put, ways_put, none}
 use Rattle.ds_plain.proofs.found.put_entity.Goals as goal
 
 pub loop-values-preserved : goal.loop-values-preserved
 loop-values-preserved c =
-    way_put (λ f. is_within c.args.branch.now.range (first_value (found_parts f))) (found_of c.args.entity.now.key) c.loop-values.found.items
+    way_put (is_in c.args.branch.now.range) (found_of c.args.entity.now.key) c.loop-values.found.items
     c.put_way.new.found.items c.loop-values.values-iterator.rest.items c.next.new.self.rest.items c.in-Some.values _
     c.in-Some.ensures.steps.0
     (c.in_ok-put_way.ensures ∙ ap (λ k. c.loop-values.found.items
-    ++ filter (λ f. is_within c.args.branch.now.range (first_value (found_parts f))) (found_of k c.in-Some.values ∷ [])) c.key.ensures.value)
+    ++ filter (is_in c.args.branch.now.range) (found_of k c.in-Some.values ∷ [])) c.key.ensures.value)
     c.loop-values.invariant
 
 pub returns : goal.returns

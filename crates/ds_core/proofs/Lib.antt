@@ -1,0 +1,11 @@
+mod Cores
+mod Grown
+mod Lifted
+mod Meetings
+mod Plans
+mod PutPlans
+mod Raises
+mod ReadPlans
+mod TransactionPlans
+mod TransactionRefusals
+mod WriteAnswers

@@ -1,0 +1,91 @@
+//! What the words of the command line and the index file set up.
+ghost use Rattle.std.specs.Prelude.{◌≡◌, ◌≤◌, List, ℕ, Some, None, map, IfOk, IfErr, IfSome, MatchResult};
+ghost use Rattle.std.specs.String.{string_bytes};
+ghost use Rattle.ds_base.specs.Limits.{most_shards};
+ghost use Rattle.ds_words.specs.Form.{options_of};
+ghost use Rattle.ds_serve.specs.Settings.{AreGiven, AreRead, IsSetting, IsUnread, IsUnset, file_faults, indexes_named};
+
+use ds_base::TextString;
+use ds_indexdef::{Defs, YamlRefused, read_yaml};
+use ds_io::{Files, LoadFault};
+use ds_words::{Status, WordsRefused, read_words};
+use std::alloc::Global;
+
+/// What a server is set up with.
+#[derive(Drop)]
+pub(crate) struct Setting {
+    /// How many shards there are, 1 to 16.
+    pub shards: u32,
+    /// How many entries' versions a shard keeps.
+    pub window: u64,
+    /// The composite indexes.
+    pub defs: Defs,
+}
+
+/// Reads the words, and loads and reads the index file that they name, if they name one. A status says why the run can't begin.
+pub(crate) fn set_up<F: Files>(
+    alloc: Global,
+    words: &[String],
+    files: &mut F,
+) -> Result<Setting, Status>
+    ensures ok { IfOk result (λ s. IsSetting (map string_bytes words.now) (F.content files.old) s) }
+    ensures least { IfOk result (λ s. 1 ≤ s.shards) }
+    ensures most { IfOk result (λ s. s.shards ≤ most_shards) }
+    ensures refused { IfErr result (λ status. IsUnset (map string_bytes words.now) (F.content files.old) (F.faults files.old) (F.faults files.new) status) }
+    ensures unnamed { indexes_named (map string_bytes words.now) ≡ None → files.new ≡ files.old }
+    ensures faults { IfSome (indexes_named (map string_bytes words.now)) (λ name. MatchResult result
+        (λ _. F.faults files.new name ≡ F.faults files.old name)
+        (λ status. F.faults files.new name ≡ file_faults status (F.faults files.old name))) }
+{
+    let options = match read_words(alloc, words) {
+        Ok(options) => options,
+        Err(WordsRefused::Usage) => return Err(Status::Usage),
+        Err(WordsRefused::NoMemory) => return Err(Status::NoMemory),
+    };
+    let defs = definitions(alloc, files, &options.indexes)?;
+    Ok(Setting {
+        shards: options.shards,
+        window: options.window,
+        defs,
+    })
+}
+
+/// The definitions of the index file of this name, and none where there is no name.
+fn definitions<F: Files>(
+    alloc: Global,
+    files: &mut F,
+    indexes: &Option<TextString>,
+) -> Result<Defs, Status>
+    ensures ok { IfOk result (λ defs. AreGiven (F.content files.old) indexes.now defs) }
+    ensures refused { IfErr result (λ status. IfSome indexes.now (λ name. IsUnread name (F.content files.old) (F.faults files.old) (F.faults files.new) status)) }
+    ensures unnamed { indexes.now ≡ None → files.new ≡ files.old }
+    ensures given { indexes.now ≡ None → IfErr result (λ _. ⊥) }
+    ensures faults { IfSome indexes.now (λ name. MatchResult result
+        (λ _. F.faults files.new name ≡ F.faults files.old name)
+        (λ status. F.faults files.new name ≡ file_faults status (F.faults files.old name))) }
+{
+    match indexes {
+        Some(name) => load(alloc, files, name),
+        None => Ok(Defs::new(alloc)),
+    }
+}
+
+/// Loads and reads the index file of this name.
+fn load<F: Files>(alloc: Global, files: &mut F, name: &TextString) -> Result<Defs, Status>
+    ensures ok { IfOk result (λ defs. AreRead (F.content files.old name.now) defs) }
+    ensures refused { IfErr result (λ status. IsUnread name.now (F.content files.old) (F.faults files.old) (F.faults files.new) status) }
+    ensures faults { MatchResult result
+        (λ _. F.faults files.new name.now ≡ F.faults files.old name.now)
+        (λ status. F.faults files.new name.now ≡ file_faults status (F.faults files.old name.now)) }
+{
+    let text = match files.load(alloc, name.text()) {
+        Ok(text) => text,
+        Err(LoadFault::Failed) => return Err(Status::FileFault),
+        Err(LoadFault::NoMemory) => return Err(Status::NoMemory),
+    };
+    match read_yaml(alloc, text.bytes()) {
+        Ok(defs) => Ok(defs),
+        Err(YamlRefused::Line(line)) => Err(Status::IndexFile { line }),
+        Err(YamlRefused::NoMemory) => Err(Status::NoMemory),
+    }
+}

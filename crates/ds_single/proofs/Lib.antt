@@ -1,9 +1,0 @@
-pub mod CallReplies
-pub mod Commits
-pub mod DistinctKeys
-pub mod KindQueries
-pub mod KindResults
-pub mod LineReplies
-pub mod OneShard
-pub mod Sorted
-pub mod Steps

@@ -1,4 +1,0 @@
-pub mod Built
-pub mod KindResults
-pub mod ReplySteps
-pub mod State
