@@ -1,5 +1,4 @@
 use Rattle.ds_core.proofs.Grown.{up_to-same}
-use Rattle.ds_core.proofs.Plans.{memory_as}
 use Rattle.ds_core.proofs.state.State.plan.Goals as goal
 
 pub returns-in-Put-clause-counts : goal.returns-in-Put-clause-counts
@@ -19,10 +18,3 @@ returns-in-Rollback-clause-counts c = up_to-same c.args.self.now.applied.counts
 
 pub returns-in-AllocateIds-clause-counts : goal.returns-in-AllocateIds-clause-counts
 returns-in-AllocateIds-clause-counts c = up_to-same c.args.self.now.applied.counts
-
-pub returns-clause-plan : goal.returns-clause-plan
-returns-clause-plan c = memory_as c.args.self.now c.args.session.now c.args.client c.args.call c.no_memory.result.body
-    c.no_memory.result.effect c.no_memory.ensures.body c.no_memory.ensures.effect
-
-pub returns-clause-counts : goal.returns-clause-counts
-returns-clause-counts c = up_to-same c.args.self.now.applied.counts
