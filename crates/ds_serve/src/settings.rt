@@ -31,7 +31,8 @@ pub(crate) fn set_up<F: Files>(
     ensures ok { IfOk result (λ s. IsSetting (map string_bytes words.now) (F.content files.old) s) }
     ensures least { IfOk result (λ s. 1 ≤ s.shards) }
     ensures most { IfOk result (λ s. s.shards ≤ most_shards) }
-    ensures refused { IfErr result (λ status. IsUnset (map string_bytes words.now) (F.content files.old) (F.faults files.old) (F.faults files.new) status) }
+    ensures refused { IfErr result (λ status.
+        IsUnset (map string_bytes words.now) (F.content files.old) (F.faults files.old) (F.faults files.new) status) }
     ensures unnamed { indexes_named (map string_bytes words.now) ≡ None → files.new ≡ files.old }
     ensures faults { IfSome (indexes_named (map string_bytes words.now)) (λ name. MatchResult result
         (λ _. F.faults files.new name ≡ F.faults files.old name)
@@ -57,7 +58,8 @@ fn definitions<F: Files>(
     indexes: &Option<TextString>,
 ) -> Result<Defs, Status>
     ensures ok { IfOk result (λ defs. AreGiven (F.content files.old) indexes.now defs) }
-    ensures refused { IfErr result (λ status. IfSome indexes.now (λ name. IsUnread name (F.content files.old) (F.faults files.old) (F.faults files.new) status)) }
+    ensures refused { IfErr result (λ status. IfSome indexes.now (λ name.
+        IsUnread name (F.content files.old) (F.faults files.old) (F.faults files.new) status)) }
     ensures unnamed { indexes.now ≡ None → files.new ≡ files.old }
     ensures given { indexes.now ≡ None → IfErr result (λ _. ⊥) }
     ensures faults { IfSome indexes.now (λ name. MatchResult result

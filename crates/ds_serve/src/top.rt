@@ -37,7 +37,8 @@ use std::thread::Threads;
 /// How a run ends, and when:
 ///
 /// - `Done`: the input was read to its end, and every reply was taken.
-/// - `Usage`: exactly where the words leave their form. With it, as with the next two, nothing is read or written, and the journal is empty.
+/// - `Usage`: exactly where the words leave their form. With it, as with the next two, nothing is read or written, and the journal is
+///   empty.
 /// - `FileFault`: exactly where the file that the words name failed to load, which its count tells. No other file is loaded.
 /// - `IndexFile`: the file's text leaves its form, first at this line. Where the files tell a text that does, the run ends so, unless the
 ///   file failed to load or there was no memory for it (`wrong_file`).
@@ -61,17 +62,23 @@ pub fn serve<Rt: Threads + Wait + Sync, F: Files, I: Source, O: Sink, G: Gate + 
     output: &mut O,
     gate: &G,
 ) -> Run
-    ensures legal { IfSome result.journal (λ journal. IsLegalRun (map string_bytes words.now) (F.content files.old) result.status (I.left input.old) (I.left input.new) journal (O.held output.old) (O.held output.new) result.unsent) }
+    ensures legal { IfSome result.journal (λ journal.
+        IsLegalRun (map string_bytes words.now) (F.content files.old) result.status (I.left input.old) (I.left input.new) journal
+        (O.held output.old) (O.held output.new) result.unsent) }
     ensures journal { IsSome result.journal }
     ensures unsent { (result.status ≡ Status.WriteFault) ⊎ (result.unsent ≡ []) }
 
     ensures usage { result.status ≡ Status.Usage → options_of (map string_bytes words.now) ≡ None }
     ensures form { options_of (map string_bytes words.now) ≡ None → result.status ≡ Status.Usage }
-    ensures file_fault { result.status ≡ Status.FileFault → FailedToLoad (map string_bytes words.now) (F.faults files.old) (F.faults files.new) }
-    ensures file_faults { IfSome (indexes_named (map string_bytes words.now)) (λ name. F.faults files.new name ≡ file_faults result.status (F.faults files.old name)) }
+    ensures file_fault { result.status ≡ Status.FileFault
+        → FailedToLoad (map string_bytes words.now) (F.faults files.old) (F.faults files.new) }
+    ensures file_faults { IfSome (indexes_named (map string_bytes words.now)) (λ name.
+        F.faults files.new name ≡ file_faults result.status (F.faults files.old name)) }
     ensures no_file { indexes_named (map string_bytes words.now) ≡ None → files.new ≡ files.old }
-    ensures index_file { (line : ℕ) → result.status ≡ Status.IndexFile line → NamesWrongFile (map string_bytes words.now) (F.content files.old) line }
-    ensures wrong_file { (line : ℕ) → IsToldWrong (map string_bytes words.now) (F.content files.old) line → (result.status ≡ Status.IndexFile line) ⊎ ((result.status ≡ Status.FileFault) ⊎ (result.status ≡ Status.NoMemory)) }
+    ensures index_file { (line : ℕ) → result.status ≡ Status.IndexFile line
+        → NamesWrongFile (map string_bytes words.now) (F.content files.old) line }
+    ensures wrong_file { (line : ℕ) → IsToldWrong (map string_bytes words.now) (F.content files.old) line
+        → (result.status ≡ Status.IndexFile line) ⊎ ((result.status ≡ Status.FileFault) ⊎ (result.status ≡ Status.NoMemory)) }
     ensures untouched_input { IsUntouched result.status → input.new ≡ input.old }
     ensures untouched_output { IsUntouched result.status → output.new ≡ output.old }
     ensures untouched_journal { IsUntouched result.status → result.journal ≡ Some [] }
@@ -79,7 +86,11 @@ pub fn serve<Rt: Threads + Wait + Sync, F: Files, I: Source, O: Sink, G: Gate + 
     ensures read_fault { I.faults input.new ≡ read_faults result.status (I.faults input.old) }
     ensures write_fault { O.faults output.new ≡ write_faults result.status (O.faults output.old) }
     ensures input_limit { result.status ≡ Status.InputLimit → HasTaken most_input_bytes (I.left input.old) (I.left input.new) }
-    ensures complete { IsSome (options_of (map string_bytes words.now)) → IsFine (indexes_named (map string_bytes words.now)) (F.content files.old) (F.faults files.old) (F.faults files.new) → IsBelow most_input_bytes (I.left input.old) → IsSteady (I.faults input.old) (I.faults input.new) → IsSteady (O.faults output.old) (O.faults output.new) → (result.status ≡ Status.Done) ⊎ (result.status ≡ Status.NoMemory) }
+    ensures complete { IsSome (options_of (map string_bytes words.now))
+        → IsFine (indexes_named (map string_bytes words.now)) (F.content files.old) (F.faults files.old) (F.faults files.new)
+        → IsBelow most_input_bytes (I.left input.old) → IsSteady (I.faults input.old) (I.faults input.new)
+        → IsSteady (O.faults output.old) (O.faults output.new)
+        → (result.status ≡ Status.Done) ⊎ (result.status ≡ Status.NoMemory) }
 {
     match set_up(alloc, words, files) {
         Ok(setting) => serve_input(alloc, setting, input, output, gate),
@@ -111,7 +122,9 @@ fn serve_input<I: Source, O: Sink, G: Gate>(
     requires least { 1 ≤ setting.shards }
     requires most { setting.shards ≤ most_shards }
     ensures legal { (words : List (List ℕ)) (content : List ℕ → Option (List ℕ)) → IsSetting words content setting
-        → IfSome result.journal (λ journal. IsLegalRun words content result.status (I.left input.old) (I.left input.new) journal (O.held output.old) (O.held output.new) result.unsent) }
+        → IfSome result.journal (λ journal.
+        IsLegalRun words content result.status (I.left input.old) (I.left input.new) journal (O.held output.old) (O.held output.new)
+        result.unsent) }
     ensures journal { IsSome result.journal }
     ensures unsent { (result.status ≡ Status.WriteFault) ⊎ (result.unsent ≡ []) }
     ensures began { HasBegun result.status }
@@ -139,8 +152,11 @@ fn serve_rounds<I: Source, O: Sink, G: Gate>(
 ) -> Run
     requires reader { rounds ≡ first_reader }
     requires core { core ≡ first_core core.definitions core.shards }
-    ensures legal { (words : List (List ℕ)) (content : List ℕ → Option (List ℕ)) (window : ℕ) → IsSetting words content (record { shards = core.shards; window = window; defs = core.definitions })
-        → IfSome result.journal (λ journal. IsLegalRun words content result.status (I.left input.old) (I.left input.new) journal (O.held output.old) (O.held output.new) result.unsent) }
+    ensures legal { (words : List (List ℕ)) (content : List ℕ → Option (List ℕ)) (window : ℕ)
+        → IsSetting words content (record { shards = core.shards; window = window; defs = core.definitions })
+        → IfSome result.journal (λ journal.
+        IsLegalRun words content result.status (I.left input.old) (I.left input.new) journal (O.held output.old) (O.held output.new)
+        result.unsent) }
     ensures journal { IsSome result.journal }
     ensures unsent { (result.status ≡ Status.WriteFault) ⊎ (result.unsent ≡ []) }
     ensures began { HasBegun result.status }
