@@ -18,7 +18,7 @@ UTC = datetime.timezone.utc
 
 
 class WithServer(unittest.TestCase):
-    words = {}
+    words = {"shards": 1}
 
     def setUp(self):
         self.server = Server(**self.words)
@@ -60,7 +60,7 @@ class Values(WithServer):
 
 
 class Requests(WithServer):
-    words = {"indexes": "indexes:\n- kind: T\n  properties:\n  - name: a\n  - name: b\n    direction: desc\n"}
+    words = {"shards": 1, "indexes": "indexes:\n- kind: T\n  properties:\n  - name: a\n  - name: b\n    direction: desc\n"}
 
     def test_an_id_is_drawn(self):
         first = self.client.put(Key("T", None)).key.identifier
@@ -108,6 +108,12 @@ class Requests(WithServer):
         with self.assertRaises(torfyllan.BadGql) as caught:
             self.client.gql("SELECT * FROM")
         self.assertEqual(caught.exception.at, 13)
+
+    def test_slips_are_told_before_anything_is_sent(self):
+        for words in ({"filters": [("a", "==", 1)]}, {"filters": ("a", "=", 1)}, {"filters": [("a", "=")]}, {"orders": "-a"}):
+            with self.assertRaises((TypeError, ValueError)):
+                self.client.query("T", **words)
+        self.assertEqual(self.client.query("T").results, [])
 
     def test_namespaces_are_apart(self):
         one, other = self.server.client(1, namespace="one"), self.server.client(2, namespace="other")
@@ -157,6 +163,14 @@ class Transactions(WithServer):
                 self.counted(self.client)
                 other.put(Key("C", "c"), n=9)
         self.assertEqual((caught.exception.group, caught.exception.commit), (Key("C", "c"), 1))
+        self.assertIn("commit of client 0, commit 1, group Key('C', 'c')", str(caught.exception))
+
+    def test_shards_apply_apart(self):
+        with Server() as server:
+            client = server.client()
+            client.put(Key("T", "a"))
+            client.get(Key("Other", "x"))
+            self.assertEqual((client.query("T").results, len(client.query("T").applied)), ([], 16))
 
     def test_several_groups_need_the_flag(self):
         with self.assertRaises(torfyllan.SecondGroup):
@@ -256,12 +270,16 @@ class Failures(unittest.TestCase):
         with self.assertRaises(ServerFailed):
             Server(program="/no/such/program").start()
 
-    def test_words_that_the_server_refuses(self):
+    def test_words_and_index_files_that_are_wrong(self):
+        for words in ({"shards": 17}, {"appliers": 9}, {"window": 0}, {"indexes": "- kind: T\n"}):
+            with self.assertRaises(ValueError):
+                Server(**words).start()
         with self.assertRaises(ServerFailed) as caught:
-            Server(shards=17).start()
-        self.assertIn("usage", str(caught.exception))
+            Server(indexes="no_such_index.yaml").start()
+        self.assertIn("no_such_index.yaml", str(caught.exception))
         with self.assertRaises(ServerFailed) as caught:
             Server(indexes="indexes:\n- kind: T\n  order: yes\n").start()
+        self.assertIn("before its first reply, with status 2", str(caught.exception))
         self.assertIn("index file: line 3", str(caught.exception))
 
     def test_a_server_is_stopped_and_stays_so(self):

@@ -2,7 +2,7 @@
 
     from torfyllan import Key, Server
 
-    with Server() as server:
+    with Server() as server:                     # `run` of the repository, or what TORFYLLAN names
         client = server.client()
         client.put(Key("Task", "a"), n=5)
         print(client.query("Task").results)      # []: the put is committed and not yet applied
@@ -199,8 +199,22 @@ def _property_out(value, namespace):
     return _value_out(value, namespace)
 
 
+_OPERATORS = ("=", "<", "<=", ">", ">=", "!=", "in")
+
+
+def _list_of(what, items, example):
+    """The items of a list; a single item in its place is a slip that the server would tell less plainly."""
+    if isinstance(items, (str, dict)) or (items and what == "filters" and isinstance(items[0], str)):
+        raise TypeError(f"{what} is a list: {what}={example}")
+    return items
+
+
 def _filter_out(one, namespace):
+    if len(one) != 3:
+        raise TypeError(f"a filter is a property, an operator and a value: {one!r}")
     name, operator, value = one
+    if operator not in _OPERATORS:
+        raise ValueError(f"no operator {operator!r}: {', '.join(_OPERATORS)}")
     if operator == "in":
         return [name, operator, [_value_out(each, namespace) for each in value]]
     return [name, operator, _value_out(value, namespace)]
@@ -298,9 +312,12 @@ class ServerFailed(TorfyllanError):
 class Refused(TorfyllanError):
     """A request that the server refused: `number` and `name` are the protocol's, `reply` has the further members."""
 
-    def __init__(self, reply):
+    quiet = ("client", "line", "error", "name")
+
+    def __init__(self, reply, op="a request"):
         super().__init__(reply)
         self.reply = reply
+        self.op = op
         self.number = reply.error
         self.name = reply.name
 
@@ -310,9 +327,8 @@ class Refused(TorfyllanError):
         return getattr(self.reply, name)
 
     def __str__(self):
-        members = {name: value for name, value in self.reply._members.items() if name not in ("client", "line", "error", "name")}
-        told = "".join(f", {name} {value!r}" for name, value in members.items())
-        return f"{self.name} (error {self.number}) at line {self.reply.line} of client {self.reply.client}{told}"
+        told = "".join(f", {name} {value!r}" for name, value in self.reply._members.items() if name not in self.quiet)
+        return f"{self.op} of client {self.reply.client}{told} (error {self.number}, line {self.reply.line})"
 
 
 def _refusal(name):
@@ -347,6 +363,8 @@ NoMemory = _refusal("NoMemory")
 class MissingIndex(Refused):
     """No index serves the query. `index_yaml` is the entry that would, ready to be put below `indexes:` in the index file."""
 
+    quiet = (*Refused.quiet, "constraint", "suggestion")
+
     @property
     def index_yaml(self):
         suggestion = self.reply.suggestion
@@ -361,12 +379,12 @@ class MissingIndex(Refused):
         return "\n".join(lines) + "\n"
 
     def __str__(self):
-        return f"{super().__str__()}\nadd this entry to the index file, below `indexes:`\n\n{self.index_yaml}"
+        return f"{super().__str__()}: no index serves it; add this entry to the index file, below `indexes:`\n\n{self.index_yaml}"
 
 
-def _raised(reply):
+def _raised(reply, op):
     kind = globals().get(reply.name)
-    return kind(reply) if isinstance(kind, type) and issubclass(kind, Refused) else Refused(reply)
+    return kind(reply, op) if isinstance(kind, type) and issubclass(kind, Refused) else Refused(reply, op)
 
 
 # ---- clients
@@ -418,8 +436,8 @@ class Client:
             namespace=self.namespace or None,
             kind=kind,
             ancestor=None if ancestor is None else _key_out(ancestor, self.namespace),
-            filters=[_filter_out(one, self.namespace) for one in filters] or None,
-            orders=[_order_out(order) for order in orders] or None,
+            filters=[_filter_out(one, self.namespace) for one in _list_of("filters", filters, "[('a', '=', 1)]")] or None,
+            orders=[_order_out(order) for order in _list_of("orders", orders, "['-a']")] or None,
             select=select if isinstance(select, str) else list(select),
             offset=offset,
             limit=limit,
@@ -495,13 +513,14 @@ class Pending:
 
     def __init__(self):
         self._reply = None
+        self._op = None
 
     @property
     def reply(self):
         if self._reply is None:
             raise TorfyllanError("the round has not been run: leave its `with` block first")
         if hasattr(self._reply, "error"):
-            raise _raised(self._reply)
+            raise _raised(self._reply, self._op)
         return self._reply
 
     @property
@@ -583,15 +602,20 @@ def _found_program():
 class Server:
     """A server as a context manager.
 
-    `indexes` is the name of an index file, or its text, which has a line `indexes:`. `shards` is 1 to 16. `appliers` is the
-    number of background appliers: with none, which is the default here, a write is applied when a test says so, by `settle`,
-    `apply` or a read that is up to date, and so each run of a test shows the same. `window` is the number of versions that are
-    kept. `program` is the program with its first words; else it is what the environment's TORFYLLAN names, or `run` of the
-    repository that this file stands in, which builds the server the first time (`start_timeout` seconds are given to it). A
-    reply that doesn't come within `timeout` seconds is a `ServerFailed`.
+    `indexes` is the name of an index file, or its text, which has a line `indexes:`. `shards` is 1 to 16: a get, and a query with an
+    ancestor, first apply what waits in the shard of their group, so with one shard any of them shows every earlier write to all
+    queries; with the sixteen that are the default here a stale read stays stale for longer. `appliers` is the number of background
+    appliers: with none, which is the default, a write is applied when a test says so, by `settle`, `apply` or a read that is up to date,
+    and so each run of a test shows the same. `window` is the number of versions that are kept. `program` is the program, or a list of
+    it and its first words; else it is what the environment's TORFYLLAN names, or `run` of the repository that this file stands in, which
+    builds the server the first time (`start_timeout` seconds are given to it). A reply that doesn't come within `timeout` seconds is a
+    `ServerFailed`.
     """
 
-    def __init__(self, *, indexes=None, shards=1, appliers=0, window=None, program=None, timeout=60.0, start_timeout=7200.0):
+    def __init__(self, *, indexes=None, shards=16, appliers=0, window=None, program=None, timeout=60.0, start_timeout=7200.0):
+        for name, value, least, most in (("shards", shards, 1, 16), ("appliers", appliers, 0, 8), ("window", window, 1, 65_536)):
+            if value is not None and not least <= value <= most:
+                raise ValueError(f"{name} is {least} to {most}, and not {value}")
         self._program = [program] if isinstance(program, (str, os.PathLike)) else program
         self._words = {"--indexes": indexes, "--shards": shards, "--appliers": appliers, "--window": window}
         self._timeout = timeout
@@ -599,6 +623,7 @@ class Server:
         self._process = None
         self._folder = None
         self._clients = {}
+        self._answered = False
 
     # -- starting and stopping
 
@@ -621,10 +646,14 @@ class Server:
             raise TorfyllanError("this server has been started before: make another one")
         self._folder = tempfile.TemporaryDirectory(prefix="torfyllan-")
         self._errors = open(os.path.join(self._folder.name, "stderr"), "w+b")
-        words = [*(self._program or _found_program())]
-        for name, value in self._words.items():
-            if value is not None:
-                words += [name, self._index_file(value) if name == "--indexes" else str(value)]
+        try:
+            words = [*(self._program or _found_program())]
+            for name, value in self._words.items():
+                if value is not None:
+                    words += [name, self._index_file(value) if name == "--indexes" else str(value)]
+        except Exception:
+            self._close()
+            raise
         try:
             self._process = subprocess.Popen(words, stdin=subprocess.PIPE, stdout=subprocess.PIPE, stderr=self._errors)
         except OSError as error:
@@ -638,6 +667,7 @@ class Server:
             self._ask_round([(self.client(0), {"client": 0, "op": "settle"})])[0].reply
         finally:
             self._timeout = timeout
+        self._answered = True
         return self
 
     def _index_file(self, given):
@@ -645,6 +675,10 @@ class Server:
             name = os.path.join(self._folder.name, "index.yaml")
             pathlib.Path(name).write_text(given, encoding="utf-8")
             return name
+        if isinstance(given, str) and "\n" in given:
+            raise ValueError("the index text has no line `indexes:`; put one above the entries")
+        if not os.path.isfile(given):
+            raise ServerFailed(f"there is no index file {given} (a relative name stands in {os.getcwd()})")
         return os.path.abspath(given)
 
     def stop(self):
@@ -703,6 +737,10 @@ class Server:
             raise ValueError(f"clients are numbered from 0 to {CLIENTS - 1}")
         return self._clients.setdefault((number, namespace), Client(self, number, namespace))
 
+    def clients(self):
+        """The clients that were made."""
+        return list(self._clients.values())
+
     def round(self):
         """A round of several clients' lines."""
         return Round(self)
@@ -725,7 +763,7 @@ class Server:
         for number, ((client, members), pending) in enumerate(zip(asked, pendings), first):
             if number not in by_line:
                 self._fail(f"line {number} got no reply")
-            pending._reply = Reply(by_line[number], client.namespace)
+            pending._reply, pending._op = Reply(by_line[number], client.namespace), members["op"]
             client._heard(members["op"], by_line[number].get("name"))
         return pendings
 
@@ -742,15 +780,19 @@ class Server:
                 try:
                     rest = rest[os.write(writes, rest[:65536]) :]
                 except OSError as error:
-                    self._fail(f"the server's input broke off: {error}{self._status()}", error)
+                    self._died(error)
             if ready[0]:
                 piece = os.read(reads, 1 << 20)
                 if not piece:
-                    self._fail(f"the server died in the middle of a round{self._status()}")
+                    self._died()
                 pieces.append(piece)
                 seen += piece.count(b"\n")
         *lines, self._begun = b"".join(pieces).split(b"\n")
         return [self._reply_in(line) for line in lines]
+
+    def _died(self, cause=None):
+        when = "in the middle of a round" if self._answered else "before its first reply"
+        self._fail(f"the server ended {when}{self._status()}", cause)
 
     def _status(self):
         try:
@@ -786,8 +828,10 @@ if pytest is not None:
 
     @pytest.fixture
     def datastore(datastore_server):
-        """A client in a namespace that no other test has."""
+        """A client in a namespace that no other test has. What earlier tests left is applied first, since tests share the queue of writes."""
         client = datastore_server.client(namespace=f"test-{next(_tests)}")
+        client.settle()
         yield client
-        if client.in_transaction and datastore_server.is_alive:
-            client.rollback()
+        for each in datastore_server.clients():
+            if each.in_transaction and datastore_server.is_alive:
+                each.rollback()
