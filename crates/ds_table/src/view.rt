@@ -50,7 +50,7 @@ impl<'a> TableView<'a> {
         at_least: &[u8],
         below: Option<&[u8]>,
         steps: &mut Steps<L>,
-    ) -> Option<&[u8]>
+    ) -> Option<&'a [u8]>
         ensures least { option_copied result ≡ find (in_range at_least.now (option_copied below.entry)) (seen_rows self.now.stamp self.now.versions) }
         ensures steps { steps.new ≡ steps.old + 1 + unseen_before self.now.stamp (versions_within at_least.now (option_copied below.entry) self.now.versions) }
         ensures rows_ascend { IsStrictlySortedBy bytes_cmp (seen_rows self.now.stamp self.now.versions) }
@@ -72,7 +72,7 @@ impl<'a> TableView<'a> {
         below: Option<&[u8]>,
         near: &mut u64,
         steps: &mut Steps<L>,
-    ) -> Option<&[u8]>
+    ) -> Option<&'a [u8]>
         ensures least { option_copied result ≡ find (in_range at_least.now (option_copied below.entry)) (seen_rows self.now.stamp self.now.versions) }
         ensures steps { steps.new ≡ steps.old + 1 + unseen_before self.now.stamp (versions_within at_least.now (option_copied below.entry) self.now.versions) }
         ensures rows_ascend { IsStrictlySortedBy bytes_cmp (seen_rows self.now.stamp self.now.versions) }
