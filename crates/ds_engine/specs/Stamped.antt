@@ -1,0 +1,20 @@
+-- Tables at one stamp.
+use Rattle.std.specs.Prelude.{ℕ, List, [], fold}
+use Rattle.std.specs.BTreeSet.{insert_key}
+use Rattle.ds_base.specs.KeyOrder.{bytes_cmp}
+use Rattle.ds_base.specs.Sorting.{sorted_by}
+use Rattle.ds_indexdef.specs.declared.IndexDef.{IndexDef}
+use Rattle.ds_rows.specs.Versions.{Version, seen_rows, unseen_rows}
+
+-- tables, and a stamp
+pub record Stamped (T : Type 0) : Type 0 where
+  pub tables : T
+  pub stamp : ℕ
+
+-- the rows that are seen at the stamp, ascending, each once
+abbrev pub rows_at : List IndexDef → ℕ → List Version → List (List ℕ)
+rows_at defs stamp versions = fold (insert_key bytes_cmp) [] (seen_rows defs stamp versions)
+
+-- the rows of the versions that aren't, ascending, one for each version
+abbrev pub rows_not_at : List IndexDef → ℕ → List Version → List (List ℕ)
+rows_not_at defs stamp versions = sorted_by bytes_cmp (unseen_rows defs stamp versions)
