@@ -78,7 +78,7 @@ has_key (c ∷ d ∷ cs) name e k = by (bytes_eq name c.name) (has_key (d ∷ cs
   by false h = h
 
 -- no column but the last is the key's
-first_not_key : (c d : Column) (cs : List Column) → names_differ (c ∷ d ∷ cs) ≡ true → ends_in_key (d ∷ cs) ≡ true
+pub first_not_key : (c d : Column) (cs : List Column) → names_differ (c ∷ d ∷ cs) ≡ true → ends_in_key (d ∷ cs) ≡ true
     → is_key_name c.name ≡ false
 first_not_key c d cs differ ends = by (is_key_name c.name) refl where
   by : (b : Bool) → is_key_name c.name ≡ b → b ≡ false

@@ -1,7 +1,13 @@
 pub mod AncestorPaths
+pub mod BoundLaws
 pub mod Columns
+pub mod CommonRows
 pub mod EntityRows
+pub mod LowBytes
+pub mod RowBytes
 pub mod ScanColumns
 pub mod ScanIndexes
 pub mod ScanRows
+pub mod StampedRows
+pub mod Walking
 pub mod Ways

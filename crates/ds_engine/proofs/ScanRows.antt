@@ -100,6 +100,9 @@ enumerated k (x ∷ defs) (suc n) d is =
     let same : (k + 1) + n ≡ k + suc n = omega arith in
     inr (subst (λ m. Member (m, d) (enumerate_from (k + 1) defs)) same more)
 
+nothing_more : (n : ℕ) → 0 + n ≡ n
+nothing_more n = omega arith
+
 -- an entity has rows in a scan's index where it has values in the columns
 index_there : (q : Branch) (defs : List IndexDef) (s : PlannedScan) (b : IsBoundScan q defs s) (e : EntityParts) (values : List IndexValue)
     → has_kind q.kind e.key ≡ true → AreTaken (index_lists e b.found.index) values → Member b.found.index (indexes_of defs e)
@@ -116,7 +119,7 @@ index_there q defs s b e values kind taken = by b.found.index b.found.stands b.f
   by (Composite n d) stands suits values taken =
       let of_kind : kind_in d.kind e.key ≡ true = subst (λ k. has_kind k e.key ≡ true) suits kind in
       let placed = member_filter (λ (x : ℕ × IndexDef). kind_in x.1.kind e.key) (enumerate_from 0 defs) (n, d)
-      (enumerated 0 defs n d stands) of_kind in
+      (subst (λ m. Member (m, d) (enumerate_from 0 defs)) (nothing_more n) (enumerated 0 defs n d stands)) of_kind in
       inr (inr (member_right (flat_map property_indexes e.properties) (composite_indexes defs e) (Composite n d)
       (member_map (λ (x : ℕ × IndexDef). Composite x.0 x.1) (filter (λ (x : ℕ × IndexDef). kind_in x.1.kind e.key) (enumerate_from 0 defs))
       (n, d) placed)))
@@ -124,7 +127,7 @@ index_there q defs s b e values kind taken = by b.found.index b.found.stands b.f
 -- ---- ancestors
 
 -- a key has an element
-key_some : (k : KeyParts) → IsLawfulKey k → 0 < length k.elems
+pub key_some : (k : KeyParts) → IsLawfulKey k → 0 < length k.elems
 key_some k p =
     let path = both (is_namespace k.namespace) (is_path k.elems) p.rules in
     let few = both (nat_le 1 (length k.elems) && nat_le (length k.elems) most_elements) (list_all is_elem k.elems) path.1 in
@@ -331,7 +334,7 @@ module _ (q : Branch) (defs : List IndexDef) (s : PlannedScan) (e : EntityParts)
         let one : pair_of c.name a.value ≡ p = one_each s.equal (pair_of c.name a.value) p known.scan.differ a.pair m (sym same) in
         let here : Member a.value (indexed_values e c.name) =
         subst (λ v. Member v (indexed_values e c.name)) (ap (λ o. unwrap_or o Null) a.is) t.0 in
-        sym (ap (λ (x : Pair). has_value e x) (sym one))
+        ap (λ (x : Pair). has_value e x) (sym one)
         ∙ any_member (λ v. is_eq (index_value_cmp v a.value)) (indexed_values e c.name) a.value here
         (ap is_eq ((index_value_cmp-Equal a.value a.value).1 refl))
 
@@ -406,7 +409,7 @@ module _ (q : Branch) (defs : List IndexDef) (s : PlannedScan) (e : EntityParts)
       let r = w.0 in
       let is = row_member (scan_branch q s) (e ∷ []) r w.1.0 in
       let mine : is.entity ≡ e = only is.entity e is.there in
-      let counts : is_found (scan_branch q s) e ≡ true = sym (ap (is_found (scan_branch q s)) (sym mine)) ∙ is.counts in
+      let counts : is_found (scan_branch q s) e ≡ true = ap (is_found (scan_branch q s)) (sym mine) ∙ is.counts in
       let one = both (bytes_eq e.key.namespace q.namespace && has_kind q.kind e.key && is_under s.ancestor e.key) (list_all (has_value e) s.equal) counts in
       let two = both (bytes_eq e.key.namespace q.namespace && has_kind q.kind e.key) (is_under s.ancestor e.key) one.0 in
       let three = both (bytes_eq e.key.namespace q.namespace) (has_kind q.kind e.key) two.0 in

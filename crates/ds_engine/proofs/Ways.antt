@@ -15,10 +15,11 @@ use Rattle.ds_rows.specs.IndexedValues.{each_way}
 pub flat_map_member : {A B : Type 0} (f : A → List B) (xs : List A) (y : B) → Member y (flat_map f xs)
     → (x : A) × (Member x xs × Member y (f x))
 flat_map_member f [] y m = absurd m
-flat_map_member {A = A} f (x ∷ xs) y m = by (member_append (f x) (flat_map f xs) y m) where
-  by : Member y (f x) ⊎ Member y (flat_map f xs) → (z : A) × (Member z (x ∷ xs) × Member y (f z))
-  by (inl h) = (x, (inl refl, h))
-  by (inr h) = let r = flat_map_member f xs y h in (r.0, (inr r.1.0, r.1.1))
+flat_map_member {A = A} f (x ∷ xs) y m = by (member_append (f x) (flat_map f xs) y m) (λ h. flat_map_member f xs y h) where
+  by : Member y (f x) ⊎ Member y (flat_map f xs) → (Member y (flat_map f xs) → (z : A) × (Member z xs × Member y (f z)))
+      → (z : A) × (Member z (x ∷ xs) × Member y (f z))
+  by (inl h) more = (x, (inl refl, h))
+  by (inr h) more = let r = more h in (r.0, (inr r.1.0, r.1.1))
 
 -- ---- ways
 

@@ -41,3 +41,13 @@ AreLawfulIn pairs (Some i) = AreLawfulBound pairs (columns_of i)
 pub record IsLawfulScan (defs : List IndexDef) (s : PlannedScan) : Type 0 where
   pub ancestor : IsLawfulAncestor s.ancestor
   pub values : AreLawfulIn s.equal (index_in defs s.index)
+
+abbrev pub IsLawfulBound : Option Bound → Type 0
+IsLawfulBound None = Unit {0}
+IsLawfulBound (Some b) = IsLawfulValue b.value
+
+-- the ancestor and the bounds of a branch
+pub record IsLawfulEnds (q : Branch) : Type 0 where
+  pub ancestor : IsLawfulAncestor q.ancestor
+  pub lower : IsLawfulBound q.range.lower
+  pub upper : IsLawfulBound q.range.upper

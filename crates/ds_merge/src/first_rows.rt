@@ -1,6 +1,8 @@
 //! Of rows that come one by one, the first of each mark.
-ghost use Rattle.std.specs.Prelude.{◌≡◌, [], length, map, IfOk, OnOk};
-ghost use Rattle.ds_merge.specs.FirstRows.{with_row};
+ghost use Rattle.std.specs.Prelude.{◌≡◌, ℕ, List, [], ◌∷◌, ◌++◌, Option, length, map, IfOk, OnOk};
+ghost use Rattle.ds_merge.specs.FirstRows.{with_row, AreMarks};
+ghost use Rattle.std.specs.BTreeSet.{insert_key};
+ghost use Rattle.ds_merge.specs.Marks.{mark_cmp, mark_of};
 ghost use Rattle.ds_merge.specs.Slots.{slot_of};
 
 use crate::marks::{Mark, mark_of, slots};
@@ -52,17 +54,16 @@ impl FirstRows {
     }
 
     /// Keeps the row where no row of its mark was kept. It takes time in the logarithm of the number of marks. Refused: want of
-    /// memory; the row may then be left out though its mark is new.
+    /// memory; the row is then left out.
     pub fn put(&mut self, row: Row) -> Result<(), NoMemory>
         ensures rows { OnOk result (self.new.rows ≡ with_row self.old.slots self.old.rows row) }
         ensures slots { self.new.slots ≡ self.old.slots }
     {
-        self.rows.try_reserve(1)?;
         let mark = mark_of(self.alloc, &row, self.slots.as_slice())?;
-        if self.marks.insert(mark)? {
-            self.rows.push(row)?;
+        if self.marks.contains(&mark) {
+            return Ok(());
         }
-        Ok(())
+        put_new(&mut self.marks, &mut self.rows, mark, row)
     }
 
     /// The rows that were kept, in the order in which they came. They are moved.
@@ -71,4 +72,24 @@ impl FirstRows {
     {
         RowList::from(self.rows)
     }
+}
+
+/// Puts a new mark among the others, and its row behind the others; neither where it is refused.
+fn put_new(
+    marks: &mut BTreeSet<Mark>,
+    rows: &mut Vec<Row>,
+    mark: Mark,
+    row: Row,
+) -> Result<(), NoMemory>
+    ensures marks { OnOk result (marks.new.keys ≡ insert_key mark_cmp marks.old.keys mark) }
+    ensures rows { OnOk result (rows.new.items ≡ rows.old.items ++ row ∷ []) }
+    ensures kept { (slots : List (Option ℕ)) → mark ≡ mark_of slots row → AreMarks slots marks.old.keys rows.old.items
+        → AreMarks slots marks.new.keys rows.new.items }
+{
+    rows.push(row)?;
+    if let Err(refused) = marks.insert(mark) {
+        rows.pop();
+        return Err(refused.into());
+    }
+    Ok(())
 }
