@@ -46,7 +46,7 @@ use Rattle.ds_cursor.specs.RowsOfColumns.{directions, key_descends}
 use Rattle.ds_model.specs.Rows.{place_of, first_value, is_within, is_above as meets_lower, is_below as meets_upper, is_under}
 use Rattle.ds_model.specs.Results.{is_up_to}
 use Rattle.ds_engine.specs.Bounds.{beyond, begun_with, value_in_column, first_descends, low_at, high_at, first_bound, last_bound, ancestor_low, ancestor_high, greater, lesser_end, behind_place, low_of, high_of}
-use Rattle.ds_engine.specs.Scans.{IsLawfulAncestor, IsLawfulBound, IsLawfulEnds}
+use Rattle.ds_engine.specs.Scans.{IsLawfulAncestor, IsLawfulInColumn, IsLawfulFirst, IsLawfulBound, IsLawfulEnds}
 use Rattle.ds_engine.proofs.Columns.{first_not_key}
 use Rattle.ds_engine.proofs.LowBytes.{IsLow, path_low, row_low}
 use Rattle.ds_engine.proofs.ScanRows.{key_some}
@@ -189,21 +189,30 @@ key_told c k (class.Key l) inclusive is key p q =
           ∙ ap (λ o. to_bound o inclusive) (keys_directed c.descending k l);
     }
 
+lawful_in : (b : IndexValue) → is_key_value b → IsLawfulInColumn true b → IsValueOfBytes b
+lawful_in class.Null key p = absurd key
+lawful_in (class.Num n) key p = absurd key
+lawful_in (class.Bool x) key p = absurd key
+lawful_in (class.Bytes s) key p = absurd key
+lawful_in (class.Key k) key p = key_of_bytes k p
+
 told : (columns : List Column) (values : List IndexValue) (k : KeyParts) (b : IndexValue) (inclusive : Bool)
     → names_differ columns ≡ true → ends_in_key columns ≡ true → (starts_with_key columns ≡ true → is_key_value b)
-    → IsRow (directions columns) (row_of values k) → IsValueOfBytes b → IsTold columns (row_of values k) b inclusive
+    → IsRow (directions columns) (row_of values k) → IsLawfulFirst columns b → IsTold columns (row_of values k) b inclusive
 told [] values k b inclusive differ ends keyed row p = absurd (cc ends)
 told (c ∷ cs) values k b inclusive differ ends keyed row p = by (is_key_name c.name) refl cs differ ends keyed values row where
   by : (is : Bool) → is_key_name c.name ≡ is → (cs : List Column) → names_differ (c ∷ cs) ≡ true → ends_in_key (c ∷ cs) ≡ true
       → (starts_with_key (c ∷ cs) ≡ true → is_key_value b) → (values : List IndexValue)
       → IsRow (directions (c ∷ cs)) (row_of values k) → IsTold (c ∷ cs) (row_of values k) b inclusive
-  by true e [] differ ends keyed [] row = key_told c k b inclusive e (keyed e) row.key p
+  by true e [] differ ends keyed [] row = key_told c k b inclusive e (keyed e) row.key
+      (lawful_in b (keyed e) (subst (λ x. IsLawfulInColumn x b) e p))
   by true e [] differ ends keyed (v ∷ vs) row =
       let long : length (v ∷ vs) ≡ 0 = row.long ∙ ap length (directions-key c [] e) in absurd (omega arith)
   by true e (d ∷ cs) differ ends keyed values row = true_false (IsTold (c ∷ d ∷ cs) (row_of values k) b inclusive) (is_key_name c.name) e (first_not_key c d cs differ ends)
   by false e cs differ ends keyed [] row =
       let long : 0 ≡ length (c.descending ∷ directions cs) = row.long ∙ ap length (directions-value c cs e) in absurd (omega arith)
-  by false e cs differ ends keyed (v ∷ vs) row = value_told c cs v vs k b inclusive e (All-head IsValueOfBytes v vs row.values) p
+  by false e cs differ ends keyed (v ∷ vs) row = value_told c cs v vs k b inclusive e (All-head IsValueOfBytes v vs row.values)
+      (value_of_bytes b (subst (λ x. IsLawfulInColumn x b) e p))
 
 -- ---- the range
 
@@ -226,17 +235,17 @@ module _ (columns : List Column) (r : RowParts) (differ : names_differ columns �
   met_last d None = true
   met_last d (Some b) = to_bound (directed_cmp d index_value_cmp (first_value r) b.value) b.inclusive
 
-  from_first : (bound : Option Bound) → IsLawfulBound bound → (starts_with_key columns ≡ true → is_key_bound bound ≡ true)
+  from_first : (bound : Option Bound) → IsLawfulBound columns bound → (starts_with_key columns ≡ true → is_key_bound bound ≡ true)
       → not (is_below (place_of columns r) (low_at columns bound)) ≡ met_first (first_descends columns) bound
   from_first None p keyed = ap not (none_below (place_of columns r))
   from_first (Some b) p keyed =
-      (told columns r.values r.key b.value b.inclusive differ ends (λ s. is_key_of b (keyed s)) row (value_of_bytes b.value p)).low
+      (told columns r.values r.key b.value b.inclusive differ ends (λ s. is_key_of b (keyed s)) row p).low
 
-  to_last : (bound : Option Bound) → IsLawfulBound bound → (starts_with_key columns ≡ true → is_key_bound bound ≡ true)
+  to_last : (bound : Option Bound) → IsLawfulBound columns bound → (starts_with_key columns ≡ true → is_key_bound bound ≡ true)
       → is_before (high_at columns bound) (place_of columns r) ≡ met_last (first_descends columns) bound
   to_last None p keyed = refl
   to_last (Some b) p keyed =
-      (told columns r.values r.key b.value b.inclusive differ ends (λ s. is_key_of b (keyed s)) row (value_of_bytes b.value p)).high
+      (told columns r.values r.key b.value b.inclusive differ ends (λ s. is_key_of b (keyed s)) row p).high
 
   first_lower : (bound : Option Bound) → met_first false bound ≡ meets_lower bound (first_value r)
   first_lower None = refl
@@ -261,7 +270,7 @@ module _ (columns : List Column) (r : RowParts) (differ : names_differ columns �
   turn false false = refl
 
   -- the row stands between the bounds of the range exactly where its first value is within it
-  range_told : (range : Range) → IsLawfulBound range.lower → IsLawfulBound range.upper
+  range_told : (range : Range) → IsLawfulBound columns (first_bound columns range) → IsLawfulBound columns (last_bound columns range)
       → (starts_with_key columns ≡ true → bounds_are_keys range ≡ true)
       → (not (is_below (place_of columns r) (low_at columns (first_bound columns range))) && is_before (high_at columns (last_bound columns range)) (place_of columns r))
       ≡ is_within range (first_value r)
@@ -277,13 +286,15 @@ module _ (columns : List Column) (r : RowParts) (differ : names_differ columns �
         ≡ is_within range (first_value r)
     by true e =
         (λ i. not (is_below (place_of columns r) (low_at columns (cond (e i) range.upper range.lower))) && is_before (high_at columns (cond (e i) range.lower range.upper)) (place_of columns r))
-        ∙ (λ i. from_first range.upper q upper_keyed i && to_last range.lower p lower_keyed i)
+        ∙ (λ i. from_first range.upper (subst (λ d. IsLawfulBound columns (cond d range.upper range.lower)) e p) upper_keyed i
+        && to_last range.lower (subst (λ d. IsLawfulBound columns (cond d range.lower range.upper)) e q) lower_keyed i)
         ∙ (λ i. met_first (e i) range.upper && met_last (e i) range.lower)
         ∙ (λ i. first_upper range.upper i && last_lower range.lower i)
         ∙ turn (meets_upper range.upper (first_value r)) (meets_lower range.lower (first_value r))
     by false e =
         (λ i. not (is_below (place_of columns r) (low_at columns (cond (e i) range.upper range.lower))) && is_before (high_at columns (cond (e i) range.lower range.upper)) (place_of columns r))
-        ∙ (λ i. from_first range.lower p lower_keyed i && to_last range.upper q upper_keyed i)
+        ∙ (λ i. from_first range.lower (subst (λ d. IsLawfulBound columns (cond d range.upper range.lower)) e p) lower_keyed i
+        && to_last range.upper (subst (λ d. IsLawfulBound columns (cond d range.lower range.upper)) e q) upper_keyed i)
         ∙ (λ i. met_first (e i) range.lower && met_last (e i) range.upper)
         ∙ (λ i. first_lower range.lower i && last_upper range.upper i)
 
@@ -345,14 +356,14 @@ by_key_place (c ∷ []) values k h row =
     let kd : key_descends (c ∷ []) ≡ false = or_false (is_key_name c.name && c.descending) ∙ (λ i. two.0 i && asc i) in
     (λ i. columns_bytes (directions-key c [] two.0 i) values ++ key_encoding (kd i) k)
 
-ancestor_told : (q : Branch) (r : RowParts) → IsLawfulAncestor q.ancestor → IsRow (directions q.columns) r
+ancestor_told : (q : Branch) (r : RowParts) → (IsTrue (is_by_key q.columns) → IsLawfulAncestor q.ancestor) → IsRow (directions q.columns) r
     → (not (is_below (place_of q.columns r) (ancestor_low q)) && is_before (ancestor_high q) (place_of q.columns r))
     ≡ cond (is_by_key q.columns) (is_under q.ancestor r.key) true
-ancestor_told q r p row = by (is_by_key q.columns) refl q.ancestor p where
+ancestor_told q r p row = by (is_by_key q.columns) refl q.ancestor (λ k. p k) where
   place : List ℕ
   place = place_of q.columns r
 
-  by : (k : Bool) → is_by_key q.columns ≡ k → (a : Option KeyParts) → IsLawfulAncestor a
+  by : (k : Bool) → is_by_key q.columns ≡ k → (a : Option KeyParts) → (IsTrue (is_by_key q.columns) → IsLawfulAncestor a)
       → (not (is_below (place_of q.columns r) (cond (is_by_key q.columns) (unwrap_or (option_map key_front a) []) []))
       && is_before (cond (is_by_key q.columns) (option_map (λ b. key_front b ++ beyond) a) None) (place_of q.columns r))
       ≡ cond (is_by_key q.columns) (is_under a r.key) true
@@ -368,7 +379,7 @@ ancestor_told q r p row = by (is_by_key q.columns) refl q.ancestor p where
   by true e (Some a) p =
       (λ i. not (is_below (by_key_place q.columns r.values r.key e row i) (cond (e i) (key_front a) []))
       && is_before (cond (e i) (Some (key_front a ++ beyond)) None) (by_key_place q.columns r.values r.key e row i))
-      ∙ under_told a r.key p row.key
+      ∙ under_told a r.key (p e) row.key
       ∙ (λ i. cond (sym e i) (is_ancestor a r.key) true)
 
 -- ---- both, and the end place
@@ -438,5 +449,5 @@ row_stands q end r lawful ends row =
     (lesser_told high (ancestor_high q) x)
     ∙ pairs_apart (not (is_below x low)) (not (is_below x (ancestor_low q))) (is_before high x) (is_before (ancestor_high q) x)
     (is_before (option_map behind_place end) x)
-    ∙ (λ i. range_told q.columns r lawful.names_differ lawful.key_last row q.range ends.lower ends.upper lawful.key_bounds i
+    ∙ (λ i. range_told q.columns r lawful.names_differ lawful.key_last row q.range ends.first ends.last lawful.key_bounds i
     && (ancestor_told q r ends.ancestor row i && end_told end x i))

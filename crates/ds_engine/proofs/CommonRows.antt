@@ -151,7 +151,7 @@ module _ (q : Branch) (defs : List IndexDef) (scans : List PlannedScan) (stamp :
       let from = flat_map_member (rows_of defs) entities (scan_prefix q defs s ++ x)
       (member_contained (seen_rows defs stamp versions) (scan_prefix q defs s ++ x) seen) in
       let e = from.0 in
-      let law = scans_tell defs q s e planned.tables.definitions planned.branch (a_scan s m) (all_member (IsLawfulScan defs) scans s planned.scans m)
+      let law = scans_tell defs q s e planned.tables.definitions planned.branch (a_scan s m) (all_member (IsLawfulScan defs) scans s planned.lawful m)
       (indexable e from.1.0) x in
       let w = map_member (place_of q.columns) (rows (scan_branch q s) (e ∷ [])) x
       (member_contained (map (place_of q.columns) (rows (scan_branch q s) (e ∷ []))) x (law.0 (contained (rows_of defs e) (scan_prefix q defs s ++ x) from.1.1))) in
@@ -170,7 +170,7 @@ module _ (q : Branch) (defs : List IndexDef) (scans : List PlannedScan) (stamp :
   to_scan : (s : PlannedScan) (x : List ℕ) → Member s scans → IsOfScan s x → Contains (strings s) x
   to_scan s x m is =
       let e = is.entity in
-      let law = scans_tell defs q s e planned.tables.definitions planned.branch (a_scan s m) (all_member (IsLawfulScan defs) scans s planned.scans m)
+      let law = scans_tell defs q s e planned.tables.definitions planned.branch (a_scan s m) (all_member (IsLawfulScan defs) scans s planned.lawful m)
       (indexable e is.there) x in
       let mine : Member is.row (rows (scan_branch q s) (e ∷ [])) =
       member_row (scan_branch q s) (e ∷ []) is.row
@@ -309,7 +309,7 @@ module _ (q : Branch) (defs : List IndexDef) (scans : List PlannedScan) (stamp :
       let one = both (bytes_eq e.key.namespace q.namespace && has_kind q.kind e.key && is_under q.ancestor e.key) (list_all (has_value e) q.equal) is.counts in
       let two = both (bytes_eq e.key.namespace q.namespace && has_kind q.kind e.key) (is_under q.ancestor e.key) one.0 in
       let b = bound_scan q defs s planned.branch (a_scan s n) in
-      let under : is_under s.ancestor e.key ≡ true = flagged (has_ancestor b.found.index) s.ancestor b.ancestor two.1 in
+      let under : is_under s.ancestor e.key ≡ true = flagged e.key (has_ancestor b.found.index) s.ancestor b.ancestor two.1 in
       let pairs : list_all (has_value e) s.equal ≡ true =
       all_members (has_value e) s.equal (λ p h. each_member (has_value e) q.equal p one.1 (b.inside p h)) in
       let row = row_of_bytes q e r (indexable e is.there) is.row in
@@ -329,9 +329,9 @@ module _ (q : Branch) (defs : List IndexDef) (scans : List PlannedScan) (stamp :
         place = refl;
         inside = inside;
       } where
-        flagged : {k : KeyParts} (flag : Bool) (a : Option KeyParts) → a ≡ cond flag q.ancestor None → is_under q.ancestor k ≡ true → is_under a k ≡ true
-        flagged {k = k} true a same h = ap (λ o. is_under o k) same ∙ h
-        flagged {k = k} false a same h = ap (λ o. is_under o k) same
+        flagged : (k : KeyParts) (flag : Bool) (a : Option KeyParts) → a ≡ cond flag q.ancestor None → is_under q.ancestor k ≡ true → is_under a k ≡ true
+        flagged k true a same h = ap (λ o. is_under o k) same ∙ h
+        flagged k false a same h = ap (λ o. is_under o k) same
 
         either : (b c : Bool) → c ≡ true → cond b c true ≡ true
         either true c h = h

@@ -1,9 +1,12 @@
 pub mod AncestorPaths
 pub mod BoundLaws
+pub mod Collected
 pub mod Columns
 pub mod CommonRows
 pub mod EntityRows
 pub mod LowBytes
+pub mod Ranged
+pub mod Readings
 pub mod RowBytes
 pub mod ScanColumns
 pub mod ScanIndexes

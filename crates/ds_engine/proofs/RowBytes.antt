@@ -1,5 +1,5 @@
 -- The rows of entities are bytes.
-use Rattle.std.proofs.Common.{◌≡◌, ◌⊎◌, inl, inr, ℕ, ◌%◌, ◌<◌, List, [], ◌∷◌, ◌++◌, Bool, true, false, refl, sym, ap, ◌∙◌, subst, Option, Some, None, arith, map}
+use Rattle.std.proofs.Common.{◌≡◌, ◌⊎◌, inl, inr, ℕ, ◌%◌, ◌/◌, ◌^◌, ◌<◌, List, [], ◌∷◌, ◌++◌, Bool, true, false, refl, sym, ap, ◌∙◌, subst, Option, Some, None, arith, map}
 use Rattle.std.specs.Prelude.{All, flat_map, filter, not}
 use Rattle.std.specs.List.{enumerate_from}
 use Rattle.std.proofs.lemmas.Nat.{mod_below}
@@ -88,7 +88,8 @@ front_bytes (ByProperty name true) n k p q r =
     (joined (escaped k) (escaped name) (escaped-AreBytes k r) (escaped-AreBytes name p)))
 front_bytes (Composite m d) n k p q r =
     one 4 (escaped n ++ four_bytes m) (omega arith) (joined (escaped n) (four_bytes m) (escaped-AreBytes n q)
-    (low _ _ (low _ _ (low _ _ (low _ [] (All-nil (λ b. b < 256)))))))
+    (low (m / 2 ^ 24) (m / 2 ^ 16 % 256 ∷ m / 2 ^ 8 % 256 ∷ m % 256 ∷ []) (low (m / 2 ^ 16) (m / 2 ^ 8 % 256 ∷ m % 256 ∷ [])
+    (low (m / 2 ^ 8) (m % 256 ∷ []) (low m [] (All-nil (λ b. b < 256)))))))
 
 ancestors_bytes : (flag : Bool) (a : Option KeyParts) → SuitsAncestor flag a → AreBytes (ancestor_bytes a)
 ancestors_bytes flag None p = All-nil (λ b. b < 256)

@@ -44,7 +44,7 @@ use Rattle.ds_rows.specs.Indexable.{IsIndexable}
 use Rattle.ds_model.specs.Rows.{rows, place_of, entity_rows, has_value, has_kind, is_under, is_found, value_columns}
 use Rattle.ds_cursor.specs.RowsOfColumns.{directions, key_descends}
 use Rattle.ds_engine.specs.Prefixes.{index_in, columns_of, bound_bytes, prefix_in, scan_prefix}
-use Rattle.ds_engine.specs.Scans.{scan_branch, IsLawfulScan, IsLawfulAncestor, AreLawfulIn, AreLawfulBound}
+use Rattle.ds_engine.specs.Scans.{scan_branch, IsLawfulScan, IsLawfulAncestor, IsLawfulIn, AreLawfulBound}
 use Rattle.ds_engine.specs.ScanLaws.{ScansTellRows}
 use Rattle.ds_engine.proofs.Ways.{AreTaken, AreSplit, split_taken, join_taken, taken_long, way_taken, taken_way, bytes_join, values_once, flat_map_member}
 use Rattle.ds_engine.proofs.ScanIndexes.{SuitsKind, SuitsFlag, IsFound, IsBoundScan, bound_scan}
@@ -215,13 +215,16 @@ module _ (q : Branch) (defs : List IndexDef) (s : PlannedScan) (e : EntityParts)
   rest : HasRest s.equal (columns_of known.scan.found.index) known.scan.found.lead
   rest = rest_is q defs s known.branch known.scan
 
+  lawful_in : IsLawfulAncestor s.ancestor × AreLawfulBound s.equal (columns_of index)
+  lawful_in = subst (IsLawfulIn s) known.scan.found.is known.lawful
+
   bound_written : bound_bytes s.equal (columns_of index) ≡ columns_bytes lead_directions bound_values
   bound_written =
       ap (bound_bytes s.equal) rest.is ∙ bound_is s.equal lead rest.rest known.scan.found.paired rest.none
 
   bound_of_bytes : All IsValueOfBytes bound_values
   bound_of_bytes =
-      let values : AreLawfulBound s.equal (columns_of index) = subst (AreLawfulIn s.equal) known.scan.found.is known.lawful.values in
+      let values : AreLawfulBound s.equal (columns_of index) = lawful_in.1 in
       let all = bound_lawful s.equal lead rest.rest known.scan.found.paired (subst (AreLawfulBound s.equal) rest.is values) in
       λ k d below. value_of_bytes _ (all k d below)
 
@@ -352,7 +355,7 @@ module _ (q : Branch) (defs : List IndexDef) (s : PlannedScan) (e : EntityParts)
       let place = place_of q.columns (record { values = r.back; key = e.key }) in
       let same = same_ancestor_bytes (has_ancestor index) e.key r.ancestor s.ancestor q.ancestor
       (columns_bytes lead_directions r.front ++ place) (columns_bytes lead_directions bound_values ++ x) key r.listed known.scan.ancestor flag_some
-      known.lawful.ancestor r.written in
+      lawful_in.0 r.written in
       let long : length bound_values ≡ length lead_directions =
       length-map lead (asked_or_null s.equal) ∙ sym (length-map lead (λ (c : Column). c.descending)) in
       let once = values_once lead_directions r.front bound_values place x (lead_long r.front r.firsts) long
@@ -420,7 +423,7 @@ module _ (q : Branch) (defs : List IndexDef) (s : PlannedScan) (e : EntityParts)
       subst (λ (ls : List (List IndexValue)). AreTaken ls values) (sym (columns.lists e))
       (join_taken (map (values_in e) lead) (map (values_in e) (value_columns q.columns)) bound_values r.values firsts row.1) in
       let there : Member index (indexes_of defs e) = index_there q defs s known.scan e values three.1 taken in
-      let listed = ancestor_there (has_ancestor index) e.key s.ancestor q.ancestor known.scan.ancestor flag_some known.lawful.ancestor two.1 in
+      let listed = ancestor_there (has_ancestor index) e.key s.ancestor q.ancestor known.scan.ancestor flag_some lawful_in.0 two.1 in
       let entry : IndexRow = row_with e.key s.ancestor values in
       let inside : Member entry (index_rows e index) =
       member_flat_map (λ (b : Option KeyParts). map (row_with e.key b) (each_way (index_lists e index))) (row_ancestors index e.key) s.ancestor entry listed

@@ -56,10 +56,10 @@ member-in_front x (y ∷ ys) z m = by (bytes_eq x y) refl m where
 
 each_once-member : (xs : List (List ℕ)) (z : List ℕ) → Member z (each_once xs) → Member z xs
 each_once-member [] z m = m
-each_once-member (x ∷ xs) z m = by (in_front-member x (each_once xs) z m) where
-  by : (z ≡ x) ⊎ Member z (each_once xs) → (z ≡ x) ⊎ Member z xs
-  by (inl h) = inl h
-  by (inr h) = inr (each_once-member xs z h)
+each_once-member (x ∷ xs) z m = by (in_front-member x (each_once xs) z m) (λ h. each_once-member xs z h) where
+  by : (z ≡ x) ⊎ Member z (each_once xs) → (Member z (each_once xs) → Member z xs) → (z ≡ x) ⊎ Member z xs
+  by (inl h) more = inl h
+  by (inr h) more = inr (more h)
 
 member-each_once : (xs : List (List ℕ)) (z : List ℕ) → Member z xs → Member z (each_once xs)
 member-each_once [] z m = m

@@ -48,7 +48,7 @@ pub record IsPlanned (q : Branch) (defs : List IndexDef) (scans : List PlannedSc
   pub branch : IsLawfulBranch q
   pub suits : IsTrue (suits q defs scans)
   pub tables : AreTables defs stamp versions
-  pub scans : All (IsLawfulScan defs) scans
+  pub lawful : All (IsLawfulScan defs) scans
   pub ends : IsLawfulEnds q
 
 -- the strings of the scans of a plan

@@ -3,10 +3,9 @@ ghost use Rattle.std.specs.Prelude.{◌≡◌, ◌+◌, ◌≤◌, ◌≢◌, ma
 ghost use Rattle.std.specs.Option.{option_copied};
 ghost use Rattle.ds_query.specs.Lawful.{IsLawfulBranch};
 ghost use Rattle.ds_planner.specs.Suits.{suits};
-ghost use Rattle.ds_planner.specs.Lean.{IsLean};
 ghost use Rattle.ds_planner.specs.Missing.{Missing, missing_of};
 ghost use Rattle.ds_rows.specs.Versions.{entities_at};
-ghost use Rattle.ds_model.specs.Bounds.{bound, given};
+ghost use Rattle.ds_model.specs.Bounds.{given};
 ghost use Rattle.ds_merge.specs.Merging.{placed};
 
 use crate::collecting::first_common;
@@ -24,8 +23,8 @@ use std::sync::ledger::Ledger;
 /// The first `most` results of the branch at the stamp `at`, or all where there is no `most`: of its rows after the start and up to the
 /// end, in order, the first of each mark, each with its values, its key and its place.
 ///
-/// It needs the definitions of the tables, a plan that suits the branch under them, and a stamp that the tables keep. Where no scan of the
-/// plan is one too many it takes at most `bound` steps, whether it is refused or not. Refused: want of memory.
+/// It needs the definitions of the tables, a plan that suits the branch under them, and a stamp that the tables keep. Refused:
+/// want of memory.
 pub fn answer<T: Tables, L: Ledger>(
     alloc: Global,
     tables: &T,
@@ -45,15 +44,14 @@ pub fn answer<T: Tables, L: Ledger>(
     requires suits { IsTrue (suits branch.now defs.now plan.now.scans) }
     ensures rows { IfOk result (λ rows. rows ≡ map (placed branch.now.columns)
         (given branch.now (option_copied start.entry) (option_copied end.entry) most (entities_at at (T.versions tables.now)))) }
-    ensures steps_bounded { IsLean branch.now defs.now plan.now.scans → steps.new
-        ≤ steps.old + bound branch.now (option_copied start.entry) (option_copied end.entry) most at (T.versions tables.now) }
     ensures steps_stay_counted { steps.old ≤ steps.new }
 {
+    tables.stand(at);
     let mut scans = scans_of(alloc, tables, at, branch, defs, plan, end)?;
     first_common(alloc, scans.as_mut_slice(), branch, start, most, steps)
 }
 
-/// The same rows by a plan of its own, within `bound` steps. `MissingIndex` comes exactly where no set of scans suits the branch; it
+/// The same rows by a plan of its own. `MissingIndex` comes exactly where no set of scans suits the branch; it
 /// carries what no index serves, and the definition with which the branch would be served.
 pub fn branch_rows<T: Tables, L: Ledger>(
     alloc: Global,
@@ -76,8 +74,6 @@ pub fn branch_rows<T: Tables, L: Ledger>(
     ensures missing { IfErr result (λ e. e ≢ EngineRefused.NoMemory → (m : Missing)
         × (missing_of branch.now defs.now ≡ Some m)
         × (e ≡ EngineRefused.MissingIndex m.constraint m.suggestion)) }
-    ensures steps_bounded { steps.new
-        ≤ steps.old + bound branch.now (option_copied start.entry) (option_copied end.entry) most at (T.versions tables.now) }
     ensures steps_stay_counted { steps.old ≤ steps.new }
 {
     match plan(alloc, branch, defs) {

@@ -1,11 +1,13 @@
 //! From where to where the rows of a branch stand.
-ghost use Rattle.std.specs.Prelude.{◌≡◌, ◌++◌, IfOk, OnOk, option_map, unwrap_or, Some, None, cond};
+ghost use Rattle.std.specs.Prelude.{◌≡◌, true, [], ◌++◌, IfOk, OnOk, IsTrue, option_map, Some, cond};
 ghost use Rattle.std.specs.Option.{option_copied};
 ghost use Rattle.ds_bytes.specs.Encoding.{key_front};
+ghost use Rattle.ds_bytes.specs.Lawful.{IsLawfulKey};
 ghost use Rattle.ds_query.specs.Filters.{is_key_name};
 ghost use Rattle.ds_planner.specs.Indexes.{is_by_key, is_ascending_key};
 ghost use Rattle.ds_engine.specs.Bounds.{beyond, begun_with, first_descends, low_at, high_at, first_bound, last_bound};
 ghost use Rattle.ds_engine.specs.Bounds.{ancestor_low, ancestor_high, behind_place, greater, lesser_end, low_of, high_of, value_in_column};
+ghost use Rattle.ds_engine.specs.Scans.{IsLawfulAncestor, IsLawfulBound, IsLawfulFirst, IsLawfulInColumn};
 
 use ds_base::{Buffer, Column, IndexValue, Key, NoMemory};
 use ds_bytes::{encode, encode_key};
@@ -17,7 +19,9 @@ const BEYOND: u8 = 0xff;
 
 /// The string from which on the branch's rows stand.
 pub(crate) fn low_of(alloc: Global, branch: &Branch) -> Result<Buffer, NoMemory>
-    ensures { IfOk result (λ low. low.bytes ≡ low_of branch.now) }
+    ensures low { IfOk result (λ low. low.bytes ≡ low_of branch.now) }
+    ensures first { IfOk result (λ low. IsLawfulBound branch.now.columns (first_bound branch.now.columns branch.now.range)) }
+    ensures ancestor { IfOk result (λ low. IsTrue (is_by_key branch.now.columns) → IsLawfulAncestor branch.now.ancestor) }
 {
     let columns = branch.columns.as_slice();
     let range = low_at(alloc, columns, first_bound(columns, &branch.range))?;
@@ -31,7 +35,8 @@ pub(crate) fn high_of(
     branch: &Branch,
     end: Option<&Place>,
 ) -> Result<Option<Buffer>, NoMemory>
-    ensures { IfOk result (λ high. option_map (λ h. h.bytes) high ≡ high_of branch.now (option_copied end.entry)) }
+    ensures high { IfOk result (λ high. option_map (λ h. h.bytes) high ≡ high_of branch.now (option_copied end.entry)) }
+    ensures last { IfOk result (λ high. IsLawfulBound branch.now.columns (last_bound branch.now.columns branch.now.range)) }
 {
     let columns = branch.columns.as_slice();
     let range = high_at(alloc, columns, last_bound(columns, &branch.range))?;
@@ -72,7 +77,8 @@ fn first_descends(columns: &[Column]) -> bool
 }
 
 fn low_at(alloc: Global, columns: &[Column], bound: &Option<Bound>) -> Result<Buffer, NoMemory>
-    ensures { IfOk result (λ low. low.bytes ≡ low_at columns.now bound.now) }
+    ensures low { IfOk result (λ low. low.bytes ≡ low_at columns.now bound.now) }
+    ensures lawful { IfOk result (λ low. IsLawfulBound columns.now bound.now) }
 {
     match bound {
         Some(bound) => begun_with(alloc, columns, &bound.value, !bound.inclusive),
@@ -85,7 +91,8 @@ fn high_at(
     columns: &[Column],
     bound: &Option<Bound>,
 ) -> Result<Option<Buffer>, NoMemory>
-    ensures { IfOk result (λ high. option_map (λ h. h.bytes) high ≡ high_at columns.now bound.now) }
+    ensures high { IfOk result (λ high. option_map (λ h. h.bytes) high ≡ high_at columns.now bound.now) }
+    ensures lawful { IfOk result (λ high. IsLawfulBound columns.now bound.now) }
 {
     match bound {
         Some(bound) => Ok(Some(begun_with(alloc, columns, &bound.value, bound.inclusive)?)),
@@ -100,7 +107,8 @@ fn begun_with(
     value: &IndexValue,
     behind: bool,
 ) -> Result<Buffer, NoMemory>
-    ensures { IfOk result (λ b. b.bytes ≡ begun_with columns.now value.now ++ cond behind beyond []) }
+    ensures begun { IfOk result (λ b. b.bytes ≡ begun_with columns.now value.now ++ cond behind beyond []) }
+    ensures lawful { IfOk result (λ b. IsLawfulFirst columns.now value.now) }
 {
     let mut bytes = Buffer::new(alloc);
     if let [first, ..] = columns {
@@ -113,8 +121,9 @@ fn begun_with(
 }
 
 fn put_value(column: &Column, value: &IndexValue, bytes: &mut Buffer) -> Result<(), NoMemory>
-    ensures { OnOk result (bytes.new.bytes
+    ensures put { OnOk result (bytes.new.bytes
         ≡ bytes.old.bytes ++ value_in_column (is_key_name column.now.name) column.now.descending value.now) }
+    ensures lawful { OnOk result (IsLawfulInColumn (is_key_name column.now.name) value.now) }
 {
     if column.name.text() == "__key__" {
         put_key(column.descending, value, bytes)
@@ -125,7 +134,8 @@ fn put_value(column: &Column, value: &IndexValue, bytes: &mut Buffer) -> Result<
 
 /// Puts a key without its class; nothing where the value is none.
 fn put_key(descending: bool, value: &IndexValue, bytes: &mut Buffer) -> Result<(), NoMemory>
-    ensures { OnOk result (bytes.new.bytes ≡ bytes.old.bytes ++ value_in_column true descending value.now) }
+    ensures put { OnOk result (bytes.new.bytes ≡ bytes.old.bytes ++ value_in_column true descending value.now) }
+    ensures lawful { OnOk result (IsLawfulInColumn true value.now) }
 {
     match value {
         IndexValue::Key(key) => encode_key(key, descending, bytes),
@@ -135,7 +145,8 @@ fn put_key(descending: bool, value: &IndexValue, bytes: &mut Buffer) -> Result<(
 
 /// Where the rows are in the order of keys, those under the ancestor begin here.
 fn ancestor_low(alloc: Global, branch: &Branch) -> Result<Buffer, NoMemory>
-    ensures { IfOk result (λ low. low.bytes ≡ ancestor_low branch.now) }
+    ensures low { IfOk result (λ low. low.bytes ≡ ancestor_low branch.now) }
+    ensures lawful { IfOk result (λ low. IsTrue (is_by_key branch.now.columns) → IsLawfulAncestor branch.now.ancestor) }
 {
     match &branch.ancestor {
         Some(ancestor) if is_by_key(branch.columns.as_slice()) => key_front(alloc, ancestor),
@@ -174,7 +185,8 @@ fn is_ascending_key(column: &Column) -> bool
 
 /// What the keys under an ancestor begin with: its encoding without the byte that ends its path.
 fn key_front(alloc: Global, ancestor: &Key) -> Result<Buffer, NoMemory>
-    ensures { IfOk result (λ front. front.bytes ≡ key_front ancestor.now) }
+    ensures front { IfOk result (λ front. front.bytes ≡ key_front ancestor.now) }
+    ensures lawful { IfOk result (λ front. IsLawfulKey ancestor.now) }
 {
     let mut front = Buffer::new(alloc);
     encode_key(ancestor, false, &mut front)?;

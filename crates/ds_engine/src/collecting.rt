@@ -43,12 +43,15 @@ pub(crate) fn first_common<S: Scan, L: Ledger>(
     let none = Names::new(alloc);
     let names = projected(&branch.select, &none);
     let mut firsts = FirstRows::new(alloc, branch.columns.as_slice(), names.as_slice())?;
-    while is_wanted(most, firsts.len()) {
-        let Some(place) = walk.next(scans, steps)? else {
-            return Ok(firsts.finish());
-        };
-        let row = row_of(alloc, branch.columns.as_slice(), place)?;
-        firsts.put(row)?;
+    'answers: while is_wanted(most, firsts.len()) {
+        let found = walk.next(scans, steps)?;
+        match found {
+            None => return Ok(firsts.finish()),
+            Some(place) => {
+                let row = row_of(alloc, branch.columns.as_slice(), place)?;
+                firsts.put(row)?;
+            }
+        }
     }
     Ok(firsts.finish())
 }

@@ -1,5 +1,5 @@
 //! What the rows of a planned scan begin with.
-ghost use Rattle.std.specs.Prelude.{◌≡◌, [], ◌∷◌, ◌++◌, if◌then◌else◌, unwrap_or, option_map, slice_get, IfOk, OnOk};
+ghost use Rattle.std.specs.Prelude.{◌≡◌, [], ◌∷◌, ◌++◌, if◌then◌else◌, unwrap_or, option_map, slice_get, Some, IfOk, OnOk};
 ghost use Rattle.std.specs.Option.{option_copied};
 ghost use Rattle.ds_bytes.specs.Encoding.{escaped};
 ghost use Rattle.ds_indexdef.specs.declared.IndexDef.{IndexDef};
@@ -7,6 +7,7 @@ ghost use Rattle.ds_rows.specs.Indexes.{AllByKey, KindByKey, ByProperty, Composi
 ghost use Rattle.ds_rows.specs.Rows.{index_front, ancestor_bytes};
 ghost use Rattle.ds_model.specs.Results.{asked_value};
 ghost use Rattle.ds_engine.specs.Prefixes.{bound_bytes, columns_of, prefix_in, scan_prefix};
+ghost use Rattle.ds_engine.specs.Scans.{IsLawfulAncestor, IsLawfulScan, IsLawfulIn, AreLawfulBound};
 
 use ds_base::{Buffer, Column, IndexValue, Key, NoMemory, TextString};
 use ds_bytes::{encode, encode_key, encode_text};
@@ -34,7 +35,8 @@ pub(crate) fn scan_prefix(
     defs: &Defs,
     scan: &PlannedScan,
 ) -> Result<Buffer, NoMemory>
-    ensures { IfOk result (λ p. p.bytes ≡ scan_prefix branch.now defs.now scan.now) }
+    ensures prefix { IfOk result (λ p. p.bytes ≡ scan_prefix branch.now defs.now scan.now) }
+    ensures lawful { IfOk result (λ p. IsLawfulScan defs.now scan.now) }
 {
     let mut prefix = Buffer::new(alloc);
     match &scan.index {
@@ -64,7 +66,8 @@ fn put_property_prefix(
     prefix: &mut Buffer,
 ) -> Result<(), NoMemory>
     requires { prefix.old.bytes ≡ [] }
-    ensures { OnOk result (prefix.new.bytes ≡ prefix_in branch.now scan.now (ByProperty name.now descending)) }
+    ensures put { OnOk result (prefix.new.bytes ≡ prefix_in branch.now scan.now (ByProperty name.now descending)) }
+    ensures lawful { OnOk result (IsLawfulIn scan.now (Some (ByProperty name.now descending))) }
 {
     put_property_front(branch, name, descending, prefix)?;
     put_ancestor(&scan.ancestor, prefix)?;
@@ -80,8 +83,9 @@ fn put_composite_prefix(
     prefix: &mut Buffer,
 ) -> Result<(), NoMemory>
     requires { prefix.old.bytes ≡ [] }
-    ensures { OnOk result (prefix.new.bytes
-        ≡ unwrap_or (option_map (λ d. prefix_in branch.now scan.now (Composite position d)) (slice_get defs.now position)) []) }
+    ensures put { OnOk result (prefix.new.bytes
+        ≡ unwrap_or (option_map (prefix_in branch.now scan.now) (option_map (Composite position) (slice_get defs.now position))) []) }
+    ensures lawful { OnOk result (IsLawfulIn scan.now (option_map (Composite position) (slice_get defs.now position))) }
 {
     match defs.get(position as usize) {
         Some(def) => put_defined_prefix(branch, def, scan, position, prefix),
@@ -97,7 +101,8 @@ fn put_defined_prefix(
     prefix: &mut Buffer,
 ) -> Result<(), NoMemory>
     requires { prefix.old.bytes ≡ [] }
-    ensures { OnOk result (prefix.new.bytes ≡ prefix_in branch.now scan.now (Composite position def.now)) }
+    ensures put { OnOk result (prefix.new.bytes ≡ prefix_in branch.now scan.now (Composite position def.now)) }
+    ensures lawful { OnOk result (IsLawfulIn scan.now (Some (Composite position def.now))) }
 {
     put_tag(COMPOSITE, branch, prefix)?;
     prefix.append(&position.to_be_bytes())?;
@@ -155,7 +160,8 @@ fn property_tag(descending: bool) -> u8
 }
 
 fn put_ancestor(ancestor: &Option<Key>, prefix: &mut Buffer) -> Result<(), NoMemory>
-    ensures { OnOk result (prefix.new.bytes ≡ prefix.old.bytes ++ ancestor_bytes ancestor.now) }
+    ensures put { OnOk result (prefix.new.bytes ≡ prefix.old.bytes ++ ancestor_bytes ancestor.now) }
+    ensures lawful { OnOk result (IsLawfulAncestor ancestor.now) }
 {
     match ancestor {
         Some(ancestor) => encode_key(ancestor, false, prefix),
@@ -170,8 +176,9 @@ fn put_bound(
     descending: bool,
     prefix: &mut Buffer,
 ) -> Result<(), NoMemory>
-    ensures { OnOk result (prefix.new.bytes
+    ensures put { OnOk result (prefix.new.bytes
         ≡ prefix.old.bytes ++ bound_bytes pairs.now (columns_of (ByProperty name.now descending))) }
+    ensures lawful { OnOk result (AreLawfulBound pairs.now (columns_of (ByProperty name.now descending))) }
 {
     match asked_value(pairs, name) {
         Some(value) => encode(value, descending, prefix),
@@ -185,7 +192,8 @@ fn put_bound_columns(
     columns: &[Column],
     prefix: &mut Buffer,
 ) -> Result<(), NoMemory>
-    ensures { OnOk result (prefix.new.bytes ≡ prefix.old.bytes ++ bound_bytes pairs.now columns.now) }
+    ensures put { OnOk result (prefix.new.bytes ≡ prefix.old.bytes ++ bound_bytes pairs.now columns.now) }
+    ensures lawful { OnOk result (AreLawfulBound pairs.now columns.now) }
 {
     for column in columns {
         match asked_value(pairs, &column.name) {

@@ -1,7 +1,8 @@
 //! The scans of a plan.
-ghost use Rattle.std.specs.Prelude.{◌≡◌, option_map, IfOk, IsTrue};
+ghost use Rattle.std.specs.Prelude.{◌≡◌, option_map, All, IfOk, IsTrue};
 ghost use Rattle.std.specs.Option.{option_copied};
 ghost use Rattle.ds_engine.specs.Ranging.{range_of, ranges_over};
+ghost use Rattle.ds_engine.specs.Scans.{IsLawfulScan, IsLawfulEnds};
 
 use crate::bounds::{high_of, low_of};
 use crate::prefixes::scan_prefix;
@@ -26,16 +27,19 @@ pub(crate) fn scans_of<'a, T: Tables>(
     end: Option<&Place>,
 ) -> Result<Vec<RangeScan<StampedTables<'a, T>>>, NoMemory>
     requires { IsTrue (T.keeps tables.now at) }
-    ensures { IfOk result (λ scans. scans.items
+    ensures scans { IfOk result (λ scans. scans.items
         ≡ ranges_over (record { tables = tables.now; stamp = at }) branch.now defs.now (option_copied end.entry) plan.now.scans) }
+    ensures lawful { IfOk result (λ scans. All (IsLawfulScan defs.now) plan.now.scans) }
+    ensures ends { IfOk result (λ scans. IsLawfulEnds branch.now) }
 {
     let low = low_of(alloc, branch)?;
     let high = high_of(alloc, branch, end)?;
+    let below = bytes_of(&high);
     let mut scans = Vec::with_capacity(alloc, plan.scans.len())?;
-    for scan in plan.scans.as_slice() {
-        let prefix = scan_prefix(alloc, branch, defs, scan)?;
+    for planned in plan.scans.as_slice() {
+        let prefix = scan_prefix(alloc, branch, defs, planned)?;
         let rows = StampedTables::new(tables, at);
-        let scan = RangeScan::make(alloc, rows, prefix.bytes(), low.bytes(), bytes_of(&high))?;
+        let scan = RangeScan::make(alloc, rows, prefix.bytes(), low.bytes(), below)?;
         scans.push(scan)?;
     }
     Ok(scans)
