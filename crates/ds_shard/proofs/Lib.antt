@@ -1,0 +1,4 @@
+mod Currents
+mod HistoryLaws
+mod Kept
+mod Standing

@@ -1,0 +1,175 @@
+//! The versions of one entity.
+ghost use Rattle.std.specs.Prelude.{◌≡◌, ◌++◌, [], ◌∷◌, None, Some, cond, map, find, option_map, if◌then◌else◌, OnOk, OnErr, IsTrue, length, ◌==◌};
+ghost use Rattle.std.specs.List.{filter_map};
+ghost use Rattle.std.specs.Option.{option_copied};
+ghost use Rattle.ds_rows.specs.Versions.{Version, is_before, is_seen};
+ghost use Rattle.ds_shard.specs.Histories.{is_open, until_stamp, before_stamp, trimmed, BeginsBy, IsOver, IsHistory, Each};
+
+use ds_base::{Entity, NoMemory, TryCopy};
+use std::alloc::Global;
+use std::marker::Model;
+
+/// An entity as a write left it, from the stamp of that write on, up to the one that replaced or deleted it, without it.
+#[derive(Drop)]
+pub(crate) struct Kept {
+    pub(crate) entity: Entity,
+    pub(crate) from: u64,
+    pub(crate) until: Option<u64>,
+}
+
+impl Kept {
+    /// The entity, unless the version has ended.
+    fn current(&self) -> Option<&Entity>
+        ensures { option_copied result ≡ cond (is_open self.now.until) (Some self.now.entity) None }
+    {
+        match self.until {
+            None => Some(&self.entity),
+            Some(_) => None,
+        }
+    }
+
+    /// The entity, unless the version has ended by the stamp.
+    fn before_end(&self, at: u64) -> Option<&Entity>
+        ensures { option_copied result ≡ cond (is_before self.now.until at) (Some self.now.entity) None }
+    {
+        if is_before(self.until, at) {
+            Some(&self.entity)
+        } else {
+            None
+        }
+    }
+}
+
+/// Whether the stamp is before the end, if there is one.
+fn is_before(until: Option<u64>, stamp: u64) -> bool
+    ensures { result ≡ is_before until stamp }
+{
+    match until {
+        None => true,
+        Some(until) => stamp < until,
+    }
+}
+
+/// The versions of the entity of one key in the order of their stamps: each ended when the next began, or before.
+#[derive(Drop)]
+pub(crate) struct VersionList {
+    items: Vec<Kept>,
+}
+
+impl Model for VersionList {
+    ghost use Rattle.std.specs.Prelude.{List, map};
+    ghost use Rattle.ds_rows.specs.Versions.{Version};
+    ghost use Rattle.ds_shard.specs.Histories.{version_of, IsHistory};
+
+    ghost Value = { List Version };
+
+    ghost view = { λ l. map version_of l.items.items };
+
+    ghost invariant = { λ l. IsHistory (map version_of l.items.items) };
+}
+
+impl VersionList {
+    /// No version. It takes no memory.
+    pub(crate) fn new(alloc: Global) -> VersionList
+        ensures { result ≡ [] }
+    {
+        VersionList {
+            items: Vec::new(alloc),
+        }
+    }
+
+    pub(crate) fn is_empty(&self) -> bool
+        ensures { IsTrue result → self.now ≡ [] }
+    {
+        self.items.is_empty()
+    }
+
+    /// The entity that nothing replaced or deleted; `None` exactly where there is none.
+    pub(crate) fn current(&self) -> Option<&Entity>
+        ensures value { option_copied result ≡ option_map (λ (v : Version). v.entity) (find (λ v. is_open v.until) self.now) }
+        ensures history { IsHistory self.now }
+    {
+        match self.items.as_slice().last() {
+            Some(last) => last.current(),
+            None => None,
+        }
+    }
+
+    /// The entity that is seen at the stamp, by bisection; `None` exactly where there is none.
+    pub(crate) fn seen_at(&self, at: u64) -> Option<&Entity>
+        ensures value { option_copied result ≡ option_map (λ (v : Version). v.entity) (find (is_seen at) self.now) }
+        ensures history { IsHistory self.now }
+    {
+        let begun = self.items.as_slice().partition_point(|v| v.from <= at);
+        if begun == 0 {
+            return None;
+        }
+        self.items[begun - 1].before_end(at)
+    }
+
+    /// Ends the version that isn't ended, if there is one, at the stamp. It takes no memory.
+    pub(crate) fn end(&mut self, stamp: u64)
+        ensures ended { self.new ≡ map (λ v. if is_open v.until then until_stamp (Some stamp) v else v) self.old }
+        ensures history { IsHistory self.old }
+    {
+        let count = self.items.len();
+        if count > 0 && self.items[count - 1].until.is_none() {
+            self.items[count - 1].until = Some(stamp);
+        }
+    }
+
+    /// Begins a version at the stamp, by which each one has ended. A refusal, which is want of memory, changes nothing.
+    pub(crate) fn begin(
+        &mut self,
+        alloc: Global,
+        entity: &Entity,
+        stamp: u64,
+    ) -> Result<(), NoMemory>
+        requires { Each (IsOver stamp) self.old }
+        ensures begun { OnOk result (self.new ≡ self.old ++ record { entity = entity.now; from = stamp; until = None } ∷ []) }
+        ensures unchanged { OnErr result (self.new ≡ self.old) }
+    {
+        let version = Kept {
+            entity: entity.copy(alloc)?,
+            from: stamp,
+            until: None,
+        };
+        self.items.push(version)?;
+        Ok(())
+    }
+
+    /// Takes back what was done at the stamp, after which nothing began. It takes no memory.
+    pub(crate) fn undo(&mut self, stamp: u64)
+        requires { Each (BeginsBy stamp) self.old }
+        ensures undone { self.new ≡ filter_map (before_stamp stamp) self.old }
+        ensures history { IsHistory self.old }
+    {
+        while self.begins_last_at(stamp) {
+            let _ = self.items.pop();
+        }
+        self.reopen(stamp);
+    }
+
+    /// Whether there is a version and the last one began at the stamp.
+    fn begins_last_at(&self, stamp: u64) -> bool {
+        match self.items.as_slice().last() {
+            Some(last) => last.from == stamp,
+            None => false,
+        }
+    }
+
+    /// Opens the last version where it ended at the stamp.
+    fn reopen(&mut self, stamp: u64) {
+        let count = self.items.len();
+        if count > 0 && self.items[count - 1].until == Some(stamp) {
+            self.items[count - 1].until = None;
+        }
+    }
+
+    /// Takes out the versions that ended at or before the floor. It takes no memory.
+    pub(crate) fn trim(&mut self, floor: u64)
+        ensures { self.new ≡ trimmed floor self.old }
+    {
+        self.items.retain(|v| is_before(v.until, floor));
+    }
+}
