@@ -19,11 +19,8 @@ use Rattle.ds_log.specs.Logs.{key_of}
 use Rattle.ds_log.specs.After.{apply_write, without}
 use Rattle.ds_rows.specs.Versions.{Version, is_before, is_seen, entities_at}
 use Rattle.ds_shard.specs.Histories.{Each, EndsWithin, is_open, is_current, until_stamp, ended, with_version, written, outlives, trimmed}
-use Rattle.ds_shard.specs.Contents.{IsGiven}
+use Rattle.ds_shard.specs.Contents.{IsGiven, version_cmp}
 use Rattle.ds_shard.specs.Shards.{entity_cmp, by_key}
-
-abbrev pub version_cmp : Version → Version → Ordering
-version_cmp = on (λ (v : Version). v.entity.key) key_cmp
 
 -- the entities of the open versions
 abbrev pub currents : List Version → List EntityParts

@@ -2,3 +2,14 @@ mod Currents
 mod HistoryLaws
 mod Kept
 mod Standing
+mod Counting
+mod Ordered
+mod Own
+mod Trimming
+mod RowsApart
+mod RowSteps
+mod Closing
+mod Beginning
+mod Undoing
+mod Seeking
+mod Writing

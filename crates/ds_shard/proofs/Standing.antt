@@ -16,9 +16,9 @@ use Rattle.ds_log.specs.Logs.{entry_writes, key_of}
 use Rattle.ds_rows.specs.Rows.{rows_of}
 use Rattle.ds_rows.specs.Versions.{Version, entities_at}
 use Rattle.ds_shard.specs.Histories.{Each, written, trimmed, outlives}
-use Rattle.ds_shard.specs.Contents.{IsGiven}
+use Rattle.ds_shard.specs.Contents.{IsGiven, version_cmp}
 use Rattle.ds_shard.specs.Shards.{ShardParts, StandsFor, floor_of, floor, empty, absorbed, shard_of_entries, last_commit, by_key}
-use Rattle.ds_shard.proofs.Currents.{version_cmp, currents, seen_currents, currents-written}
+use Rattle.ds_shard.proofs.Currents.{currents, seen_currents, currents-written}
 use Rattle.ds_shard.proofs.Kept.{Ascends-ended, Ascends-written, Ascends-filter, given-later, given-written, given-filter}
 use Rattle.ds_shard.proofs.Kept.{seen-written, seen-trimmed, trimmed-twice}
 
