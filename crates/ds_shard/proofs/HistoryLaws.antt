@@ -1,17 +1,25 @@
--- The versions of one key: each but the last has ended.
-use Rattle.std.proofs.Common.{◌≡◌, ℕ, zero, suc, ◌+◌, ◌-◌, ◌<◌, ◌≤◌, Bool, true, false, cond, List, [], ◌∷◌, ◌++◌, length, map, get_or, Option, Some, None, refl, sym, ap, ◌∙◌, subst, arith}
-use Rattle.std.specs.Prelude.{find, filter, option_map, slice_get, slice_set, if◌then◌else◌, nat_le, nat_lt, ◌&&◌}
+-- The versions of one key stay a history as one is added, ended, taken back or taken out.
+use Rattle.std.proofs.Common.{◌≡◌, ℕ, ◌<◌, ◌≤◌, Bool, true, false, cond, List, [], ◌∷◌, ◌++◌, map, Option, Some, None, refl, sym, ap, ◌∙◌, subst, arith}
+use Rattle.std.specs.Prelude.{filter, nat_eq, nat_lt, if◌then◌else◌}
+use Rattle.std.specs.List.{filter_map}
 use Rattle.std.proofs.lemmas.List.{map-append}
 use Rattle.std.proofs.lemmas.Bool.Decides.{nat_tests}
-use Rattle.ds_base.specs.Entities.{EntityParts}
-use Rattle.ds_rows.specs.Versions.{Version, is_before, is_seen}
+use Rattle.ds_rows.specs.Versions.{Version, is_before}
 use Rattle.ds_shard.specs.declared.version_list.Kept.{Kept}
-use Rattle.ds_shard.specs.Histories.{Each, EndsBy, IsOver, Precedes, IsHistory, is_open, until_stamp, version_of, outlives, trimmed}
-use Rattle.ds_shard.proofs.Currents.{and_false, le_true, le_false}
+use Rattle.ds_shard.specs.Histories.{Each, BeginsBy, EndsBy, EndsFrom, IsOver, Precedes, IsHistory, is_open, until_stamp, before_stamp, ends_at, version_of, outlives, trimmed, first_is_over}
 
-closed : (u : Option ℕ) (stamp : ℕ) → EndsBy stamp u → is_open u ≡ false
+pub closed : (u : Option ℕ) (stamp : ℕ) → EndsBy stamp u → is_open u ≡ false
 closed None stamp h = absurd h
 closed (Some u) stamp h = refl
+
+pub eq_false : (m n : ℕ) → m < n → nat_eq m n ≡ false
+eq_false m n h = by (nat_eq m n) refl where
+  by : (b : Bool) → b ≡ nat_eq m n → nat_eq m n ≡ false
+  by true e = let same : m ≡ n = grind (arith, nat_tests) in absurd (omega (arith, same, h))
+  by false e = sym e
+
+pub eq_true : (m n : ℕ) → nat_eq m n ≡ true → m ≡ n
+eq_true m n e = grind (arith, nat_tests)
 
 -- ---- one more
 
@@ -19,44 +27,28 @@ each-push : (P : Version → Type 0) (ws : List Version) (v : Version) → Each 
 each-push P [] v h p = (p, tt)
 each-push P (w ∷ ws) v h p = (h.0, each-push P ws v h.1 p)
 
-history-push : (vs : List Version) (v : Version) → IsHistory vs → Each (IsOver v.from) vs → IsHistory (vs ++ v ∷ [])
-history-push [] v h o = (tt, tt)
-history-push (w ∷ ws) v h o =
-    (each-push (Precedes w) ws v h.0 (record { rises = o.0.0; ends = o.0.1 }), history-push ws v h.1 o.1)
+pub history-push : (vs : List Version) (v : Version) → EndsFrom v.from v.until → IsHistory vs → Each (IsOver v.from) vs → IsHistory (vs ++ v ∷ [])
+history-push [] v s h o = (s, tt, tt)
+history-push (w ∷ ws) v s h o =
+    (h.0, each-push (Precedes w) ws v h.1 (record { rises = o.0.0; ends = o.0.1 }), history-push ws v s h.2 o.1)
 
-pub history_more : (xs ys : List Kept) (x : Kept) (stamp : ℕ) → ys ≡ xs ++ x ∷ [] → x.from ≡ stamp → IsHistory (map version_of xs)
+pub history_more : (xs ys : List Kept) (x : Kept) (stamp : ℕ) → ys ≡ xs ++ x ∷ [] → x.from ≡ stamp → x.until ≡ None → IsHistory (map version_of xs)
     → Each (IsOver stamp) (map version_of xs) → IsHistory (map version_of ys)
-history_more xs ys x stamp e f h o =
+history_more xs ys x stamp e f u h o =
     subst (λ (zs : List Kept). IsHistory (map version_of zs)) (sym e)
     (subst IsHistory (sym (map-append version_of xs (x ∷ [])))
-    (history-push (map version_of xs) (version_of x) h (subst (λ n. Each (IsOver n) (map version_of xs)) (sym f) o)))
+    (history-push (map version_of xs) (version_of x) (subst (EndsFrom x.from) (sym u) tt) h
+    (subst (λ n. Each (IsOver n) (map version_of xs)) (sym f) o)))
 
--- ---- the last one
+-- ---- the first ones
 
-abbrev if_open : Option Kept → Option EntityParts
-if_open None = None
-if_open (Some k) = cond (is_open k.until) (Some k.entity) None
+pub each-first : {X : Type 0} (P : X → Type 0) (xs ys : List X) → Each P (xs ++ ys) → Each P xs
+each-first P [] ys h = tt
+each-first P (x ∷ xs) ys h = (h.0, each-first P xs ys h.1)
 
-mapped : (b : Bool) (k : Kept) → option_map (λ (v : Version). v.entity) (cond b (Some (version_of k)) None) ≡ cond b (Some k.entity) None
-mapped true k = refl
-mapped false k = refl
-
-find_last : (xs : List Kept) (m : ℕ) → length xs ≡ suc m → IsHistory (map version_of xs)
-    → option_map (λ (v : Version). v.entity) (find (λ v. is_open v.until) (map version_of xs)) ≡ if_open (slice_get xs m)
-find_last [] m e h = absurd (omega (arith, e))
-find_last (x ∷ []) zero e h = mapped (is_open x.until) x
-find_last (x ∷ []) (suc m) e h = absurd (omega (arith, e))
-find_last (x ∷ y ∷ ys) zero e h = absurd (omega (arith, e))
-find_last (x ∷ y ∷ ys) (suc m) e h =
-    let l : length (y ∷ ys) ≡ suc m = omega (arith, e) in
-    rw (closed x.until y.from h.0.0.ends) (find_last (y ∷ ys) m l h.1)
-
-pub current_is : (xs : List Kept) → IsHistory (map version_of xs) → (o : Option Kept) → o ≡ slice_get xs (length xs - 1)
-    → if_open o ≡ option_map (λ (v : Version). v.entity) (find (λ v. is_open v.until) (map version_of xs))
-current_is [] h o e = ap if_open e
-current_is (x ∷ xs) h o e =
-    let l : suc (length xs) - 1 ≡ length xs = omega arith in
-    ap if_open (e ∙ ap (slice_get (x ∷ xs)) l) ∙ sym (find_last (x ∷ xs) (length xs) refl h)
+pub history-first : (vs ws : List Version) → IsHistory (vs ++ ws) → IsHistory vs
+history-first [] ws h = tt
+history-first (v ∷ vs) ws h = (h.0, each-first (Precedes v) vs ws h.1, history-first vs ws h.2)
 
 -- ---- an end
 
@@ -74,48 +66,49 @@ each-ended v stamp (w ∷ ws) h = (first (is_open w.until), each-ended v stamp w
       (record { rises = h.0.rises; ends = h.0.ends })
   first false = subst (λ (x : Version). Precedes x w) (sym (kept_end v stamp w.from h.0.ends)) h.0
 
-pub history-ended : (stamp : ℕ) (vs : List Version) → IsHistory vs → IsHistory (map (end_open stamp) vs)
-history-ended stamp [] h = tt
-history-ended stamp (v ∷ vs) h = (each-ended v stamp vs h.0, history-ended stamp vs h.1)
+spans-ended : (stamp : ℕ) (v : Version) → v.from ≤ stamp → EndsFrom v.from v.until → EndsFrom (end_open stamp v).from (end_open stamp v).until
+spans-ended stamp v b s = by (is_open v.until) where
+  by : (b : Bool) → EndsFrom (cond b (until_stamp (Some stamp) v) v).from (cond b (until_stamp (Some stamp) v) v).until
+  by true = b
+  by false = s
 
-abbrev ended_kept : ℕ → Kept → Kept
-ended_kept stamp k = record { entity = k.entity; from = k.from; until = Some stamp }
+pub history-ended : (stamp : ℕ) (vs : List Version) → Each (BeginsBy stamp) vs → IsHistory vs → IsHistory (map (end_open stamp) vs)
+history-ended stamp [] b h = tt
+history-ended stamp (v ∷ vs) b h = (spans-ended stamp v b.0 h.0, each-ended v stamp vs h.1, history-ended stamp vs b.1 h.2)
 
-end_last : (stamp : ℕ) (xs : List Kept) (m : ℕ) (k : Kept) → length xs ≡ suc m → IsHistory (map version_of xs) → k ≡ get_or xs m k
-    → is_open k.until ≡ true → map version_of (slice_set xs m (ended_kept stamp k)) ≡ map (end_open stamp) (map version_of xs)
-end_last stamp [] m k e h is o = absurd (omega (arith, e))
-end_last stamp (x ∷ []) zero k e h is o =
-    let p : is_open x.until ≡ true = ap (λ (y : Kept). is_open y.until) (sym is) ∙ o in
-    rw p (ap (λ (y : Kept). until_stamp (Some stamp) (version_of y) ∷ []) is)
-end_last stamp (x ∷ []) (suc m) k e h is o = absurd (omega (arith, e))
-end_last stamp (x ∷ y ∷ ys) zero k e h is o = absurd (omega (arith, e))
-end_last stamp (x ∷ y ∷ ys) (suc m) k e h is o =
-    let l : length (y ∷ ys) ≡ suc m = omega (arith, e) in
-    rw (closed x.until y.from h.0.0.ends) (ap (λ vs. version_of x ∷ vs) (end_last stamp (y ∷ ys) m k l h.1 is o))
+-- ---- what is taken back
 
-none_last : (stamp : ℕ) (xs : List Kept) (m : ℕ) (k : Kept) → length xs ≡ suc m → IsHistory (map version_of xs) → k ≡ get_or xs m k
-    → is_open k.until ≡ false → map version_of xs ≡ map (end_open stamp) (map version_of xs)
-none_last stamp [] m k e h is o = absurd (omega (arith, e))
-none_last stamp (x ∷ []) zero k e h is o =
-    let p : is_open x.until ≡ false = ap (λ (y : Kept). is_open y.until) (sym is) ∙ o in
-    rw p refl
-none_last stamp (x ∷ []) (suc m) k e h is o = absurd (omega (arith, e))
-none_last stamp (x ∷ y ∷ ys) zero k e h is o = absurd (omega (arith, e))
-none_last stamp (x ∷ y ∷ ys) (suc m) k e h is o =
-    let l : length (y ∷ ys) ≡ suc m = omega (arith, e) in
-    rw (closed x.until y.from h.0.0.ends) (ap (λ vs. version_of x ∷ vs) (none_last stamp (y ∷ ys) m k l h.1 is o))
+none_after : (stamp : ℕ) (v : Version) (ws : List Version) → v.until ≡ Some stamp → Each (BeginsBy stamp) ws → Each (Precedes v) ws
+    → filter_map (before_stamp stamp) ws ≡ []
+none_after stamp v [] u b h = refl
+none_after stamp v (w ∷ ws) u b h =
+    let least : stamp ≤ w.from = subst (EndsBy w.from) u h.0.ends in
+    let most : w.from ≤ stamp = b.0 in
+    let same : nat_eq w.from stamp ≡ true = grind (arith, nat_tests) in
+    rw same (none_after stamp v ws u b.1 h.1)
 
-is_last : (n : ℕ) → 0 < n → n ≡ suc (n - 1)
-is_last n h = omega (arith, h)
+each-undone : (stamp : ℕ) (v : Version) (ws : List Version) → Each (Precedes v) ws → Each (Precedes v) (filter_map (before_stamp stamp) ws)
+each-undone stamp v [] h = tt
+each-undone stamp v (w ∷ ws) h = by (nat_eq w.from stamp) (ends_at stamp w.until) refl refl (each-undone stamp v ws h.1) where
+  by : (b c : Bool) → nat_eq w.from stamp ≡ b → ends_at stamp w.until ≡ c → Each (Precedes v) (filter_map (before_stamp stamp) ws)
+      → Each (Precedes v) (filter_map (before_stamp stamp) (w ∷ ws))
+  by true c e f i = rw e i
+  by false true e f i = rw (e, f) (record { rises = h.0.rises; ends = h.0.ends }, i)
+  by false false e f i = rw (e, f) (h.0, i)
 
-module _ (stamp n : ℕ) (xs : List Kept) (vs : List Version) (k : Kept) (long : n ≡ length xs) (h : IsHistory (map version_of xs))
-    (view : map version_of xs ≡ vs) where
-  pub ends_last : 0 < n → k ≡ get_or xs (n - 1) k → is_open k.until ≡ true
-      → map version_of (slice_set xs (n - 1) (ended_kept stamp k)) ≡ map (end_open stamp) vs
-  ends_last p is o = end_last stamp xs (n - 1) k (sym long ∙ is_last n p) h is o ∙ ap (map (end_open stamp)) view
+ended_there : (stamp : ℕ) (u : Option ℕ) → ends_at stamp u ≡ true → u ≡ Some stamp
+ended_there stamp None e = cc
+ended_there stamp (Some u) e = ap Some (eq_true u stamp e)
 
-  pub ends_none : 0 < n → k ≡ get_or xs (n - 1) k → is_open k.until ≡ false → vs ≡ map (end_open stamp) vs
-  ends_none p is o = sym view ∙ (none_last stamp xs (n - 1) k (sym long ∙ is_last n p) h is o ∙ ap (map (end_open stamp)) view)
+pub history-undone : (stamp : ℕ) (vs : List Version) → Each (BeginsBy stamp) vs → IsHistory vs → IsHistory (filter_map (before_stamp stamp) vs)
+history-undone stamp [] b h = tt
+history-undone stamp (v ∷ vs) b h =
+    by (nat_eq v.from stamp) (ends_at stamp v.until) refl refl (history-undone stamp vs b.1 h.2) where
+  by : (c d : Bool) → nat_eq v.from stamp ≡ c → ends_at stamp v.until ≡ d → IsHistory (filter_map (before_stamp stamp) vs)
+      → IsHistory (filter_map (before_stamp stamp) (v ∷ vs))
+  by true d e f i = rw e i
+  by false true e f i = rw (e, f, none_after stamp v vs (ended_there stamp v.until f) b.1 h.1) (tt, tt, tt)
+  by false false e f i = rw (e, f) (h.0, each-undone stamp v vs h.1, i)
 
 -- ---- a floor
 
@@ -126,31 +119,27 @@ each-filter P p (v ∷ vs) h = by (p v) (each-filter P p vs h.1) where
   by true i = (h.0, i)
   by false i = i
 
-history-filter : (p : Version → Bool) (vs : List Version) → IsHistory vs → IsHistory (filter p vs)
+pub history-filter : (p : Version → Bool) (vs : List Version) → IsHistory vs → IsHistory (filter p vs)
 history-filter p [] h = tt
-history-filter p (v ∷ vs) h = by (p v) (history-filter p vs h.1) where
+history-filter p (v ∷ vs) h = by (p v) (history-filter p vs h.2) where
   by : (b : Bool) → IsHistory (filter p vs) → IsHistory (cond b (v ∷ filter p vs) (filter p vs))
-  by true i = (each-filter (Precedes v) p vs h.0, i)
+  by true i = (h.0, each-filter (Precedes v) p vs h.1, i)
   by false i = i
 
-pub map-trimmed : (floor : ℕ) (xs : List Kept) → map version_of (filter (λ (k : Kept). is_before k.until floor) xs) ≡ trimmed floor (map version_of xs)
-map-trimmed floor [] = refl
-map-trimmed floor (x ∷ xs) = by (is_before x.until floor) refl (map-trimmed floor xs) where
-  by : (b : Bool) → is_before x.until floor ≡ b
-      → map version_of (filter (λ (k : Kept). is_before k.until floor) xs) ≡ trimmed floor (map version_of xs)
-      → map version_of (filter (λ (k : Kept). is_before k.until floor) (x ∷ xs)) ≡ trimmed floor (map version_of (x ∷ xs))
-  by true e i = rw e (ap (λ vs. version_of x ∷ vs) i)
-  by false e i = rw e i
+later : (floor : ℕ) (u w : Option ℕ) (from : ℕ) → is_before u floor ≡ true → EndsBy from u → EndsFrom from w → is_before w floor ≡ true
+later floor u None from o e f = refl
+later floor None (Some w) from o e f = absurd e
+later floor (Some u) (Some w) from o e f = grind (arith, nat_tests)
 
-pub history_trimmed : (floor : ℕ) (xs ys : List Kept) → ys ≡ filter (λ (k : Kept). is_before k.until floor) xs → IsHistory (map version_of xs)
-    → IsHistory (map version_of ys)
-history_trimmed floor xs ys e h =
-    subst IsHistory (sym (ap (map version_of) e ∙ map-trimmed floor xs)) (history-filter (outlives floor) (map version_of xs) h)
+-- behind a version that outlives the floor each does
+all_outlive : (floor : ℕ) (v : Version) (ws : List Version) → outlives floor v ≡ true → Each (Precedes v) ws → IsHistory ws → trimmed floor ws ≡ ws
+all_outlive floor v [] o p h = refl
+all_outlive floor v (w ∷ ws) o p h =
+    rw (later floor v.until w.until w.from o p.0.ends h.0) (ap (λ xs. w ∷ xs) (all_outlive floor v ws o p.1 h.2))
 
--- ---- a stamp
-
-none_seen : (at_stamp : ℕ) (x : Version) (xs : List Version) → at_stamp < x.from → Each (Precedes x) xs → find (is_seen at_stamp) xs ≡ None
-none_seen at_stamp x [] l h = refl
-none_seen at_stamp x (y ∷ ys) l h =
-    let r = h.0.rises in
-    rw (le_false y.from at_stamp (omega (arith, l, r))) (none_seen at_stamp x ys l h.1)
+pub nothing_trimmed : (floor : ℕ) (vs : List Version) → first_is_over floor vs ≡ false → IsHistory vs → trimmed floor vs ≡ vs
+nothing_trimmed floor [] e h = refl
+nothing_trimmed floor (v ∷ vs) e h = by (outlives floor v) refl where
+  by : (b : Bool) → outlives floor v ≡ b → trimmed floor (v ∷ vs) ≡ v ∷ vs
+  by true o = rw o (ap (λ xs. v ∷ xs) (all_outlive floor v vs o h.1 h.2))
+  by false o = let t : true ≡ false = rw o at e in cc

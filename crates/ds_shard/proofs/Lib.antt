@@ -1,6 +1,9 @@
+mod ByKey
 mod Currents
 mod HistoryLaws
 mod Kept
+mod LastVersions
+mod SeenVersions
 mod Standing
 mod Counting
 mod Ordered

@@ -1,6 +1,8 @@
 -- Versions of entities as writes make them: by key, those of one key in the order of their stamps.
-use Rattle.std.specs.Prelude.{◌≡◌, ℕ, ◌≤◌, ◌<◌, Bool, true, false, ◌&&◌, ◌==◌, if◌then◌else◌, List, [], ◌∷◌, ◌++◌, Option, Some, None, IsTrue, filter, map}
+use Rattle.std.specs.Prelude.{◌≡◌, ℕ, ◌≤◌, ◌<◌, Bool, true, false, ◌&&◌, not, ◌==◌, if◌then◌else◌, List, [], ◌∷◌, ◌++◌, Option, Some, None, IsTrue, filter, map}
 use Rattle.std.specs.List.{filter_map}
+use Rattle.std.specs.List.Sorted.{IsStrictlySortedBy}
+use Rattle.std.specs.Map.{keys_of}
 use Rattle.std.specs.Ordering.{is_lt}
 use Rattle.ds_base.specs.Keys.{KeyParts}
 use Rattle.ds_base.specs.KeyOrder.{key_cmp, same_key}
@@ -99,10 +101,26 @@ abbrev pub Each : {X : Type 0} → (X → Type 0) → List X → Type 0
 Each {X = X} P [] = Unit {0}
 Each {X = X} P (x ∷ xs) = P x × Each P xs
 
--- each version precedes each one behind it
+-- an end isn't before the stamp
+abbrev pub EndsFrom : ℕ → Option ℕ → Type 0
+EndsFrom stamp None = Unit {0}
+EndsFrom stamp (Some until) = stamp ≤ until
+
+-- no version ends before it began, and each precedes each one behind it
 abbrev pub IsHistory : List Version → Type 0
 IsHistory [] = Unit {0}
-IsHistory (v ∷ vs) = Each (Precedes v) vs × IsHistory vs
+IsHistory (v ∷ vs) = EndsFrom v.from v.until × Each (Precedes v) vs × IsHistory vs
+
+-- the last version, if there is one, began at the stamp
+abbrev pub last_begins_at : ℕ → List Version → Bool
+last_begins_at stamp [] = false
+last_begins_at stamp (v ∷ []) = v.from == stamp
+last_begins_at stamp (v ∷ w ∷ ws) = last_begins_at stamp (w ∷ ws)
+
+-- the first version, if there is one, ended at or before the floor
+abbrev pub first_is_over : ℕ → List Version → Bool
+first_is_over floor [] = false
+first_is_over floor (v ∷ vs) = not (outlives floor v)
 
 -- ---- all keys
 
@@ -111,7 +129,12 @@ abbrev pub joined : List (KeyParts × List Version) → List Version
 joined [] = []
 joined (e ∷ es) = e.1 ++ joined es
 
--- each key has versions of its own entities
+-- each key has versions of its own entities, which are a history
 abbrev pub AreOwn : List (KeyParts × List Version) → Type 0
 AreOwn [] = Unit {0}
-AreOwn (e ∷ es) = Each (λ (v : Version). v.entity.key ≡ e.0) e.1 × AreOwn es
+AreOwn (e ∷ es) = Each (λ (v : Version). v.entity.key ≡ e.0) e.1 × IsHistory e.1 × AreOwn es
+
+-- and the keys ascend
+pub record AreByKey (es : List (KeyParts × List Version)) : Type 0 where
+  pub own : AreOwn es
+  pub ascend : IsStrictlySortedBy key_cmp (keys_of es)

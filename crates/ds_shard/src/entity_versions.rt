@@ -1,10 +1,13 @@
 //! The versions of all entities, by key.
-ghost use Rattle.std.specs.Prelude.{◌≡◌, [], None, map, find, option_map, OnOk, OnErr};
+ghost use Rattle.std.specs.Prelude.{◌≡◌, [], None, Some, map, find, option_map, IsTrue, OnOk, OnErr};
+ghost use Rattle.std.specs.BTreeMap.{is_at};
+ghost use Rattle.std.specs.Map.{lookup};
 ghost use Rattle.std.specs.Option.{option_copied};
-ghost use Rattle.ds_base.specs.KeyOrder.{same_key};
+ghost use Rattle.ds_base.specs.KeyOrder.{key_cmp, same_key};
 ghost use Rattle.ds_base.specs.Entities.{EntityParts};
 ghost use Rattle.ds_rows.specs.Versions.{Version, entities_at};
-ghost use Rattle.ds_shard.specs.Histories.{is_current, ended, with_version, undone, trimmed_at, BeginsBy, IsOverAt, Each};
+ghost use Rattle.ds_shard.specs.Histories.{joined, is_current, ended, with_version, undone, trimmed_at, BeginsBy, IsOverAt, Each, AreByKey};
+ghost use Rattle.ds_shard.specs.Contents.{AreHistories};
 
 use crate::version_list::VersionList;
 use ds_base::{Entity, Key, NoMemory, TryCopy};
@@ -22,13 +25,13 @@ pub(crate) struct EntityVersions {
 impl Model for EntityVersions {
     ghost use Rattle.std.specs.Prelude.{List};
     ghost use Rattle.ds_rows.specs.Versions.{Version};
-    ghost use Rattle.ds_shard.specs.Histories.{joined, AreOwn};
+    ghost use Rattle.ds_shard.specs.Histories.{joined, AreByKey};
 
     ghost Value = { List Version };
 
     ghost view = { λ m. joined m.by_key.entries };
 
-    ghost invariant = { λ m. AreOwn m.by_key.entries };
+    ghost invariant = { λ m. AreByKey m.by_key.entries };
 }
 
 impl EntityVersions {
@@ -61,13 +64,13 @@ impl EntityVersions {
         }
     }
 
-    /// Ends the version of this key that isn't ended, if there is one, at the stamp. It takes no memory.
+    /// Ends the version of this key that isn't ended, if there is one, at the stamp, by which each one began. It takes no memory.
     pub(crate) fn end(&mut self, key: &Key, stamp: u64)
-        ensures { self.new ≡ ended stamp key.now self.old }
+        requires { Each (BeginsBy stamp) self.old }
+        ensures ended { self.new ≡ ended stamp key.now self.old }
+        ensures histories { AreHistories self.new }
     {
-        if let Some(list) = self.by_key.get_mut(key) {
-            list.end(stamp);
-        }
+        end_in(&mut self.by_key, key, stamp);
     }
 
     /// Begins a version at the stamp, by which each one of its key has ended. A refusal, which is want of memory, changes nothing.
@@ -80,69 +83,121 @@ impl EntityVersions {
         requires { Each (IsOverAt stamp entity.now.key) self.old }
         ensures begun { OnOk result (self.new ≡ with_version (record { entity = entity.now; from = stamp; until = None }) self.old) }
         ensures unchanged { OnErr result (self.new ≡ self.old) }
+        ensures histories { AreHistories self.new }
     {
-        self.make_list(alloc, entity.key())?;
-        self.begin_in_list(alloc, entity, stamp)
-    }
-
-    /// Makes an empty list for the key where there is none; the versions stay.
-    fn make_list(&mut self, alloc: Global, key: &Key) -> Result<(), NoMemory>
-        ensures { self.new ≡ self.old }
-    {
-        if !self.by_key.contains_key(key) {
-            let copy = key.copy(alloc)?;
-            self.by_key.insert(copy, VersionList::new(alloc))?;
-        }
-        Ok(())
-    }
-
-    /// Begins a version in the list of its key. Without such a list it counts as want of memory.
-    fn begin_in_list(&mut self, alloc: Global, entity: &Entity, stamp: u64) -> Result<(), NoMemory>
-        requires { Each (IsOverAt stamp entity.now.key) self.old }
-        ensures begun { OnOk result (self.new ≡ with_version (record { entity = entity.now; from = stamp; until = None }) self.old) }
-        ensures unchanged { OnErr result (self.new ≡ self.old) }
-    {
-        match self.by_key.get_mut(entity.key()) {
-            Some(list) => list.begin(alloc, entity, stamp),
-            None => Err(AllocError),
-        }
+        make_list(&mut self.by_key, alloc, entity.key())?;
+        begin_in(&mut self.by_key, alloc, entity, stamp)
     }
 
     /// Takes back what was done to the entity of this key at the stamp, after which nothing began. It takes no memory.
     pub(crate) fn undo(&mut self, key: &Key, stamp: u64)
         requires { Each (BeginsBy stamp) self.old }
-        ensures { self.new ≡ undone stamp key.now self.old }
+        ensures undone { self.new ≡ undone stamp key.now self.old }
+        ensures histories { AreHistories self.new }
     {
-        if let Some(list) = self.by_key.get_mut(key) {
-            list.undo(stamp);
-        }
-        self.drop_empty(key);
+        undo_in(&mut self.by_key, key, stamp);
+        drop_empty(&mut self.by_key, key);
     }
 
     /// Takes out the versions of this key that ended at or before the floor. It takes no memory.
     pub(crate) fn trim(&mut self, key: &Key, floor: u64)
-        ensures { self.new ≡ trimmed_at floor key.now self.old }
+        ensures trimmed { self.new ≡ trimmed_at floor key.now self.old }
+        ensures histories { AreHistories self.new }
     {
-        if let Some(list) = self.by_key.get_mut(key) {
-            list.trim(floor);
-        }
-        self.drop_empty(key);
+        trim_in(&mut self.by_key, key, floor);
+        drop_empty(&mut self.by_key, key);
     }
+}
 
-    /// Takes the key out where it has no version any more; the versions stay.
-    fn drop_empty(&mut self, key: &Key)
-        ensures { self.new ≡ self.old }
-    {
-        if self.is_empty_at(key) {
-            let _ = self.by_key.remove(key);
-        }
+/// Ends the open version of the key.
+fn end_in(map: &mut BTreeMap<Key, VersionList>, key: &Key, stamp: u64)
+    requires by_key { AreByKey map.old.entries }
+    requires begun { Each (BeginsBy stamp) (joined map.old.entries) }
+    ensures by_key { AreByKey map.new.entries }
+    ensures ended { joined map.new.entries ≡ ended stamp key.now (joined map.old.entries) }
+{
+    if let Some(list) = map.get_mut(key) {
+        list.end(stamp);
     }
+}
 
-    /// Whether the key is there without a version.
-    fn is_empty_at(&self, key: &Key) -> bool {
-        match self.by_key.get(key) {
-            Some(list) => list.is_empty(),
-            None => false,
-        }
+/// Makes an empty list for the key where there is none; the versions stay.
+fn make_list(
+    map: &mut BTreeMap<Key, VersionList>,
+    alloc: Global,
+    key: &Key,
+) -> Result<(), NoMemory>
+    requires { AreByKey map.old.entries }
+    ensures by_key { AreByKey map.new.entries }
+    ensures same { joined map.new.entries ≡ joined map.old.entries }
+{
+    if !map.contains_key(key) {
+        let copy = key.copy(alloc)?;
+        map.insert(copy, VersionList::new(alloc))?;
+    }
+    Ok(())
+}
+
+/// Begins a version in the list of its key. Without such a list it counts as want of memory.
+fn begin_in(
+    map: &mut BTreeMap<Key, VersionList>,
+    alloc: Global,
+    entity: &Entity,
+    stamp: u64,
+) -> Result<(), NoMemory>
+    requires by_key { AreByKey map.old.entries }
+    requires over { Each (IsOverAt stamp entity.now.key) (joined map.old.entries) }
+    ensures by_key { AreByKey map.new.entries }
+    ensures begun { OnOk result (joined map.new.entries
+        ≡ with_version (record { entity = entity.now; from = stamp; until = None }) (joined map.old.entries)) }
+    ensures unchanged { OnErr result (joined map.new.entries ≡ joined map.old.entries) }
+{
+    match map.get_mut(entity.key()) {
+        Some(list) => list.begin(alloc, entity, stamp),
+        None => Err(AllocError),
+    }
+}
+
+/// Takes back what was done to the entity of the key at the stamp.
+fn undo_in(map: &mut BTreeMap<Key, VersionList>, key: &Key, stamp: u64)
+    requires by_key { AreByKey map.old.entries }
+    requires begun { Each (BeginsBy stamp) (joined map.old.entries) }
+    ensures by_key { AreByKey map.new.entries }
+    ensures undone { joined map.new.entries ≡ undone stamp key.now (joined map.old.entries) }
+{
+    if let Some(list) = map.get_mut(key) {
+        list.undo(stamp);
+    }
+}
+
+/// Takes out the versions of the key that ended at or before the floor.
+fn trim_in(map: &mut BTreeMap<Key, VersionList>, key: &Key, floor: u64)
+    requires { AreByKey map.old.entries }
+    ensures by_key { AreByKey map.new.entries }
+    ensures trimmed { joined map.new.entries ≡ trimmed_at floor key.now (joined map.old.entries) }
+{
+    if let Some(list) = map.get_mut(key) {
+        list.trim(floor);
+    }
+}
+
+/// Takes the key out where it has no version any more; the versions stay.
+fn drop_empty(map: &mut BTreeMap<Key, VersionList>, key: &Key)
+    requires { AreByKey map.old.entries }
+    ensures by_key { AreByKey map.new.entries }
+    ensures same { joined map.new.entries ≡ joined map.old.entries }
+{
+    if is_empty_at(map, key) {
+        let _ = map.remove(key);
+    }
+}
+
+/// Whether the key is there without a version.
+fn is_empty_at(map: &BTreeMap<Key, VersionList>, key: &Key) -> bool
+    ensures { IsTrue result → lookup (is_at (key_cmp key.now)) map.now.entries ≡ Some [] }
+{
+    match map.get(key) {
+        Some(list) => list.is_empty(),
+        None => false,
     }
 }
