@@ -21,7 +21,7 @@ use Rattle.ds_shard.specs.Rows.{rows_of_version, rows_of_versions, all_closed, a
 use Rattle.ds_shard.specs.Contents.{ContentsParts, counted, HaveSame, IsGiven, version_cmp, AreHistories, AreKept, CanUndo, LeadBack, LeadsBack, all_undone, AreFewer, IsTrimmed, IsGivenBefore, IsBack}
 use Rattle.ds_shard.proofs.Kept.{Ascends-ended, Ascends-with, Ascends-filter, given-ended, given-with, given-filter, given-later}
 use Rattle.ds_shard.proofs.Counting.{same-map, same-filter, same-filter_map, same-any}
-use Rattle.ds_shard.proofs.Own.{Owns, only_current, histories-ended, histories-with, histories-filter}
+use Rattle.ds_shard.proofs.Own.{Owns, only_current, histories-filter}
 use Rattle.ds_shard.proofs.Trimming.{trimmed_rows}
 use Rattle.ds_shard.proofs.RowsApart.{NotAmong, each_more, apart}
 use Rattle.ds_shard.proofs.Closing.{Suits, all_closed_map, closed_in, ended_rows}
@@ -99,14 +99,14 @@ pub record Stays (stamp : ℕ) (c d : ContentsParts) : Type 0 where
 module _ (stamp : ℕ) (c d : ContentsParts) (h : AreKept stamp c) (s : Stays stamp c d) where
   -- with other versions, and the rows of these
   kept_with : (vs : List Version) → d.entities ≡ vs → Each (λ (v : Version). IsIndexable v.entity) vs → Each (IsGiven stamp) vs
-      → Ascends version_cmp vs → AreHistories vs → HaveSame (versions d.table) (rows_of_versions c.definitions (trimmed c.table.floor vs))
+      → Ascends version_cmp vs → AreHistories d.entities → HaveSame (versions d.table) (rows_of_versions c.definitions (trimmed c.table.floor vs))
       → AreKept stamp d
   kept_with vs is indexable given ascend histories rows = record {
     definitions = subst AreDefs (sym s.definitions) h.definitions;
     indexable = subst (Each (λ (v : Version). IsIndexable v.entity)) (sym is) indexable;
     given = subst (Each (IsGiven stamp)) (sym is) given;
     ascend = subst (Ascends version_cmp) (sym is) ascend;
-    histories = subst AreHistories (sym is) histories;
+    histories = histories;
     rows = subst (HaveSame (versions d.table))
         (λ t. rows_of_versions (sym s.definitions t) (trimmed (sym s.floor t) (sym is t))) rows;
     last = s.last;
@@ -167,10 +167,10 @@ module _ (stamp : ℕ) (c d : ContentsParts) (h : AreKept stamp c) (s : Stays st
         subst (λ (ts : List table.Version). HaveSame ts (rows_of_versions c.definitions (trimmed c.table.floor (ended stamp k c.entities)))) (sym one)
         (subst (HaveSame (map (closed_in stamp rows) (versions c.table))) (sym two) (same-map (versions c.table) before h.rows (closed_in stamp rows)))
 
-    pub end_kept : AreKept stamp d
-    end_kept =
+    pub end_kept : AreHistories d.entities → AreKept stamp d
+    end_kept histories =
         kept_with (ended stamp k c.entities) is (indexable-ended stamp k c.entities h.indexable) (given-ended stamp k c.entities h.given)
-        (Ascends-ended stamp k c.entities h.ascend) (histories-ended stamp k c.entities h.histories) end_rows
+        (Ascends-ended stamp k c.entities h.ascend) histories end_rows
 
     all_undone_closed : (rows : List (List ℕ)) (vs : List table.Version) → table.undone stamp (all_closed stamp vs rows) ≡ table.undone stamp vs
     all_undone_closed [] vs = refl
@@ -184,7 +184,7 @@ module _ (stamp : ℕ) (c d : ContentsParts) (h : AreKept stamp c) (s : Stays st
 
   -- ---- a beginning
 
-  module _ (e : EntityParts) (lawful : IsIndexable e) (over : Each (IsOverAt stamp e.key) c.entities) where
+  module _ (e : EntityParts) (lawful : IsIndexable e) where
     abbrev new : Version
     new = record { entity = e; from = stamp; until = None }
 
@@ -201,11 +201,11 @@ module _ (stamp : ℕ) (c d : ContentsParts) (h : AreKept stamp c) (s : Stays st
         omega (arith, one, two, three, four)
 
     pub begin_kept : versions d.table ≡ all_added stamp (versions c.table) (rows_of c.definitions e) → d.entities ≡ with_version new c.entities
-        → AreKept stamp d
-    begin_kept added is =
+        → AreHistories d.entities → AreKept stamp d
+    begin_kept added is histories =
         kept_with (with_version new c.entities) is (each-with (λ (v : Version). IsIndexable v.entity) new c.entities lawful h.indexable)
         (given-with stamp new c.entities new_given h.given)
-        (Ascends-with new c.entities h.ascend) (histories-with new c.entities h.ascend over h.histories) (begin_rows added)
+        (Ascends-with new c.entities h.ascend) histories (begin_rows added)
 
     pub begin_leads : table.undone stamp (versions d.table) ≡ table.undone stamp (versions c.table) → d.entities ≡ with_version new c.entities
         → LeadsBack stamp e.key c d
@@ -286,7 +286,7 @@ is_back stamp keys before c d h given back undone is s =
       entities = same;
       definitions = all.definitions;
       floor = all.floor;
-      kept = kept_with stamp before d h all before.entities same h.indexable h.given h.ascend h.histories
+      kept = kept_with stamp before d h all before.entities same h.indexable h.given h.ascend (subst AreHistories (sym same) h.histories)
           (subst (λ (ts : List table.Version). HaveSame ts rows) (sym (undone ∙ back.table))
           (subst (HaveSame (table.undone stamp (versions before.table))) (undone_rows stamp h.a_stamp before.definitions before.table.floor before.entities given)
           (same-filter_map (versions before.table) rows h.rows (table.before_stamp stamp))));
