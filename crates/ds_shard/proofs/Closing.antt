@@ -49,7 +49,10 @@ one_more stamp h r rs v = by (bytes_eq v.row r) (v.to == table.never) refl refl 
   by true true e f =
       let g = and_false (list_any (bytes_eq v.row) rs) (stamp == table.never) (not_never stamp h) in
       rw (e, f, g) refl
-  by true false e f = rw (e, f, and_false (list_any (bytes_eq v.row) rs) false refl) refl
+  by true false e f =
+      ap (λ a. closed_in stamp rs (cond a (table.ended_at stamp v) v)) (and_false (bytes_eq v.row r) (v.to == table.never) f)
+      ∙ ap (λ a. cond a (table.ended_at stamp v) v) (and_false (list_any (bytes_eq v.row) rs) (v.to == table.never) f)
+      ∙ sym (ap (λ a. cond a (table.ended_at stamp v) v) (and_false (list_any (bytes_eq v.row) (r ∷ rs)) (v.to == table.never) f))
   by false c e f = rw e refl
 
 many_closed : (stamp : ℕ) → stamp < table.never → (r : List ℕ) (rs : List (List ℕ)) (vs : List table.Version)
@@ -110,9 +113,9 @@ module _ (stamp : ℕ) (below : stamp < table.never) (defs : List IndexDef) (k :
       → rows_of_version defs (after v) ≡ map (closed_in stamp rows) (rows_of_version defs v)
   open_own v is same own =
       let current : is_current k v ≡ true = rw (same, is) refl in
-      let then : after v ≡ until_stamp (Some stamp) v = ap (λ b. cond b (until_stamp (Some stamp) v) v) current in
+      let became : after v ≡ until_stamp (Some stamp) v = ap (λ b. cond b (until_stamp (Some stamp) v) v) current in
       let to : (end_in_table v.until == table.never) ≡ true = ap (λ u. end_in_table u == table.never) is in
-      ap (rows_of_version defs) then
+      ap (rows_of_version defs) became
       ∙ mapped stamp rows v (until_stamp (Some stamp) v) (rows_of defs v.entity)
       (each_more (λ x. list_any (bytes_eq x) rows ≡ true) (λ x. row_of (until_stamp (Some stamp) v) x ≡ closed_in stamp rows (row_of v x))
       (rows_of defs v.entity)

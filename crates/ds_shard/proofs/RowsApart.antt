@@ -1,5 +1,5 @@
 -- Entities with different keys share no row.
-use Rattle.std.proofs.Common.{◌≡◌, ℕ, Bool, true, false, List, [], ◌∷◌, map, refl, sym, ap, ◌∙◌}
+use Rattle.std.proofs.Common.{◌≡◌, ℕ, Bool, true, false, List, [], ◌∷◌, get_or, map, refl, sym, ap, ◌∙◌}
 use Rattle.std.specs.Prelude.{All, ◌||◌, bytes_eq}
 use Rattle.std.specs.List.{list_any}
 use Rattle.std.proofs.lemmas.List.Elements.{All-head, All-tail}
@@ -52,8 +52,9 @@ with_bytes defs k i r h = record { index = i; row = r; of = h.0; key = h.1; byte
 own_bytes : (defs : List IndexDef) (e : EntityParts) → IsIndexable e → All (IsRowBytes defs e.key) (rows_of defs e)
 own_bytes defs e h =
     each_flat (IsRowBytes defs e.key) (rows_in e) (indexes_of defs e)
-    (λ k i below. each_map (IsRowBytes defs e.key) (index_row_bytes _) (index_rows e _)
-    (λ l r within. with_bytes defs e.key _ _ (rows_are_own defs e h k i below l r within)))
+    (λ k i below. each_map (IsRowBytes defs e.key) (index_row_bytes (get_or (indexes_of defs e) k i)) (index_rows e (get_or (indexes_of defs e) k i))
+    (λ l r within. with_bytes defs e.key (get_or (indexes_of defs e) k i) (get_or (index_rows e (get_or (indexes_of defs e) k i)) l r)
+    (rows_are_own defs e h k i below l r within)))
 
 -- no row of the one entity is this one
 abbrev pub NotAmong : List (List ℕ) → List ℕ → Type 0
@@ -83,7 +84,7 @@ pub none_among : (rows : List (List ℕ)) (x : List ℕ) → NotAmong rows x →
 none_among [] x h = refl
 none_among (y ∷ rows) x h = rw (other_row x y h.0) (none_among rows x h.1)
 
-or_true : (a b : Bool) → b ≡ true → (a || b) ≡ true
+pub or_true : (a b : Bool) → b ≡ true → (a || b) ≡ true
 or_true true b h = refl
 or_true false b h = h
 

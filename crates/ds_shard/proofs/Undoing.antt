@@ -3,6 +3,7 @@ use Rattle.std.proofs.Common.{◌≡◌, ℕ, suc, zero, ◌+◌, ◌<◌, ◌�
 use Rattle.std.specs.Prelude.{◌&&◌, ◌||◌, ◌==◌, if◌then◌else◌, IsTrue, flat_map}
 use Rattle.std.specs.List.{cons_option, filter_map, list_any}
 use Rattle.std.specs.Ordering.{is_lt}
+use Rattle.std.proofs.lemmas.Bool.Decides.{nat_tests}
 use Rattle.ds_base.specs.Keys.{KeyParts}
 use Rattle.ds_base.specs.KeyOrder.{key_cmp, same_key}
 use Rattle.ds_base.specs.KeyOrderLaws.{same_key-decides}
@@ -12,7 +13,7 @@ use Rattle.ds_rows.specs.Rows.{rows_of}
 use Rattle.ds_rows.specs.Versions.{Version}
 use Rattle.ds_table.specs.Each as table_each
 use Rattle.ds_table.specs.Versions as table
-use Rattle.ds_table.specs.UndoLaws.{IsFree, undo_nothing, same_number, other_number}
+use Rattle.ds_table.specs.UndoLaws.{IsFree, undo_nothing}
 use Rattle.ds_shard.specs.Histories.{Each, BeginsBy, EndsWithin, is_open, is_current, until_stamp, ended, with_version, ends_at, before_stamp, undone, outlives, trimmed}
 use Rattle.ds_shard.specs.Rows.{end_in_table, row_of, rows_of_version, rows_of_versions}
 use Rattle.ds_shard.specs.Contents.{IsGiven, IsGivenBefore, all_undone}
@@ -58,6 +59,15 @@ undone_rows stamp below defs floor vs h =
 
 -- ---- one version
 
+same_number : (m n : ℕ) → m ≡ n → (m == n) ≡ true
+same_number m n e = grind (arith, nat_tests)
+
+other_number : (m n : ℕ) → (m ≡ n → ⊥) → (m == n) ≡ false
+other_number m n h = by (m == n) refl where
+  by : (b : Bool) → b ≡ (m == n) → (m == n) ≡ false
+  by true e = absurd (h (grind (arith, nat_tests)))
+  by false e = sym e
+
 begins_at : (stamp : ℕ) (v : Version) → v.from ≡ stamp → before_stamp stamp v ≡ None
 begins_at stamp v e = rw (same_number v.from stamp e) refl
 
@@ -97,6 +107,10 @@ once stamp v w = by (v.from == stamp) refl (ends_at stamp v.until) refl where
 
 -- ---- all versions
 
+both : (a b : Bool) → (a && b) ≡ true → a ≡ true
+both true b h = refl
+both false b h = h
+
 abbrev pub taken_back : ℕ → List KeyParts → Version → Option Version
 taken_back stamp keys v = if list_any (same_key v.entity.key) keys then before_stamp stamp v else Some v
 
@@ -116,7 +130,12 @@ module _ (stamp : ℕ) (k : KeyParts) (keys : List KeyParts) (h : IsTrue (list_a
   one_ended v = by (is_current k v) refl where
     by : (b : Bool) → is_current k v ≡ b → taken_back stamp keys (cond b (until_stamp (Some stamp) v) v) ≡ taken_back stamp keys v
     by false e = refl
-    by true e = ap (λ o. cond (list_any (same_key v.entity.key) keys) o (Some v)) (reopened stamp v (current-open (same_key v.entity.key k) (is_open v.until) e))
+    by true e =
+        let key : v.entity.key ≡ k = (same_key-decides v.entity.key k).0 (both (same_key v.entity.key k) (is_open v.until) e) in
+        let among : list_any (same_key v.entity.key) keys ≡ true = ap (λ x. list_any (same_key x) keys) key ∙ h in
+        ap (λ b. cond b (before_stamp stamp (until_stamp (Some stamp) v)) (Some (until_stamp (Some stamp) v))) among
+        ∙ reopened stamp v (current-open (same_key v.entity.key k) (is_open v.until) e)
+        ∙ sym (ap (λ b. cond b (before_stamp stamp v) (Some v)) among)
 
   pub undone-ended : (vs : List Version) → all_undone stamp keys (ended stamp k vs) ≡ all_undone stamp keys vs
   undone-ended [] = refl

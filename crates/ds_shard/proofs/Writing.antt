@@ -1,6 +1,6 @@
 -- One write after another, and a floor that rises: the table goes on holding the rows of the versions.
 use Rattle.std.proofs.Common.{◌≡◌, ℕ, ◌+◌, ◌<◌, ◌≤◌, Bool, true, false, cond, List, [], ◌∷◌, ◌++◌, map, Option, Some, None, refl, sym, ap, ◌∙◌, subst, arith}
-use Rattle.std.specs.Prelude.{◌&&◌, if◌then◌else◌, IsTrue, IsFalse, filter, find, option_map, max, nat_lt}
+use Rattle.std.specs.Prelude.{◌&&◌, if◌then◌else◌, IsTrue, IsFalse, OnOk, OnErr, Result, Ok, Err, filter, find, option_map, max, nat_lt}
 use Rattle.std.specs.List.{list_any}
 use Rattle.ds_base.specs.Keys.{KeyParts}
 use Rattle.std.specs.Ordering.{is_lt}
@@ -16,7 +16,7 @@ use Rattle.ds_rows.specs.Versions.{Version}
 use Rattle.ds_table.specs.Versions as table
 use Rattle.ds_table.specs.Blocks.{Tabled, versions}
 use Rattle.ds_table.specs.UndoLaws.{undo_added, undo_closed}
-use Rattle.ds_shard.specs.Histories.{Each, BeginsBy, IsOver, IsOverAt, is_open, is_current, until_stamp, ended, with_version, outlives, trimmed}
+use Rattle.ds_shard.specs.Histories.{Each, BeginsBy, EndsBy, EndsWithin, IsOver, IsOverAt, is_open, is_current, until_stamp, ended, with_version, outlives, trimmed}
 use Rattle.ds_shard.specs.Rows.{rows_of_version, rows_of_versions, all_closed, all_added}
 use Rattle.ds_shard.specs.Contents.{ContentsParts, counted, HaveSame, IsGiven, version_cmp, AreHistories, AreKept, CanUndo, LeadBack, LeadsBack, all_undone, AreFewer, IsTrimmed, IsGivenBefore, IsBack}
 use Rattle.ds_shard.proofs.Kept.{Ascends-ended, Ascends-with, Ascends-filter, given-ended, given-with, given-filter, given-later}
@@ -253,6 +253,25 @@ module _ (stamp : ℕ) (c : ContentsParts) (h : AreKept stamp c) (e : EntityPart
       h.indexable over))
 
 -- ---- steps together
+
+-- where the current entity of a key ended, each of its versions has
+pub over-ended : (stamp : ℕ) (k : KeyParts) (vs : List Version) → Each (IsGiven stamp) vs → Each (IsOverAt stamp k) (ended stamp k vs)
+over-ended stamp k [] g = tt
+over-ended stamp k (v ∷ vs) g = by (same_key v.entity.key k) (is_open v.until) refl refl (over-ended stamp k vs g.1) where
+  closed_by : (u : Option ℕ) → is_open u ≡ false → EndsWithin stamp u → EndsBy stamp u
+  closed_by None e h = cc
+  closed_by (Some u) e h = h
+
+  by : (b o : Bool) → same_key v.entity.key k ≡ b → is_open v.until ≡ o → Each (IsOverAt stamp k) (ended stamp k vs)
+      → Each (IsOverAt stamp k) (ended stamp k (v ∷ vs))
+  by true true e f i = rw (e, f) ((λ s. (g.0.begins, (omega arith))), i)
+  by true false e f i = rw (e, f) ((λ s. (g.0.begins, closed_by v.until f g.0.ends)), i)
+  by false o e f i = rw e ((λ s. absurd (true_not_false (sym s ∙ e))), i)
+
+-- what holds where it was refused and where it wasn't
+pub either : {T E : Type 0} (r : Result T E) {P Q R : Type 0} → (P → R) → (Q → R) → OnOk r P → OnErr r Q → R
+either (Ok x) f g p q = f p
+either (Err e) f g p q = g q
 
 pub back_on : (stamp : ℕ) (keys : List KeyParts) (b c d : ContentsParts) → LeadBack stamp keys b c → LeadBack stamp keys c d → LeadBack stamp keys b d
 back_on stamp keys b c d p q = record {

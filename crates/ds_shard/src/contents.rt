@@ -110,10 +110,10 @@ impl Contents {
         ensures kept { OnOk result (AreKept stamp self.new) }
         ensures leads_back { LeadsBack stamp key.now self.old self.new }
     {
-        let Some(entity) = self.entities.current(key) else {
-            return Ok(());
+        let rows = match self.entities.current(key) {
+            Some(entity) => rows_of(self.alloc, &self.defs, entity)?,
+            None => return Ok(()),
         };
-        let rows = rows_of(self.alloc, &self.defs, entity)?;
         let copy = key.copy(self.alloc)?;
         self.expiring.push(copy, stamp)?;
         close_rows(&mut self.table, &rows, stamp);
