@@ -1,6 +1,6 @@
 -- The versions of all keys, where the versions of one key are read or changed.
-use Rattle.std.proofs.Common.{◌≡◌, ℕ, ◌≤◌, Bool, true, false, cond, List, [], ◌∷◌, ◌++◌, map, Option, Some, None, refl, sym, ap, ◌∙◌, subst, arith}
-use Rattle.std.specs.Prelude.{⊤, ◌&&◌, find, filter, option_map, IsTrue, if◌then◌else◌}
+use Rattle.std.proofs.Common.{◌≡◌, ℕ, ◌≤◌, Bool, true, false, cond, List, [], ◌∷◌, ◌++◌, map, Option, Some, None, Result, Ok, Err, refl, sym, ap, ◌∙◌, subst, append_assoc, arith}
+use Rattle.std.specs.Prelude.{⊤, ◌&&◌, find, filter, option_map, IsTrue, OnOk, OnErr, is_some, nat_eq, if◌then◌else◌}
 use Rattle.std.specs.List.{filter_map, AllByRecursion, cons_option}
 use Rattle.std.specs.List.Sorted.{IsStrictlySortedBy}
 use Rattle.std.specs.Map.{keys_of, lookup, set_value, remove_entry}
@@ -9,15 +9,15 @@ use Rattle.std.specs.Cmp.{IsTotalOrder}
 use Rattle.std.specs.Ordering.{is_eq, is_lt, ordering_reverse}
 use Rattle.std.specs.declared.cmp.Ordering.{Ordering}
 use Rattle.std.specs.declared.cmp.Ordering.TheVariants.{Less, Equal, Greater}
-use Rattle.std.proofs.lemmas.List.{append-nil, append_assoc}
+use Rattle.std.proofs.lemmas.List.{append-nil}
+use Rattle.std.proofs.lemmas.Map.Steps.{set_value_same}
 use Rattle.std.proofs.lemmas.List.Elements.{filter-append, filter_map-append}
 use Rattle.ds_base.specs.Keys.{KeyParts}
 use Rattle.ds_base.specs.KeyOrder.{key_cmp, same_key}
 use Rattle.ds_base.specs.KeyOrderLaws.{key_cmp-total, key_cmp-same, key_cmp-Equal}
 use Rattle.ds_base.specs.Entities.{EntityParts}
 use Rattle.ds_rows.specs.Versions.{Version, is_seen, entities_at}
-use Rattle.ds_shard.specs.Contents.{PrecedesOwn, AreHistories}
-use Rattle.ds_shard.specs.Histories.{Each, Precedes, IsHistory, IsOver, IsOverAt, is_open, is_current, until_stamp, before_stamp, ended, undone, trimmed_at, outlives, with_version, joined, AreOwn, AreByKey}
+use Rattle.ds_shard.specs.Histories.{Each, Precedes, IsHistory, IsOver, IsOverAt, is_open, is_current, until_stamp, before_stamp, ends_at, ended, undone, trimmed_at, outlives, with_version, joined, AreOwn, AreByKey}
 use Rattle.ds_shard.proofs.HistoryLaws.{end_open}
 
 abbrev Entry : Type 0
@@ -101,35 +101,37 @@ local-cons g k e es vs ws is rest =
 pub local_none : (g : Version → Option Version) (k : KeyParts) (es : List Entry) → AreOwn es → Ascend es → at_key k es ≡ None
     → local g k (joined es) ≡ joined es
 local_none g k [] o a n = refl
-local_none g k (e ∷ es) o a n = by (key_cmp k e.0) refl where
-  by : (r : Ordering) → key_cmp k e.0 ≡ r → local g k (joined (e ∷ es)) ≡ joined (e ∷ es)
-  by Less c = local-above g k (e ∷ es) o (c, above-down k e.0 es c (ascend_head e es a))
-  by Equal c = let f : Some e.1 ≡ None = rw c at n in cc
-  by Greater c =
+local_none g k (e ∷ es) o a n = by (key_cmp k e.0) refl (local_none g k es o.2 (ascend_tail e es a)) where
+  by : (r : Ordering) → key_cmp k e.0 ≡ r → (at_key k es ≡ None → local g k (joined es) ≡ joined es)
+      → local g k (joined (e ∷ es)) ≡ joined (e ∷ es)
+  by Less c i = local-above g k (e ∷ es) o (c, above-down k e.0 es c (ascend_head e es a))
+  by Equal c i = let f : Some e.1 ≡ None = rw c at n in cc
+  by Greater c i =
       let rest : at_key k es ≡ None = rw c at n in
-      local-cons g k e es e.1 (joined es) (local-other g k e.0 e.1 (same_above e.0 k c) o.0)
-      (local_none g k es o.2 (ascend_tail e es a) rest)
+      local-cons g k e es e.1 (joined es) (local-other g k e.0 e.1 (same_above e.0 k c) o.0) (i rest)
 
 pub local_some : (g : Version → Option Version) (k : KeyParts) (es : List Entry) (vs : List Version) → AreOwn es → Ascend es
     → at_key k es ≡ Some vs → local g k (joined es) ≡ joined (set_value (is_at (key_cmp k)) es (filter_map g vs))
 local_some g k [] vs o a s = cc
-local_some g k (e ∷ es) vs o a s = by (key_cmp k e.0) refl where
-  by : (r : Ordering) → key_cmp k e.0 ≡ r → local g k (joined (e ∷ es)) ≡ joined (set_value (is_at (key_cmp k)) (e ∷ es) (filter_map g vs))
-  by Less c =
+local_some g k (e ∷ es) vs o a s = by (key_cmp k e.0) refl (local_some g k es vs o.2 (ascend_tail e es a)) where
+  by : (r : Ordering) → key_cmp k e.0 ≡ r
+      → (at_key k es ≡ Some vs → local g k (joined es) ≡ joined (set_value (is_at (key_cmp k)) es (filter_map g vs)))
+      → local g k (joined (e ∷ es)) ≡ joined (set_value (is_at (key_cmp k)) (e ∷ es) (filter_map g vs))
+  by Less c i =
       let n : at_key k es ≡ None = none_above k es (above-down k e.0 es c (ascend_head e es a)) in
       let rest : at_key k es ≡ Some vs = rw c at s in
       cc
-  by Equal c =
+  by Equal c i =
       let same : k ≡ e.0 = key_cmp-same k e.0 c in
       let is : e.1 ≡ vs = (let f : Some e.1 ≡ Some vs = rw c at s in cc) in
       rw c
       (local-cons g k e es (filter_map g vs) (joined es) (local-own g k e.0 e.1 same o.0 ∙ ap (filter_map g) is)
       (local-above g k es o.2 (subst (λ x. Above x es) (sym same) (ascend_head e es a))))
-  by Greater c =
+  by Greater c i =
       let rest : at_key k es ≡ Some vs = rw c at s in
       rw c
       (local-cons g k e es e.1 (joined (set_value (is_at (key_cmp k)) es (filter_map g vs)))
-      (local-other g k e.0 e.1 (same_above e.0 k c) o.0) (local_some g k es vs o.2 (ascend_tail e es a) rest))
+      (local-other g k e.0 e.1 (same_above e.0 k c) o.0) (i rest))
 
 -- ---- the three operations are such
 
@@ -138,8 +140,8 @@ ended_local stamp k [] = refl
 ended_local stamp k (v ∷ vs) = by (same_key v.entity.key k) (is_open v.until) refl refl (ended_local stamp k vs) where
   by : (b c : Bool) → same_key v.entity.key k ≡ b → is_open v.until ≡ c → ended stamp k vs ≡ local (λ v. Some (end_open stamp v)) k vs
       → ended stamp k (v ∷ vs) ≡ local (λ v. Some (end_open stamp v)) k (v ∷ vs)
-  by true true e f i = rw (e, f, f) (ap (λ ws. until_stamp (Some stamp) v ∷ ws) i)
-  by true false e f i = rw (e, f, f) (ap (λ ws. v ∷ ws) i)
+  by true true e f i = rw (e, f) (ap (λ ws. until_stamp (Some stamp) v ∷ ws) i)
+  by true false e f i = rw (e, f) (ap (λ ws. v ∷ ws) i)
   by false c e f i = rw e (ap (λ ws. v ∷ ws) i)
 
 pub map_kept : (f : Version → Version) (vs : List Version) → filter_map (λ v. Some (f v)) vs ≡ map f vs
@@ -154,8 +156,8 @@ trimmed_local floor k [] = refl
 trimmed_local floor k (v ∷ vs) = by (same_key v.entity.key k) (outlives floor v) refl refl (trimmed_local floor k vs) where
   by : (b c : Bool) → same_key v.entity.key k ≡ b → outlives floor v ≡ c → trimmed_at floor k vs ≡ local (outliving floor) k vs
       → trimmed_at floor k (v ∷ vs) ≡ local (outliving floor) k (v ∷ vs)
-  by true true e f i = rw (e, f, f) (ap (λ ws. v ∷ ws) i)
-  by true false e f i = rw (e, f, f) i
+  by true true e f i = rw (e, f) (ap (λ ws. v ∷ ws) i)
+  by true false e f i = rw (e, f) i
   by false c e f i = rw e (ap (λ ws. v ∷ ws) i)
 
 pub filter_kept : (p : Version → Bool) (vs : List Version) → filter_map (λ v. cond (p v) (Some v) None) vs ≡ filter p vs
@@ -163,8 +165,8 @@ filter_kept p [] = refl
 filter_kept p (v ∷ vs) = by (p v) refl (filter_kept p vs) where
   by : (b : Bool) → p v ≡ b → filter_map (λ v. cond (p v) (Some v) None) vs ≡ filter p vs
       → filter_map (λ v. cond (p v) (Some v) None) (v ∷ vs) ≡ filter p (v ∷ vs)
-  by true e i = rw (e, e) (ap (λ ws. v ∷ ws) i)
-  by false e i = rw (e, e) i
+  by true e i = rw e (ap (λ ws. v ∷ ws) i)
+  by false e i = rw e i
 
 -- ---- entities keep their keys
 
@@ -181,22 +183,22 @@ own-kept g keeps k (v ∷ vs) h = by (g v) refl (own-kept g keeps k vs h.1) wher
 pub own_set : (k : KeyParts) (es : List Entry) (ws : List Version) → AreOwn es → Each (Own k) ws → IsHistory ws
     → AreOwn (set_value (is_at (key_cmp k)) es ws)
 own_set k [] ws o own h = tt
-own_set k (e ∷ es) ws o own h = by (key_cmp k e.0) refl where
-  by : (r : Ordering) → key_cmp k e.0 ≡ r → AreOwn (set_value (is_at (key_cmp k)) (e ∷ es) ws)
-  by Less c = rw c (o.0, o.1, own_set k es ws o.2 own h)
-  by Equal c = rw c (subst (λ x. Each (Own x) ws) (key_cmp-same k e.0 c) own, h, o.2)
-  by Greater c = rw c (o.0, o.1, own_set k es ws o.2 own h)
+own_set k (e ∷ es) ws o own h = by (key_cmp k e.0) refl (own_set k es ws o.2 own h) where
+  by : (r : Ordering) → key_cmp k e.0 ≡ r → AreOwn (set_value (is_at (key_cmp k)) es ws) → AreOwn (set_value (is_at (key_cmp k)) (e ∷ es) ws)
+  by Less c i = rw c (o.0, o.1, i)
+  by Equal c i = rw c (subst (λ x. Each (Own x) ws) (key_cmp-same k e.0 c) own, h, o.2)
+  by Greater c i = rw c (o.0, o.1, i)
 
 -- the versions found at a key are its own, and a history
 pub found_own : (k : KeyParts) (es : List Entry) (vs : List Version) → AreOwn es → at_key k es ≡ Some vs → Each (Own k) vs
 found_own k [] vs o s = cc
-found_own k (e ∷ es) vs o s = by (key_cmp k e.0) refl where
-  by : (r : Ordering) → key_cmp k e.0 ≡ r → Each (Own k) vs
-  by Less c = found_own k es vs o.2 (rw c at s)
-  by Equal c =
+found_own k (e ∷ es) vs o s = by (key_cmp k e.0) refl (found_own k es vs o.2) where
+  by : (r : Ordering) → key_cmp k e.0 ≡ r → (at_key k es ≡ Some vs → Each (Own k) vs) → Each (Own k) vs
+  by Less c i = i (rw c at s)
+  by Equal c i =
       let is : e.1 ≡ vs = (let f : Some e.1 ≡ Some vs = rw c at s in cc) in
       subst (λ ws. Each (Own k) ws) is (subst (λ x. Each (Own x) e.1) (sym (key_cmp-same k e.0 c)) o.0)
-  by Greater c = found_own k es vs o.2 (rw c at s)
+  by Greater c i = i (rw c at s)
 
 pub own_found : (g : Version → Option Version) → Keeps g → (k : KeyParts) (es : List Entry) (vs : List Version) → AreOwn es → at_key k es ≡ Some vs
     → Each (Own k) (filter_map g vs)
@@ -208,13 +210,13 @@ each_joined P (x ∷ xs) ys h = let rest = each_joined P xs ys h.1 in ((h.0, res
 
 pub each_found : (P : Version → Type 0) (k : KeyParts) (es : List Entry) (vs : List Version) → Each P (joined es) → at_key k es ≡ Some vs → Each P vs
 each_found P k [] vs h s = cc
-each_found P k (e ∷ es) vs h s = by (key_cmp k e.0) refl where
-  by : (r : Ordering) → key_cmp k e.0 ≡ r → Each P vs
-  by Less c = each_found P k es vs (each_joined P e.1 (joined es) h).1 (rw c at s)
-  by Equal c =
+each_found P k (e ∷ es) vs h s = by (key_cmp k e.0) refl (each_found P k es vs (each_joined P e.1 (joined es) h).1) where
+  by : (r : Ordering) → key_cmp k e.0 ≡ r → (at_key k es ≡ Some vs → Each P vs) → Each P vs
+  by Less c i = i (rw c at s)
+  by Equal c i =
       let is : e.1 ≡ vs = (let f : Some e.1 ≡ Some vs = rw c at s in cc) in
       subst (Each P) is (each_joined P e.1 (joined es) h).0
-  by Greater c = each_found P k es vs (each_joined P e.1 (joined es) h).1 (rw c at s)
+  by Greater c i = i (rw c at s)
 
 over_own : (stamp : ℕ) (k : KeyParts) (vs : List Version) → Each (Own k) vs → Each (IsOverAt stamp k) vs → Each (IsOver stamp) vs
 over_own stamp k [] o h = tt
@@ -247,14 +249,16 @@ stops v (e ∷ es) o a = stops-own v e.0 e.1 (joined es) a.0 o.0 (stops v es o.2
 pub begun_joined : (v : Version) (es : List Entry) (vs : List Version) → AreOwn es → Ascend es → at_key v.entity.key es ≡ Some vs
     → with_version v (joined es) ≡ joined (set_value (is_at (key_cmp v.entity.key)) es (vs ++ v ∷ []))
 begun_joined v [] vs o a s = cc
-begun_joined v (e ∷ es) vs o a s = by (key_cmp v.entity.key e.0) refl where
+begun_joined v (e ∷ es) vs o a s = by (key_cmp v.entity.key e.0) refl (begun_joined v es vs o.2 (ascend_tail e es a)) where
   by : (r : Ordering) → key_cmp v.entity.key e.0 ≡ r
+      → (at_key v.entity.key es ≡ Some vs
+      → with_version v (joined es) ≡ joined (set_value (is_at (key_cmp v.entity.key)) es (vs ++ v ∷ [])))
       → with_version v (joined (e ∷ es)) ≡ joined (set_value (is_at (key_cmp v.entity.key)) (e ∷ es) (vs ++ v ∷ []))
-  by Less c =
+  by Less c i =
       let n : at_key v.entity.key es ≡ None = none_above v.entity.key es (above-down v.entity.key e.0 es c (ascend_head e es a)) in
       let rest : at_key v.entity.key es ≡ Some vs = rw c at s in
       cc
-  by Equal c =
+  by Equal c i =
       let same : v.entity.key ≡ e.0 = key_cmp-same v.entity.key e.0 c in
       let is : e.1 ≡ vs = (let f : Some e.1 ≡ Some vs = rw c at s in cc) in
       let above : Above v.entity.key es = subst (λ x. Above x es) (sym same) (ascend_head e es a) in
@@ -262,10 +266,9 @@ begun_joined v (e ∷ es) vs o a s = by (key_cmp v.entity.key e.0) refl where
       (passes v e.0 e.1 (joined es) (ap is_lt c) o.0
       ∙ (ap (λ xs. e.1 ++ xs) (stops v es o.2 above)
       ∙ (sym (append_assoc e.1 (v ∷ []) (joined es)) ∙ ap (λ ws. (ws ++ v ∷ []) ++ joined es) is)))
-  by Greater c =
+  by Greater c i =
       let rest : at_key v.entity.key es ≡ Some vs = rw c at s in
-      rw c
-      (passes v e.0 e.1 (joined es) (ap is_lt c) o.0 ∙ ap (λ xs. e.1 ++ xs) (begun_joined v es vs o.2 (ascend_tail e es a) rest))
+      rw c (passes v e.0 e.1 (joined es) (ap is_lt c) o.0 ∙ ap (λ xs. e.1 ++ xs) (i rest))
 
 own-push : (k : KeyParts) (vs : List Version) (v : Version) → Each (Own k) vs → v.entity.key ≡ k → Each (Own k) (vs ++ v ∷ [])
 own-push k [] v h e = (e, tt)
@@ -279,29 +282,32 @@ own_begun v es vs o s = own-push v.entity.key vs v (found_own v.entity.key es vs
 
 pub joined_insert : (k : KeyParts) (es : List Entry) → at_key k es ≡ None → joined (insert_entry key_cmp es k []) ≡ joined es
 joined_insert k [] n = refl
-joined_insert k (e ∷ es) n = by (key_cmp k e.0) refl where
-  by : (r : Ordering) → key_cmp k e.0 ≡ r → joined (insert_entry key_cmp (e ∷ es) k []) ≡ joined (e ∷ es)
-  by Less c = rw c refl
-  by Equal c = let f : Some e.1 ≡ None = rw c at n in cc
-  by Greater c = rw c (ap (λ xs. e.1 ++ xs) (joined_insert k es (rw c at n)))
+joined_insert k (e ∷ es) n = by (key_cmp k e.0) refl (joined_insert k es) where
+  by : (r : Ordering) → key_cmp k e.0 ≡ r → (at_key k es ≡ None → joined (insert_entry key_cmp es k []) ≡ joined es)
+      → joined (insert_entry key_cmp (e ∷ es) k []) ≡ joined (e ∷ es)
+  by Less c i = rw c refl
+  by Equal c i = let f : Some e.1 ≡ None = rw c at n in cc
+  by Greater c i = rw c (ap (λ xs. e.1 ++ xs) (i (rw c at n)))
 
 pub own_insert : (k : KeyParts) (es : List Entry) → at_key k es ≡ None → AreOwn es → AreOwn (insert_entry key_cmp es k [])
 own_insert k [] n o = (tt, tt, tt)
-own_insert k (e ∷ es) n o = by (key_cmp k e.0) refl where
-  by : (r : Ordering) → key_cmp k e.0 ≡ r → AreOwn (insert_entry key_cmp (e ∷ es) k [])
-  by Less c = rw c (tt, tt, o)
-  by Equal c = let f : Some e.1 ≡ None = rw c at n in cc
-  by Greater c = rw c (o.0, o.1, own_insert k es (rw c at n) o.2)
+own_insert k (e ∷ es) n o = by (key_cmp k e.0) refl (λ m. own_insert k es m o.2) where
+  by : (r : Ordering) → key_cmp k e.0 ≡ r → (at_key k es ≡ None → AreOwn (insert_entry key_cmp es k []))
+      → AreOwn (insert_entry key_cmp (e ∷ es) k [])
+  by Less c i = rw c (tt, tt, o)
+  by Equal c i = let f : Some e.1 ≡ None = rw c at n in cc
+  by Greater c i = rw c (o.0, o.1, i (rw c at n))
 
 pub joined_remove : (k : KeyParts) (es : List Entry) → at_key k es ≡ Some [] → joined (remove_entry (is_at (key_cmp k)) es) ≡ joined es
 joined_remove k [] s = cc
-joined_remove k (e ∷ es) s = by (key_cmp k e.0) refl where
-  by : (r : Ordering) → key_cmp k e.0 ≡ r → joined (remove_entry (is_at (key_cmp k)) (e ∷ es)) ≡ joined (e ∷ es)
-  by Less c = rw c (ap (λ xs. e.1 ++ xs) (joined_remove k es (rw c at s)))
-  by Equal c =
+joined_remove k (e ∷ es) s = by (key_cmp k e.0) refl (joined_remove k es) where
+  by : (r : Ordering) → key_cmp k e.0 ≡ r → (at_key k es ≡ Some [] → joined (remove_entry (is_at (key_cmp k)) es) ≡ joined es)
+      → joined (remove_entry (is_at (key_cmp k)) (e ∷ es)) ≡ joined (e ∷ es)
+  by Less c i = rw c (ap (λ xs. e.1 ++ xs) (i (rw c at s)))
+  by Equal c i =
       let is : [] ≡ e.1 = (let f : Some e.1 ≡ Some [] = rw c at s in cc) in
       rw c (ap (λ vs. vs ++ joined es) is)
-  by Greater c = rw c (ap (λ xs. e.1 ++ xs) (joined_remove k es (rw c at s)))
+  by Greater c i = rw c (ap (λ xs. e.1 ++ xs) (i (rw c at s)))
 
 pub own_remove : (k : KeyParts) (es : List Entry) → AreOwn es → AreOwn (remove_entry (is_at (key_cmp k)) es)
 own_remove k [] o = tt
@@ -340,28 +346,27 @@ none_joined k (e ∷ es) o a = filter-cons k e es [] [] (none-own k e.0 e.1 (sam
 
 filter_joined : (k : KeyParts) (es : List Entry) → AreOwn es → Ascend es → filter (of_key k) (joined es) ≡ listed (at_key k es)
 filter_joined k [] o a = refl
-filter_joined k (e ∷ es) o a = by (key_cmp k e.0) refl where
-  by : (r : Ordering) → key_cmp k e.0 ≡ r → filter (of_key k) (joined (e ∷ es)) ≡ listed (at_key k (e ∷ es))
-  by Less c =
+filter_joined k (e ∷ es) o a = by (key_cmp k e.0) refl (filter_joined k es o.2 (ascend_tail e es a)) where
+  by : (r : Ordering) → key_cmp k e.0 ≡ r → filter (of_key k) (joined es) ≡ listed (at_key k es)
+      → filter (of_key k) (joined (e ∷ es)) ≡ listed (at_key k (e ∷ es))
+  by Less c i =
       let above : Above k es = above-down k e.0 es c (ascend_head e es a) in
       rw c (none_joined k (e ∷ es) o (c, above) ∙ sym (ap listed (none_above k es above)))
-  by Equal c =
+  by Equal c i =
       let same : k ≡ e.0 = key_cmp-same k e.0 c in
       rw c
       (filter-cons k e es e.1 [] (all-own k e.0 e.1 same o.0)
       (none_joined k es o.2 (subst (λ x. Above x es) (sym same) (ascend_head e es a)))
       ∙ append-nil e.1)
-  by Greater c =
-      rw c
-      (filter-cons k e es [] (listed (at_key k es)) (none-own k e.0 e.1 (same_above e.0 k c) o.0)
-      (filter_joined k es o.2 (ascend_tail e es a)))
+  by Greater c i =
+      rw c (filter-cons k e es [] (listed (at_key k es)) (none-own k e.0 e.1 (same_above e.0 k c) o.0) i)
 
 find_both : (p q : Version → Bool) (vs : List Version) → find (λ v. p v && q v) vs ≡ find q (filter p vs)
 find_both p q [] = refl
 find_both p q (v ∷ vs) = by (p v) refl (find_both p q vs) where
   by : (b : Bool) → p v ≡ b → find (λ v. p v && q v) vs ≡ find q (filter p vs) → find (λ v. p v && q v) (v ∷ vs) ≡ find q (filter p (v ∷ vs))
-  by true e i = rw (e, e) (ap (cond (q v) (Some v)) i)
-  by false e i = rw (e, e) i
+  by true e i = rw e (ap (cond (q v) (Some v)) i)
+  by false e i = rw e i
 
 pub find_joined : (q : Version → Bool) (k : KeyParts) (es : List Entry) → AreOwn es → Ascend es
     → find (λ v. same_key v.entity.key k && q v) (joined es) ≡ find q (listed (at_key k es))
@@ -377,9 +382,9 @@ entity_seen stamp k (v ∷ vs) = by (is_seen stamp v) (same_key v.entity.key k) 
       ≡ option_map (λ (v : Version). v.entity) (find (λ v. same_key v.entity.key k && is_seen stamp v) vs)
       → find (λ (e : EntityParts). same_key e.key k) (entities_at stamp (v ∷ vs))
       ≡ option_map (λ (v : Version). v.entity) (find (λ v. same_key v.entity.key k && is_seen stamp v) (v ∷ vs))
-  by true true e f i = rw (e, f, f, e) refl
-  by true false e f i = rw (e, f, f) i
-  by false true e f i = rw (e, f, e) i
+  by true true e f i = rw (e, f) refl
+  by true false e f i = rw (e, f) i
+  by false true e f i = rw (e, f) i
   by false false e f i = rw (e, f) i
 
 pub seen_joined : (stamp : ℕ) (k : KeyParts) (es : List Entry) → AreOwn es → Ascend es
@@ -388,37 +393,125 @@ pub seen_joined : (stamp : ℕ) (k : KeyParts) (es : List Entry) → AreOwn es �
 seen_joined stamp k es o a =
     entity_seen stamp k (joined es) ∙ ap (option_map (λ (v : Version). v.entity)) (find_joined (is_seen stamp) k es o a)
 
--- ---- of two versions of one key the one precedes the other
+-- ---- what a call at a key leaves
 
-apart : (v : Version) (k : KeyParts) (vs : List Version) → same_key v.entity.key k ≡ false → Each (Own k) vs → Each (PrecedesOwn v) vs
-apart v k [] e h = tt
-apart v k (w ∷ ws) e h =
-    (λ t. (let f : same_key v.entity.key w.entity.key ≡ false = ap (same_key v.entity.key) h.0 ∙ e in
-    let g : true ≡ false = sym t ∙ f in absurd (not_both g)), apart v k ws e h.1) where
-  not_both : true ≡ false → ⊥
-  not_both e = cc
+found_history : (k : KeyParts) (es : List Entry) (vs : List Version) → AreOwn es → at_key k es ≡ Some vs → IsHistory vs
+found_history k [] vs o s = cc
+found_history k (e ∷ es) vs o s = by (key_cmp k e.0) refl (found_history k es vs o.2) where
+  by : (r : Ordering) → key_cmp k e.0 ≡ r → (at_key k es ≡ Some vs → IsHistory vs) → IsHistory vs
+  by Less c i = i (rw c at s)
+  by Equal c i =
+      let is : e.1 ≡ vs = (let f : Some e.1 ≡ Some vs = rw c at s in cc) in
+      subst IsHistory is o.1
+  by Greater c i = i (rw c at s)
 
-each-append : {X : Type 0} (P : X → Type 0) (xs ys : List X) → Each P xs → Each P ys → Each P (xs ++ ys)
-each-append P [] ys h i = i
-each-append P (x ∷ xs) ys h i = (h.0, each-append P xs ys h.1 i)
+module _ (g : Version → Option Version) (k : KeyParts) (es : List Entry) (by_key : AreByKey es) where
+  pub nothing_changed : (ns : List Entry) → None ≡ at_key k es → ns ≡ es → joined ns ≡ local g k (joined es)
+  nothing_changed ns found is = ap joined is ∙ sym (local_none g k es by_key.own by_key.ascend (sym found))
 
-apart_above : (v : Version) (k : KeyParts) (es : List Entry) → v.entity.key ≡ k → AreOwn es → Above k es → Each (PrecedesOwn v) (joined es)
-apart_above v k [] e o a = tt
-apart_above v k (f ∷ es) e o a =
-    let other : same_key v.entity.key f.0 ≡ false = ap (λ x. same_key x f.0) e ∙ ap is_eq a.0 in
-    each-append (PrecedesOwn v) f.1 (joined es) (apart v f.0 f.1 other o.0) (apart_above v k es e o.2 a.1)
+  module _ (vs ws : List Version) (ns : List Entry) (found : Some vs ≡ at_key k es) (after : ws ≡ filter_map g vs)
+      (is : ns ≡ set_value (is_at (key_cmp k)) es ws) where
+    pub changed : joined ns ≡ local g k (joined es)
+    changed =
+        ap joined (is ∙ ap (set_value (is_at (key_cmp k)) es) after) ∙ sym (local_some g k es vs by_key.own by_key.ascend (sym found))
 
-precedes_own : (v : Version) (ws : List Version) → Each (Precedes v) ws → Each (PrecedesOwn v) ws
-precedes_own v [] h = tt
-precedes_own v (w ∷ ws) h = (λ t. h.0, precedes_own v ws h.1)
+    pub changed_by_key : Keeps g → IsHistory ws → Ascend ns → AreByKey ns
+    changed_by_key keeps h a = record {
+      own = subst AreOwn (sym is)
+          (own_set k es ws by_key.own
+          (subst (λ xs. Each (Own k) xs) (sym after) (own_found g keeps k es vs by_key.own (sym found))) h);
+      ascend = a;
+    }
 
-histories-cons : (k : KeyParts) (vs : List Version) (es : List Entry) → Each (Own k) vs → IsHistory vs → AreOwn es → Above k es
-    → AreHistories (joined es) → AreHistories (vs ++ joined es)
-histories-cons k [] es own h o a i = i
-histories-cons k (v ∷ vs) es own h o a i =
-    (each-append (PrecedesOwn v) vs (joined es) (precedes_own v vs h.1) (apart_above v k es own.0 o a), histories-cons k vs es own.1 h.2 o a i)
+pub over_there : (stamp : ℕ) (k j : KeyParts) (es : List Entry) (vs : List Version) → j ≡ k → AreByKey es → Each (IsOverAt stamp k) (joined es)
+    → Some vs ≡ at_key j es → Each (IsOver stamp) vs
+over_there stamp k j es vs key by_key h found = over_found stamp k es vs by_key.own h (sym (found ∙ ap (λ x. at_key x es) key))
 
-pub are_histories : (es : List Entry) → AreOwn es → Ascend es → AreHistories (joined es)
-are_histories [] o a = tt
-are_histories (e ∷ es) o a =
-    histories-cons e.0 e.1 es o.0 o.1 o.2 (ascend_head e es a) (are_histories es o.2 (ascend_tail e es a))
+module _ (v : Version) (k : KeyParts) (key : k ≡ v.entity.key) (es ns : List Entry) (vs ws : List Version) (by_key : AreByKey es)
+    (found : Some vs ≡ at_key k es) (is : ns ≡ set_value (is_at (key_cmp k)) es ws) where
+  at_own : ns ≡ set_value (is_at (key_cmp v.entity.key)) es ws
+  at_own = is ∙ ap (λ x. set_value (is_at (key_cmp x)) es ws) key
+
+  found_there : at_key v.entity.key es ≡ Some vs
+  found_there = sym (found ∙ ap (λ x. at_key x es) key)
+
+  pub begun_by_key : {A E : Type 0} (r : Result A E) → OnOk r (ws ≡ vs ++ v ∷ []) → OnErr r (ws ≡ vs) → OnOk r (IsHistory ws) → Ascend ns → AreByKey ns
+  begun_by_key (Ok x) b u h a = record {
+    own = subst AreOwn (sym at_own)
+        (own_set v.entity.key es ws by_key.own
+        (subst (λ xs. Each (Own v.entity.key) xs) (sym b) (own_begun v es vs by_key.own found_there)) h);
+    ascend = a;
+  }
+  begun_by_key (Err e) b u h a = record {
+    own = subst AreOwn (sym at_own)
+        (own_set v.entity.key es ws by_key.own
+        (subst (λ xs. Each (Own v.entity.key) xs) (sym u) (found_own v.entity.key es vs by_key.own found_there))
+        (subst IsHistory (sym u) (found_history v.entity.key es vs by_key.own found_there)));
+    ascend = a;
+  }
+
+  pub begun_is : {A E : Type 0} (r : Result A E) → OnOk r (ws ≡ vs ++ v ∷ []) → OnOk r (joined ns ≡ with_version v (joined es))
+  begun_is (Ok x) b =
+      ap joined (at_own ∙ ap (set_value (is_at (key_cmp v.entity.key)) es) b)
+      ∙ sym (begun_joined v es vs by_key.own by_key.ascend found_there)
+  begun_is (Err e) b = tt
+
+  pub unbegun_is : {A E : Type 0} (r : Result A E) → OnErr r (ws ≡ vs) → OnErr r (joined ns ≡ joined es)
+  unbegun_is (Ok x) u = tt
+  unbegun_is (Err e) u =
+      ap joined (at_own ∙ (ap (set_value (is_at (key_cmp v.entity.key)) es) u ∙ set_value_same (is_at (key_cmp v.entity.key)) es vs found_there))
+
+pub absent : {X : Type 0} (o : Option X) (b : Bool) → b ≡ is_some o → b ≡ false → o ≡ None
+absent None b e f = refl
+absent (Some x) b e f = let t : true ≡ false = sym e ∙ f in cc
+
+module _ (k copy : KeyParts) (es ns : List Entry) (ws : List Version) (same : copy ≡ k) (empty : ws ≡ []) (by_key : AreByKey es)
+    (none : at_key k es ≡ None) (is : ns ≡ insert_entry key_cmp es copy ws) where
+  inserted : ns ≡ insert_entry key_cmp es k []
+  inserted = is ∙ (ap (λ x. insert_entry key_cmp es x ws) same ∙ ap (insert_entry key_cmp es k) empty)
+
+  pub made_is : joined ns ≡ joined es
+  made_is = ap joined inserted ∙ joined_insert k es none
+
+  pub made_by_key : Ascend ns → AreByKey ns
+  made_by_key a = record { own = subst AreOwn (sym inserted) (own_insert k es none by_key.own); ascend = a }
+
+module _ (k : KeyParts) (es : List Entry) (by_key : AreByKey es) (o : Option (List Version)) (found : o ≡ at_key k es) (all : List Version)
+    (view : joined es ≡ all) where
+  pub current_there : option_map (λ (v : Version). v.entity) (find (λ v. is_open v.until) (listed o))
+      ≡ option_map (λ (v : Version). v.entity) (find (is_current k) all)
+  current_there =
+      ap (option_map (λ (v : Version). v.entity))
+      (ap (λ p. find (λ (v : Version). is_open v.until) (listed p)) found
+      ∙ (sym (find_joined (λ v. is_open v.until) k es by_key.own by_key.ascend) ∙ ap (find (is_current k)) view))
+
+  pub seen_there : (stamp : ℕ) → option_map (λ (v : Version). v.entity) (find (is_seen stamp) (listed o))
+      ≡ find (λ (e : EntityParts). same_key e.key k) (entities_at stamp all)
+  seen_there stamp =
+      ap (λ p. option_map (λ (v : Version). v.entity) (find (is_seen stamp) (listed p))) found
+      ∙ (sym (seen_joined stamp k es by_key.own by_key.ascend)
+      ∙ ap (λ vs. find (λ (e : EntityParts). same_key e.key k) (entities_at stamp vs)) view)
+
+-- ---- each of the three keeps the entities
+
+pub end_keeps : (stamp : ℕ) → Keeps (λ v. Some (end_open stamp v))
+end_keeps stamp v w e = by (is_open v.until) refl where
+  by : (b : Bool) → is_open v.until ≡ b → w.entity ≡ v.entity
+  by true o = let f : Some (until_stamp (Some stamp) v) ≡ Some w = rw o at e in let g : until_stamp (Some stamp) v ≡ w = cc in ap (λ (x : Version). x.entity) (sym g)
+  by false o = let f : Some v ≡ Some w = rw o at e in let g : v ≡ w = cc in ap (λ (x : Version). x.entity) (sym g)
+
+pub before_keeps : (stamp : ℕ) → Keeps (before_stamp stamp)
+before_keeps stamp v w e = by (nat_eq v.from stamp) (ends_at stamp v.until) refl refl where
+  by : (b c : Bool) → nat_eq v.from stamp ≡ b → ends_at stamp v.until ≡ c → w.entity ≡ v.entity
+  by true c a o = let f : None ≡ Some w = rw a at e in cc
+  by false true a o =
+      let f : Some (until_stamp None v) ≡ Some w = rw (a, o) at e in
+      let g : until_stamp None v ≡ w = cc in
+      ap (λ (x : Version). x.entity) (sym g)
+  by false false a o = let f : Some v ≡ Some w = rw (a, o) at e in let g : v ≡ w = cc in ap (λ (x : Version). x.entity) (sym g)
+
+pub outliving_keeps : (floor : ℕ) → Keeps (outliving floor)
+outliving_keeps floor v w e = by (outlives floor v) refl where
+  by : (b : Bool) → outlives floor v ≡ b → w.entity ≡ v.entity
+  by true o = let f : Some v ≡ Some w = rw o at e in let g : v ≡ w = cc in ap (λ (x : Version). x.entity) (sym g)
+  by false o = let f : None ≡ Some w = rw o at e in cc

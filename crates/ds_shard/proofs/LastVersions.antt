@@ -1,6 +1,6 @@
 -- The last version of a key: the only one that may be open, and the only one that a write ends or that is opened again.
 use Rattle.std.proofs.Common.{◌≡◌, ℕ, zero, suc, ◌+◌, ◌-◌, ◌<◌, ◌≤◌, Bool, true, false, cond, List, [], ◌∷◌, ◌++◌, length, map, get_or, Option, Some, None, refl, sym, ap, ◌∙◌, subst, arith}
-use Rattle.std.specs.Prelude.{find, option_map, slice_set, if◌then◌else◌, nat_eq}
+use Rattle.std.specs.Prelude.{find, option_map, slice_set, if◌then◌else◌, nat_eq, is_some, not}
 use Rattle.std.specs.List.{filter_map}
 use Rattle.std.specs.Option.{option_to_list}
 use Rattle.std.proofs.lemmas.List.{map-append, append-nil}
@@ -19,6 +19,11 @@ each_of : (P : Version → Type 0) (xs : List Kept) (m : ℕ) (k : Kept) → m <
 each_of P [] m k l is h = absurd (omega (arith, l))
 each_of P (x ∷ xs) zero k l is h = subst (λ (y : Kept). P (version_of y)) (sym is) h.0
 each_of P (x ∷ xs) (suc m) k l is h = let less : m < length xs = omega (arith, l) in each_of P xs m k less is h.1
+
+pub same_read : (xs : List Kept) (m n : ℕ) (k l : Kept) → m < n → n ≡ length xs → k ≡ get_or xs m k → l ≡ get_or xs m l → k ≡ l
+same_read [] m n k l less long is as_well = absurd (omega (arith, less, long))
+same_read (x ∷ xs) zero n k l less long is as_well = is ∙ sym as_well
+same_read (x ∷ xs) (suc m) n k l less long is as_well = same_read xs m (length xs) k l (omega (arith, less, long)) refl is as_well
 
 -- ---- the open one
 
@@ -79,6 +84,17 @@ module _ (stamp n : ℕ) (xs : List Kept) (vs : List Version) (k : Kept) (long :
 
   pub ends_none : 0 < n → k ≡ get_or xs (n - 1) k → is_open k.until ≡ false → vs ≡ map (end_open stamp) vs
   ends_none p is o = sym view ∙ (none_last stamp xs (n - 1) k (sym long ∙ is_last n p) h is o ∙ ap (map (end_open stamp)) view)
+
+pub ends_empty : (stamp n : ℕ) (xs : List Kept) (vs : List Version) → n ≡ length xs → n ≡ 0 → map version_of xs ≡ vs
+    → vs ≡ map (end_open stamp) vs
+ends_empty stamp n [] vs long z view = sym view ∙ ap (map (end_open stamp)) view
+ends_empty stamp n (x ∷ xs) vs long z view = absurd (omega (arith, long, z))
+
+pub open_none : (u : Option ℕ) (r b : Bool) → is_some u ≡ not r → r ≡ b → is_open u ≡ b
+open_none None true b e f = f
+open_none None false b e f = cc
+open_none (Some u) true b e f = cc
+open_none (Some u) false b e f = f
 
 -- ---- whether the last one began at a stamp
 

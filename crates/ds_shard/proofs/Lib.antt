@@ -1,5 +1,6 @@
 mod ByKey
 mod Currents
+mod FirstVersions
 mod HistoryLaws
 mod Kept
 mod LastVersions

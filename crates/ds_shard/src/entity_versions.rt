@@ -7,7 +7,6 @@ ghost use Rattle.ds_base.specs.KeyOrder.{key_cmp, same_key};
 ghost use Rattle.ds_base.specs.Entities.{EntityParts};
 ghost use Rattle.ds_rows.specs.Versions.{Version, entities_at};
 ghost use Rattle.ds_shard.specs.Histories.{joined, is_current, ended, with_version, undone, trimmed_at, BeginsBy, IsOverAt, Each, AreByKey};
-ghost use Rattle.ds_shard.specs.Contents.{AreHistories};
 
 use crate::version_list::VersionList;
 use ds_base::{Entity, Key, NoMemory, TryCopy};
@@ -67,8 +66,7 @@ impl EntityVersions {
     /// Ends the version of this key that isn't ended, if there is one, at the stamp, by which each one began. It takes no memory.
     pub(crate) fn end(&mut self, key: &Key, stamp: u64)
         requires { Each (BeginsBy stamp) self.old }
-        ensures ended { self.new ≡ ended stamp key.now self.old }
-        ensures histories { AreHistories self.new }
+        ensures { self.new ≡ ended stamp key.now self.old }
     {
         end_in(&mut self.by_key, key, stamp);
     }
@@ -83,7 +81,6 @@ impl EntityVersions {
         requires { Each (IsOverAt stamp entity.now.key) self.old }
         ensures begun { OnOk result (self.new ≡ with_version (record { entity = entity.now; from = stamp; until = None }) self.old) }
         ensures unchanged { OnErr result (self.new ≡ self.old) }
-        ensures histories { AreHistories self.new }
     {
         make_list(&mut self.by_key, alloc, entity.key())?;
         begin_in(&mut self.by_key, alloc, entity, stamp)
@@ -92,8 +89,7 @@ impl EntityVersions {
     /// Takes back what was done to the entity of this key at the stamp, after which nothing began. It takes no memory.
     pub(crate) fn undo(&mut self, key: &Key, stamp: u64)
         requires { Each (BeginsBy stamp) self.old }
-        ensures undone { self.new ≡ undone stamp key.now self.old }
-        ensures histories { AreHistories self.new }
+        ensures { self.new ≡ undone stamp key.now self.old }
     {
         undo_in(&mut self.by_key, key, stamp);
         drop_empty(&mut self.by_key, key);
@@ -101,8 +97,7 @@ impl EntityVersions {
 
     /// Takes out the versions of this key that ended at or before the floor. It takes no memory.
     pub(crate) fn trim(&mut self, key: &Key, floor: u64)
-        ensures trimmed { self.new ≡ trimmed_at floor key.now self.old }
-        ensures histories { AreHistories self.new }
+        ensures { self.new ≡ trimmed_at floor key.now self.old }
     {
         trim_in(&mut self.by_key, key, floor);
         drop_empty(&mut self.by_key, key);

@@ -1,5 +1,5 @@
 //! Which versions will go as the floor rises.
-ghost use Rattle.std.specs.Prelude.{◌≡◌, ◌+◌, ◌≤◌, OnSome};
+ghost use Rattle.std.specs.Prelude.{◌≡◌, ◌+◌, ◌<◌, IsTrue, OnSome};
 
 use ds_base::{Key, NoMemory};
 use std::alloc::Global;
@@ -67,7 +67,10 @@ impl Expiring {
         }
     }
 
-    fn ends_at(&self, stamp: u64) -> bool {
+    /// Whether there is an end and the last one is at the stamp.
+    fn ends_at(&self, stamp: u64) -> bool
+        ensures { IsTrue result → 0 < self.now }
+    {
         match self.queue.back() {
             Some(last) => last.stamp == stamp,
             None => false,

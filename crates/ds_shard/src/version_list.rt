@@ -129,7 +129,7 @@ impl VersionList {
         requires { Each (IsOver stamp) self.old }
         ensures begun { OnOk result (self.new ≡ self.old ++ record { entity = entity.now; from = stamp; until = None } ∷ []) }
         ensures unchanged { OnErr result (self.new ≡ self.old) }
-        ensures history { IsHistory self.new }
+        ensures history { OnOk result (IsHistory self.new) }
     {
         let version = Kept {
             entity: entity.copy(alloc)?,
