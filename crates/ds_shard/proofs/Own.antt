@@ -1,4 +1,4 @@
--- The versions of one key among all: at most one is open.
+-- The versions of one key among all: at most one is open, and the order of keys and stamps is kept by each write.
 use Rattle.std.proofs.Common.{◌≡◌, ℕ, ◌+◌, ◌<◌, ◌≤◌, Bool, true, false, cond, List, [], ◌∷◌, map, Option, Some, None, refl, sym, ap, ◌∙◌, subst, arith}
 use Rattle.std.specs.Prelude.{⊤, ◌&&◌, if◌then◌else◌, filter, find, option_map, IsTrue}
 use Rattle.std.specs.Cmp.{alike_right}
@@ -10,9 +10,11 @@ use Rattle.ds_base.specs.Keys.{KeyParts}
 use Rattle.ds_base.specs.KeyOrder.{key_cmp, same_key}
 use Rattle.ds_base.specs.KeyOrderLaws.{key_cmp-total, same_key-decides}
 use Rattle.ds_base.specs.Entities.{EntityParts}
+use Rattle.ds_base.specs.SortingLaws.{NoneBefore, Ascends}
 use Rattle.ds_rows.specs.Versions.{Version}
-use Rattle.ds_shard.specs.Histories.{Each, EndsBy, is_open, is_current, ended}
-use Rattle.ds_shard.specs.Contents.{PrecedesOwn, AreHistories}
+use Rattle.ds_shard.specs.Histories.{Each, EndsBy, Precedes, IsOver, IsOverAt, is_open, is_current, until_stamp, ended, with_version}
+use Rattle.ds_shard.specs.Contents.{version_cmp, PrecedesOwn, AreHistories}
+use Rattle.ds_shard.proofs.Currents.{and_false}
 use Rattle.ds_shard.proofs.Kept.{current-open}
 
 true_not_false : true ≡ false → ⊥
@@ -75,7 +77,31 @@ none_current stamp k (v ∷ vs) is = by (is_current k v) refl is (none_current s
   by true c is i = cc
   by false c is i = rw c (ap (λ ws. v ∷ ws) (i is))
 
--- ---- keys in order
+-- ---- an end
+
+later_ended : (stamp : ℕ) (k : KeyParts) (v : Version) (ws : List Version) → Each (PrecedesOwn v) ws → Each (PrecedesOwn v) (ended stamp k ws)
+later_ended stamp k v [] h = tt
+later_ended stamp k v (w ∷ ws) h = by (is_current k w) (later_ended stamp k v ws h.1) where
+  by : (b : Bool) → Each (PrecedesOwn v) (ended stamp k ws) → Each (PrecedesOwn v) (cond b (until_stamp (Some stamp) w) w ∷ ended stamp k ws)
+  by true i = ((λ s. let p : Precedes v w = h.0 s in record { rises = p.rises; ends = p.ends }), i)
+  by false i = (h.0, i)
+
+earlier_ended : (stamp : ℕ) (k : KeyParts) (v : Version) (ws : List Version) → Each (PrecedesOwn v) ws
+    → Each (PrecedesOwn (cond (is_current k v) (until_stamp (Some stamp) v) v)) ws
+earlier_ended stamp k v [] h = tt
+earlier_ended stamp k v (w ∷ ws) h = (by (is_current k v) refl, earlier_ended stamp k v ws h.1) where
+  by : (b : Bool) → is_current k v ≡ b → PrecedesOwn (cond b (until_stamp (Some stamp) v) v) w
+  by true e = λ s.
+      let p : Precedes v w = h.0 s in
+      absurd (true_not_false (sym (current-open (same_key v.entity.key k) (is_open v.until) e) ∙ open_ends v.until w.from p.ends))
+  by false e = h.0
+
+pub histories-ended : (stamp : ℕ) (k : KeyParts) (vs : List Version) → AreHistories vs → AreHistories (ended stamp k vs)
+histories-ended stamp k [] h = tt
+histories-ended stamp k (v ∷ vs) h =
+    (earlier_ended stamp k v (ended stamp k vs) (later_ended stamp k v vs h.0), histories-ended stamp k vs h.1)
+
+-- ---- a beginning
 
 pub is_less : (r : Ordering) → is_lt r ≡ true → r ≡ Less
 is_less Less e = refl
@@ -89,6 +115,32 @@ less_apart x y z before below = by (key_cmp y z) refl below where
   by Less is below = key_cmp-total.trans x y z before is
   by Equal is below = sym (alike_right key_cmp-total y z x is) ∙ before
   by Greater is below = absurd (true_not_false below)
+
+none_own : (v w : Version) (ws : List Version) → key_cmp v.entity.key w.entity.key ≡ Less → NoneBefore version_cmp w ws → Each (PrecedesOwn v) ws
+none_own v w [] before h = tt
+none_own v w (x ∷ xs) before h =
+    ((λ s. absurd (true_not_false (sym s ∙ ap is_eq (less_apart v.entity.key w.entity.key x.entity.key before h.0)))), none_own v w xs before h.1)
+
+is_over : (k : KeyParts) (v w : Version) → IsOverAt v.from v.entity.key w → PrecedesOwn w v
+is_over k v w h = λ s. let o : IsOver v.from w = h s in record { rises = o.0; ends = o.1 }
+
+later_with : (v w : Version) (ws : List Version) → PrecedesOwn w v → Each (PrecedesOwn w) ws → Each (PrecedesOwn w) (with_version v ws)
+later_with v w [] p h = (p, tt)
+later_with v w (x ∷ xs) p h = by (is_lt (key_cmp v.entity.key x.entity.key)) (later_with v w xs p h.1) where
+  by : (b : Bool) → Each (PrecedesOwn w) (with_version v xs) → Each (PrecedesOwn w) (cond b (v ∷ x ∷ xs) (x ∷ with_version v xs))
+  by true i = (p, h)
+  by false i = (h.0, i)
+
+pub histories-with : (v : Version) (vs : List Version) → Ascends version_cmp vs → Each (IsOverAt v.from v.entity.key) vs → AreHistories vs
+    → AreHistories (with_version v vs)
+histories-with v [] a o h = (tt, tt)
+histories-with v (w ∷ ws) a o h = by (is_lt (key_cmp v.entity.key w.entity.key)) refl (histories-with v ws a.1 o.1 h.1) where
+  by : (b : Bool) → is_lt (key_cmp v.entity.key w.entity.key) ≡ b → AreHistories (with_version v ws)
+      → AreHistories (cond b (v ∷ w ∷ ws) (w ∷ with_version v ws))
+  by true e i =
+      let less : key_cmp v.entity.key w.entity.key ≡ Less = is_less (key_cmp v.entity.key w.entity.key) e in
+      (((λ s. absurd (true_not_false (sym s ∙ ap is_eq less))), none_own v w ws less a.0), h)
+  by false e i = (later_with v w ws (is_over v.entity.key v w o.0) h.0, i)
 
 -- ---- versions taken out
 

@@ -1,7 +1,8 @@
 -- One write after another, and a floor that rises: the table goes on holding the rows of the versions.
-use Rattle.std.proofs.Common.{◌≡◌, ℕ, ◌+◌, ◌<◌, ◌≤◌, Bool, true, false, cond, List, [], ◌∷◌, ◌++◌, map, Option, Some, None, refl, sym, ap, ◌∙◌, subst, arith}
-use Rattle.std.specs.Prelude.{◌&&◌, if◌then◌else◌, IsTrue, IsFalse, OnOk, OnErr, Result, Ok, Err, filter, find, option_map, max, nat_lt}
+use Rattle.std.proofs.Common.{◌≡◌, ℕ, suc, zero, ◌+◌, ◌<◌, ◌≤◌, Bool, true, false, cond, List, [], ◌∷◌, ◌++◌, length, get_or, map, Option, Some, None, refl, sym, ap, ◌∙◌, subst, arith}
+use Rattle.std.specs.Prelude.{◌&&◌, ◌||◌, if◌then◌else◌, IsTrue, IsFalse, OnOk, OnErr, Result, Ok, Err, filter, fold, drop, find, option_map, max, nat_lt}
 use Rattle.std.specs.List.{list_any}
+use Rattle.std.proofs.lemmas.List.{drop_more}
 use Rattle.ds_base.specs.Keys.{KeyParts}
 use Rattle.std.specs.Ordering.{is_lt}
 use Rattle.ds_base.specs.KeyOrder.{key_cmp, same_key}
@@ -10,6 +11,8 @@ use Rattle.ds_base.specs.Entities.{EntityParts}
 use Rattle.ds_base.specs.SortingLaws.{Ascends}
 use Rattle.ds_indexdef.specs.declared.IndexDef.{IndexDef}
 use Rattle.ds_indexdef.specs.Definitions.{AreDefs}
+use Rattle.ds_log.specs.declared.Write.{Write}
+use Rattle.ds_log.specs.Logs.{key_of}
 use Rattle.ds_rows.specs.Indexable.{IsIndexable}
 use Rattle.ds_rows.specs.Rows.{rows_of}
 use Rattle.ds_rows.specs.Versions.{Version}
@@ -21,9 +24,9 @@ use Rattle.ds_shard.specs.Rows.{rows_of_version, rows_of_versions, all_closed, a
 use Rattle.ds_shard.specs.Contents.{ContentsParts, counted, HaveSame, IsGiven, version_cmp, AreHistories, AreKept, CanUndo, LeadBack, LeadsBack, all_undone, AreFewer, IsTrimmed, IsGivenBefore, IsBack}
 use Rattle.ds_shard.proofs.Kept.{Ascends-ended, Ascends-with, Ascends-filter, given-ended, given-with, given-filter, given-later}
 use Rattle.ds_shard.proofs.Counting.{same-map, same-filter, same-filter_map, same-any}
-use Rattle.ds_shard.proofs.Own.{Owns, only_current, histories-filter}
+use Rattle.ds_shard.proofs.Own.{Owns, only_current, histories-ended, histories-with, histories-filter}
 use Rattle.ds_shard.proofs.Trimming.{trimmed_rows}
-use Rattle.ds_shard.proofs.RowsApart.{NotAmong, each_more, apart}
+use Rattle.ds_shard.proofs.RowsApart.{NotAmong, each_more, apart, or_true}
 use Rattle.ds_shard.proofs.Closing.{Suits, all_closed_map, closed_in, ended_rows}
 use Rattle.ds_shard.proofs.Beginning.{Leaves, new_rows, counted-added, counted-with, alive_own, none_left}
 use Rattle.ds_shard.proofs.Undoing.{undone_rows, undone-given, undone-ended, undone-with, begun-given}
@@ -99,14 +102,14 @@ pub record Stays (stamp : ℕ) (c d : ContentsParts) : Type 0 where
 module _ (stamp : ℕ) (c d : ContentsParts) (h : AreKept stamp c) (s : Stays stamp c d) where
   -- with other versions, and the rows of these
   kept_with : (vs : List Version) → d.entities ≡ vs → Each (λ (v : Version). IsIndexable v.entity) vs → Each (IsGiven stamp) vs
-      → Ascends version_cmp vs → AreHistories d.entities → HaveSame (versions d.table) (rows_of_versions c.definitions (trimmed c.table.floor vs))
+      → Ascends version_cmp vs → AreHistories vs → HaveSame (versions d.table) (rows_of_versions c.definitions (trimmed c.table.floor vs))
       → AreKept stamp d
   kept_with vs is indexable given ascend histories rows = record {
     definitions = subst AreDefs (sym s.definitions) h.definitions;
     indexable = subst (Each (λ (v : Version). IsIndexable v.entity)) (sym is) indexable;
     given = subst (Each (IsGiven stamp)) (sym is) given;
     ascend = subst (Ascends version_cmp) (sym is) ascend;
-    histories = histories;
+    histories = subst AreHistories (sym is) histories;
     rows = subst (HaveSame (versions d.table))
         (λ t. rows_of_versions (sym s.definitions t) (trimmed (sym s.floor t) (sym is t))) rows;
     last = s.last;
@@ -167,10 +170,10 @@ module _ (stamp : ℕ) (c d : ContentsParts) (h : AreKept stamp c) (s : Stays st
         subst (λ (ts : List table.Version). HaveSame ts (rows_of_versions c.definitions (trimmed c.table.floor (ended stamp k c.entities)))) (sym one)
         (subst (HaveSame (map (closed_in stamp rows) (versions c.table))) (sym two) (same-map (versions c.table) before h.rows (closed_in stamp rows)))
 
-    pub end_kept : AreHistories d.entities → AreKept stamp d
-    end_kept histories =
+    pub end_kept : AreKept stamp d
+    end_kept =
         kept_with (ended stamp k c.entities) is (indexable-ended stamp k c.entities h.indexable) (given-ended stamp k c.entities h.given)
-        (Ascends-ended stamp k c.entities h.ascend) histories end_rows
+        (Ascends-ended stamp k c.entities h.ascend) (histories-ended stamp k c.entities h.histories) end_rows
 
     all_undone_closed : (rows : List (List ℕ)) (vs : List table.Version) → table.undone stamp (all_closed stamp vs rows) ≡ table.undone stamp vs
     all_undone_closed [] vs = refl
@@ -184,7 +187,7 @@ module _ (stamp : ℕ) (c d : ContentsParts) (h : AreKept stamp c) (s : Stays st
 
   -- ---- a beginning
 
-  module _ (e : EntityParts) (lawful : IsIndexable e) where
+  module _ (e : EntityParts) (lawful : IsIndexable e) (over : Each (IsOverAt stamp e.key) c.entities) where
     abbrev new : Version
     new = record { entity = e; from = stamp; until = None }
 
@@ -201,11 +204,11 @@ module _ (stamp : ℕ) (c d : ContentsParts) (h : AreKept stamp c) (s : Stays st
         omega (arith, one, two, three, four)
 
     pub begin_kept : versions d.table ≡ all_added stamp (versions c.table) (rows_of c.definitions e) → d.entities ≡ with_version new c.entities
-        → AreHistories d.entities → AreKept stamp d
-    begin_kept added is histories =
+        → AreKept stamp d
+    begin_kept added is =
         kept_with (with_version new c.entities) is (each-with (λ (v : Version). IsIndexable v.entity) new c.entities lawful h.indexable)
         (given-with stamp new c.entities new_given h.given)
-        (Ascends-with new c.entities h.ascend) histories (begin_rows added)
+        (Ascends-with new c.entities h.ascend) (histories-with new c.entities h.ascend over h.histories) (begin_rows added)
 
     pub begin_leads : table.undone stamp (versions d.table) ≡ table.undone stamp (versions c.table) → d.entities ≡ with_version new c.entities
         → LeadsBack stamp e.key c d
@@ -253,6 +256,14 @@ module _ (stamp : ℕ) (c : ContentsParts) (h : AreKept stamp c) (e : EntityPart
       h.indexable over))
 
 -- ---- steps together
+
+-- a key that is written is among those of the writes
+pub among : (ws : List Write) (i : ℕ) (w : Write) → i < length ws → w ≡ get_or ws i w → IsTrue (list_any (same_key (key_of w)) (map key_of ws))
+among [] i w h e = absurd (omega arith)
+among (x ∷ ws) zero w h e =
+    ap (λ b. b || list_any (same_key (key_of w)) (map key_of ws)) ((same_key-decides (key_of w) (key_of x)).1 (ap key_of e))
+among (x ∷ ws) (suc i) w h e =
+    or_true (same_key (key_of w) (key_of x)) (list_any (same_key (key_of w)) (map key_of ws)) (among ws i w (omega (arith, h)) e)
 
 -- where the current entity of a key ended, each of its versions has
 pub over-ended : (stamp : ℕ) (k : KeyParts) (vs : List Version) → Each (IsGiven stamp) vs → Each (IsOverAt stamp k) (ended stamp k vs)
@@ -305,7 +316,7 @@ is_back stamp keys before c d h given back undone is s =
       entities = same;
       definitions = all.definitions;
       floor = all.floor;
-      kept = kept_with stamp before d h all before.entities same h.indexable h.given h.ascend (subst AreHistories (sym same) h.histories)
+      kept = kept_with stamp before d h all before.entities same h.indexable h.given h.ascend h.histories
           (subst (λ (ts : List table.Version). HaveSame ts rows) (sym (undone ∙ back.table))
           (subst (HaveSame (table.undone stamp (versions before.table))) (undone_rows stamp h.a_stamp before.definitions before.table.floor before.entities given)
           (same-filter_map (versions before.table) rows h.rows (table.before_stamp stamp))));
@@ -352,3 +363,11 @@ is_trimmed stamp floor c d h f rises below low high =
         a_stamp = high;
       };
     }
+
+-- ---- loops
+
+-- one step of a fold over what is left
+pub fold_next : {A B : Type 0} (f : B → A → B) (b : B) (xs : List A) (i : ℕ) (x : A) → i < length xs → x ≡ get_or xs i x → (next : B)
+    → next ≡ f b x → (all : B) → fold f b (drop i xs) ≡ all → fold f next (drop (i + 1) xs) ≡ all
+fold_next f b xs i x h e next is all inv =
+    ap (λ c. fold f c (drop (i + 1) xs)) (is ∙ ap (f b) e) ∙ sym (ap (fold f b) (drop_more xs i x h)) ∙ inv

@@ -47,6 +47,8 @@ returns-clause-kept c =
     let old : ContentsParts = record { definitions = in_it.defs; table = in_it.table; entities = in_it.entities } in
     let new : ContentsParts = record { definitions = in_it.defs; table = c.add_rows.new.table; entities = c.begin.new.self } in
     let kept : AreKept stamp old = subst (AreKept stamp) (sym c.self.view_is) c.requires.kept in
+    let over : Each (IsOverAt stamp e.key) old.entities =
+    subst (λ (d : ContentsParts). Each (IsOverAt stamp e.key) d.entities) (sym c.self.view_is) c.requires.over in
     let added = c.add_rows.ensures in
     let stays : Stays stamp old new = record {
       definitions = refl;
@@ -57,7 +59,7 @@ returns-clause-kept c =
     } in
     let rows : versions new.table ≡ all_added stamp (versions old.table) (rows_of in_it.defs e) =
     c.in_ok-add_rows.ensures.added ∙ ap (all_added stamp (versions old.table)) c.in_ok-rows.ensures.rows in
-    on_ok_weaker c.begin.result (λ is. begin_kept stamp old new kept stays e c.in_ok-rows.ensures.lawful rows is c.begin.ensures.histories) c.begin.ensures.begun
+    on_ok_weaker c.begin.result (λ is. begin_kept stamp old new kept stays e c.in_ok-rows.ensures.lawful over rows is) c.begin.ensures.begun
 
 pub returns-clause-leads_back : goal.returns-clause-leads_back
 returns-clause-leads_back c =
@@ -67,6 +69,8 @@ returns-clause-leads_back c =
     let old : ContentsParts = record { definitions = in_it.defs; table = in_it.table; entities = in_it.entities } in
     let new : ContentsParts = record { definitions = in_it.defs; table = c.add_rows.new.table; entities = c.begin.new.self } in
     let kept : AreKept stamp old = subst (AreKept stamp) (sym c.self.view_is) c.requires.kept in
+    let over : Each (IsOverAt stamp e.key) old.entities =
+    subst (λ (d : ContentsParts). Each (IsOverAt stamp e.key) d.entities) (sym c.self.view_is) c.requires.over in
     let added = c.add_rows.ensures in
     let stays : Stays stamp old new = record {
       definitions = refl;
@@ -76,5 +80,5 @@ returns-clause-leads_back c =
       last = added.last;
     } in
     subst (λ (b : ContentsParts). LeadsBack stamp e.key b new) c.self.view_is
-    (either c.begin.result (λ is. begin_leads stamp old new kept stays e c.in_ok-rows.ensures.lawful added.leads_back is) (λ is. part_leads stamp old new kept stays e.key added.leads_back is)
+    (either c.begin.result (λ is. begin_leads stamp old new kept stays e c.in_ok-rows.ensures.lawful over added.leads_back is) (λ is. part_leads stamp old new kept stays e.key added.leads_back is)
     c.begin.ensures.begun c.begin.ensures.unchanged)

@@ -5,8 +5,9 @@ use Rattle.ds_table.specs.Blocks.{versions}
 use Rattle.ds_rows.specs.Rows.{rows_of}
 use Rattle.ds_shard.specs.Histories.{Each, ended}
 use Rattle.ds_shard.specs.Rows.{all_closed}
-use Rattle.ds_shard.specs.Contents.{ContentsParts, AreKept, LeadsBack}
+use Rattle.ds_shard.specs.Contents.{ContentsParts, IsGiven, AreKept, LeadsBack}
 use Rattle.ds_shard.proofs.Own.{none_current}
+use Rattle.ds_shard.proofs.Undoing.{begun-given}
 use Rattle.ds_shard.proofs.Writing.{Stays, rows_alive, end_kept, end_leads, part_leads}
 use Rattle.ds_shard.proofs.contents.Contents.end.Goals as goal
 
@@ -31,6 +32,11 @@ close_rows-requires-clause-alive c =
     subst (Each (λ row. IsTrue (table.has_alive row (versions in_it.table)))) (sym c.in_ok-rows-in-Some.ensures.rows)
     (rows_alive c.args.stamp old kept e c.args.key.now (sym c.in-Some.ensures))
 
+pub end-requires : goal.end-requires
+end-requires c =
+    begun-given c.args.stamp c.self.inside.entities
+    (subst (λ (d : ContentsParts). Each (IsGiven c.args.stamp) d.entities) (sym c.self.view_is) c.requires.given)
+
 pub returns-clause-kept : goal.returns-clause-kept
 returns-clause-kept c =
     let in_it = c.self.inside in
@@ -49,8 +55,7 @@ returns-clause-kept c =
     } in
     let rows : versions new.table ≡ all_closed stamp (versions old.table) (rows_of in_it.defs e) =
     closed.closed ∙ ap (all_closed stamp (versions old.table)) c.in_ok-rows-in-Some.ensures.rows in
-    end_kept stamp old new kept stays c.args.key.now e (sym c.in-Some.ensures) c.in_ok-rows-in-Some.ensures.lawful rows c.end.ensures.ended
-    c.end.ensures.histories
+    end_kept stamp old new kept stays c.args.key.now e (sym c.in-Some.ensures) c.in_ok-rows-in-Some.ensures.lawful rows c.end.ensures
 
 pub returns-clause-leads_back : goal.returns-clause-leads_back
 returns-clause-leads_back c =
@@ -71,4 +76,4 @@ returns-clause-leads_back c =
     let rows : versions new.table ≡ all_closed stamp (versions old.table) (rows_of in_it.defs e) =
     closed.closed ∙ ap (all_closed stamp (versions old.table)) c.in_ok-rows-in-Some.ensures.rows in
     subst (λ (b : ContentsParts). LeadsBack stamp c.args.key.now b new) c.self.view_is
-    (end_leads stamp old new kept stays c.args.key.now e (sym c.in-Some.ensures) c.in_ok-rows-in-Some.ensures.lawful rows c.end.ensures.ended)
+    (end_leads stamp old new kept stays c.args.key.now e (sym c.in-Some.ensures) c.in_ok-rows-in-Some.ensures.lawful rows c.end.ensures)
