@@ -15,9 +15,9 @@ use Rattle.ds_log.specs.declared.Write.TheVariants.{Put, Delete}
 use Rattle.ds_rows.specs.Rows.{rows_of}
 use Rattle.ds_rows.specs.Versions.{Version, is_before}
 use Rattle.ds_table.specs.Versions as table
-use Rattle.ds_shard.specs.Histories.{Each, is_open, is_current, until_stamp, ended, with_version, written, outlives, trimmed}
+use Rattle.ds_shard.specs.Histories.{Each, is_open, is_current, until_stamp, ended, with_version, written, outlives, trimmed, trimmed_at}
 use Rattle.ds_shard.specs.Rows.{end_in_table, row_of, rows_of_version, rows_of_versions}
-use Rattle.ds_shard.specs.Contents.{version_cmp}
+use Rattle.ds_shard.specs.Contents.{version_cmp, AreFewer}
 use Rattle.ds_shard.proofs.Currents.{lt_true}
 use Rattle.ds_shard.proofs.Kept.{open-before, current-open, gone, Ascends-ended, Ascends-written}
 use Rattle.ds_shard.proofs.Own.{is_less, less_apart}
@@ -71,6 +71,40 @@ pub trimmed_rows : (defs : List IndexDef) (low floor : ℕ) → low ≤ floor �
 trimmed_rows defs low floor h below vs =
     filter_versions defs (λ w. nat_lt floor w.to) (outlives floor) (λ v x. ends_alike floor below v.until) (trimmed low vs)
     ∙ ap (rows_of_versions defs) (trimmed-again low floor h vs)
+
+-- ---- key by key
+
+filter-filter : {X : Type 0} (p q : X → Bool) (xs : List X) → filter p (filter q xs) ≡ filter (λ x. q x && p x) xs
+filter-filter p q [] = refl
+filter-filter p q (x ∷ xs) = by (q x) (filter-filter p q xs) where
+  by : (b : Bool) → filter p (filter q xs) ≡ filter (λ y. q y && p y) xs
+      → filter p (cond b (x ∷ filter q xs) (filter q xs)) ≡ cond (b && p x) (x ∷ filter (λ y. q y && p y) xs) (filter (λ y. q y && p y) xs)
+  by true i = ap (λ ys. cond (p x) (x ∷ ys) ys) i
+  by false i = i
+
+all_kept : {X : Type 0} (xs : List X) → xs ≡ filter (λ x. true) xs
+all_kept [] = refl
+all_kept (x ∷ xs) = ap (λ ys. x ∷ ys) (all_kept xs)
+
+pub none_fewer : (vs : List Version) → AreFewer vs vs
+none_fewer vs = ((λ v. true), all_kept vs)
+
+pub fewer_at : (floor : ℕ) (k : KeyParts) (all vs ws : List Version) → AreFewer all vs → ws ≡ trimmed_at floor k vs → AreFewer all ws
+fewer_at floor k all vs ws h is =
+    let q : Version → Bool = λ v. if same_key v.entity.key k then outlives floor v else true in
+    ((λ v. h.0 v && q v), is ∙ ap (filter q) h.1 ∙ filter-filter q h.0 all)
+
+trimmed_one : (floor : ℕ) (k : KeyParts) (vs : List Version) → trimmed floor (trimmed_at floor k vs) ≡ trimmed floor vs
+trimmed_one floor k [] = refl
+trimmed_one floor k (v ∷ vs) = by (same_key v.entity.key k) (outlives floor v) refl (trimmed_one floor k vs) where
+  by : (b c : Bool) → outlives floor v ≡ c → trimmed floor (trimmed_at floor k vs) ≡ trimmed floor vs
+      → trimmed floor (cond (if b then outlives floor v else true) (v ∷ trimmed_at floor k vs) (trimmed_at floor k vs)) ≡ trimmed floor (v ∷ vs)
+  by false c e i = ap (λ ws. cond (outlives floor v) (v ∷ ws) ws) i
+  by true true e i = rw (e, e) (ap (λ ws. v ∷ ws) i)
+  by true false e i = rw (e) i
+
+pub trimmed_next : (floor : ℕ) (k : KeyParts) (vs ws all : List Version) → ws ≡ trimmed_at floor k vs → trimmed floor vs ≡ all → trimmed floor ws ≡ all
+trimmed_next floor k vs ws all is h = ap (trimmed floor) is ∙ trimmed_one floor k vs ∙ h
 
 -- ---- in the versions
 

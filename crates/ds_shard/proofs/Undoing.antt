@@ -1,14 +1,17 @@
 -- What is done at a stamp is taken back, of the keys that were written and in the table.
-use Rattle.std.proofs.Common.{◌≡◌, ℕ, suc, zero, ◌+◌, ◌<◌, ◌≤◌, Bool, true, false, cond, List, [], ◌∷◌, ◌++◌, length, get_or, map, Option, Some, None, refl, sym, ap, ◌∙◌, subst, arith}
+use Rattle.std.proofs.Common.{◌≡◌, ℕ, suc, zero, ◌+◌, ◌<◌, ◌≤◌, Bool, true, false, cond, List, [], ◌∷◌, ◌++◌, length, get_or, drop, map, Option, Some, None, refl, sym, ap, ◌∙◌, subst, arith}
 use Rattle.std.specs.Prelude.{◌&&◌, ◌||◌, ◌==◌, if◌then◌else◌, IsTrue, flat_map}
 use Rattle.std.specs.List.{cons_option, filter_map, list_any}
 use Rattle.std.specs.Ordering.{is_lt}
+use Rattle.std.proofs.lemmas.List.{drop_more, drop_all}
 use Rattle.std.proofs.lemmas.Bool.Decides.{nat_tests}
 use Rattle.ds_base.specs.Keys.{KeyParts}
 use Rattle.ds_base.specs.KeyOrder.{key_cmp, same_key}
 use Rattle.ds_base.specs.KeyOrderLaws.{same_key-decides}
 use Rattle.ds_base.specs.Entities.{EntityParts}
 use Rattle.ds_indexdef.specs.declared.IndexDef.{IndexDef}
+use Rattle.ds_log.specs.declared.Write.{Write}
+use Rattle.ds_log.specs.Logs.{key_of}
 use Rattle.ds_rows.specs.Rows.{rows_of}
 use Rattle.ds_rows.specs.Versions.{Version}
 use Rattle.ds_table.specs.Each as table_each
@@ -193,3 +196,21 @@ begun-undone stamp k (v ∷ vs) h = by (same_key v.entity.key k) (v.from == stam
 pub begun-given : (stamp : ℕ) (vs : List Version) → Each (IsGiven stamp) vs → Each (BeginsBy stamp) vs
 begun-given stamp [] h = tt
 begun-given stamp (v ∷ vs) h = (h.0.begins, begun-given stamp vs h.1)
+
+-- ---- a loop over writes
+
+pub undone_next : (stamp : ℕ) (ws : List Write) (i : ℕ) (w : Write) → i < length ws → w ≡ get_or ws i w → (k : KeyParts) → k ≡ key_of w
+    → (vs us : List Version) → us ≡ undone stamp k vs → (all : List Version) → all_undone stamp (map key_of (drop i ws)) vs ≡ all
+    → all_undone stamp (map key_of (drop (i + 1) ws)) us ≡ all
+undone_next stamp ws i w h e k key vs us is all inv =
+    let rest = map key_of (drop (i + 1) ws) in
+    let here : k ≡ key_of (get_or ws i w) = key ∙ ap key_of e in
+    ap (all_undone stamp rest) (is ∙ ap (λ l. undone stamp l vs) here)
+    ∙ sym (undone-more stamp (key_of (get_or ws i w)) rest vs)
+    ∙ sym (ap (λ us. all_undone stamp (map key_of us) vs) (drop_more ws i w h))
+    ∙ inv
+
+pub undone_end : (stamp : ℕ) (ws : List Write) (i : ℕ) → length ws ≤ i → (vs all : List Version)
+    → all_undone stamp (map key_of (drop i ws)) vs ≡ all → vs ≡ all
+undone_end stamp ws i h vs all inv =
+    sym (undone-none stamp vs) ∙ sym (ap (λ us. all_undone stamp (map key_of us) vs) (drop_all i ws h)) ∙ inv
