@@ -17,3 +17,4 @@ mod Beginning
 mod Undoing
 mod Seeking
 mod Writing
+mod Absorbing

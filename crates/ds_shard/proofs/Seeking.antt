@@ -134,12 +134,12 @@ all_each P (x ∷ xs) h = All-cons P x xs h.0 (all_each P xs h.1)
 true_not_false : true ≡ false → ⊥
 true_not_false e = cc
 
-both : (a b : Bool) → (a && b) ≡ true → (a ≡ true) × (b ≡ true)
+pub both : (a b : Bool) → (a && b) ≡ true → (a ≡ true) × (b ≡ true)
 both true b h = (refl, h)
 both false b h = cc
 
-begun : (m n : ℕ) → nat_le m n ≡ true → m ≤ n
-begun m n e = grind (arith, nat_tests)
+pub le_of : (m n : ℕ) → nat_le m n ≡ true → m ≤ n
+le_of m n e = grind (arith, nat_tests)
 
 not_ended : (u : Option ℕ) (from stamp : ℕ) → EndsBy from u → from ≤ stamp → is_before u stamp ≡ true → ⊥
 not_ended None from stamp ends h e = ends
@@ -154,7 +154,7 @@ none_too stamp v s (w ∷ ws) h = by (is_seen stamp w) refl (none_too stamp v s 
   other e false k = k
   other e true k =
       let p : Precedes v w = h.0 k in
-      absurd (not_ended v.until w.from stamp p.ends (begun w.from stamp (both (nat_le w.from stamp) (is_before w.until stamp) e).0)
+      absurd (not_ended v.until w.from stamp p.ends (le_of w.from stamp (both (nat_le w.from stamp) (is_before w.until stamp) e).0)
       (both (nat_le v.from stamp) (is_before v.until stamp) s).1)
 
   by : (b : Bool) → is_seen stamp w ≡ b → AllByRecursion (λ k. same_key v.entity.key k ≡ false) (map (λ (e : EntityParts). e.key) (entities_at stamp ws))

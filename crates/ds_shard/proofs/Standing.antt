@@ -24,7 +24,7 @@ use Rattle.ds_shard.proofs.Kept.{seen-written, seen-trimmed, trimmed-twice}
 
 -- ---- the floor
 
-floor_is : (window count : ℕ) → 1 ≤ window → floor_of window count ≡ (count + 1) - window
+pub floor_is : (window count : ℕ) → 1 ≤ window → floor_of window count ≡ (count + 1) - window
 floor_is window count h = by (nat_lt count window) refl where
   by : (b : Bool) → b ≡ nat_lt count window → cond b 0 (count - window + 1) ≡ (count + 1) - window
   by true e = let l : count < window = grind (arith, nat_tests) in omega (arith, l)

@@ -53,7 +53,7 @@ each-with P v (w ∷ ws) p h = by (is_lt (key_cmp v.entity.key w.entity.key)) (e
   by true i = (p, h)
   by false i = (h.0, i)
 
-each-filter : (P : Version → Type 0) (p : Version → Bool) (vs : List Version) → Each P vs → Each P (filter p vs)
+pub each-filter : (P : Version → Type 0) (p : Version → Bool) (vs : List Version) → Each P vs → Each P (filter p vs)
 each-filter P p [] h = tt
 each-filter P p (v ∷ vs) h = by (p v) (each-filter P p vs h.1) where
   by : (b : Bool) → Each P (filter p vs) → Each P (cond b (v ∷ filter p vs) (filter p vs))
