@@ -53,7 +53,8 @@ module _ {X : Type 0} {R : X → X → Ordering} (o : IsTotalOrder R) (same : Is
 
   cancelled : (x y : X) (xs ys : List X) → x ≡ y → HaveSame (x ∷ xs) (y ∷ ys) → HaveSame xs ys
   cancelled x y xs ys e h = λ p.
-      let first : cond (p x) 1 0 ≡ cond (p y) 1 0 = ap (λ z. cond (p z) 1 0) e in
+      let weight : X → ℕ = λ z. cond (p z) 1 0 in
+      let first : weight x ≡ weight y = ap weight e in
       let both = h p in
       omega (arith, both, first)
 

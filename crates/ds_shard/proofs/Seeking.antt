@@ -20,9 +20,11 @@ use Rattle.ds_rows.specs.Versions.{Version, is_before, is_seen, entities_at, see
 use Rattle.ds_table.specs.Each as table_each
 use Rattle.ds_table.specs.Versions as table
 use Rattle.ds_table.specs.Blocks as blocks
+use Rattle.ds_table.specs.Seen.{Seen}
 use Rattle.ds_shard.specs.Histories.{Each, EndsBy, Precedes}
 use Rattle.ds_shard.specs.Rows.{row_of, rows_of_version, rows_of_versions}
 use Rattle.ds_shard.specs.Contents.{counted, HaveSame, PrecedesOwn, AreHistories}
+use Rattle.ds_shard.specs.Shards.{ShardParts}
 use Rattle.ds_shard.proofs.Counting.{counted_by, same-map, same-filter}
 use Rattle.ds_shard.proofs.Ordered.{in_order}
 use Rattle.ds_shard.proofs.Trimming.{ends_alike, filter_versions}
@@ -170,3 +172,26 @@ one_each stamp (v ∷ vs) h = by (is_seen stamp v) refl (one_each stamp vs h.1) 
       → IsDistinct same_key (map (λ (e : EntityParts). e.key) (entities_at stamp (v ∷ vs)))
   by true e i = rw e (none_too stamp v e vs h.0, i)
   by false e i = rw e i
+
+-- ---- a seek of a shard
+
+module _ (s : ShardParts) (stamp : ℕ) (w : Seen) (now : w.stamp ≡ stamp) (h : stamp < table.never)
+    (same : HaveSame w.versions (rows_of_versions s.definitions s.versions)) (a : List ℕ) (b : Option (List ℕ)) (found : Option (List ℕ))
+    (is : found ≡ find (table.in_range a b) (table.seen_rows w.stamp w.versions)) where
+  found_now : found ≡ find (table.in_range a b) (table.seen_rows stamp w.versions)
+  found_now = is ∙ ap (λ n. find (table.in_range a b) (table.seen_rows n w.versions)) now
+
+  pub sought_first : IsStrictlySortedBy bytes_cmp (table.seen_rows w.stamp w.versions) → found ≡ first_row a b (seen_rows s.definitions stamp s.versions)
+  sought_first up =
+      found_now
+      ∙ finds s.definitions stamp h w.versions s.versions same a b
+      (subst (λ n. IsStrictlySortedBy bytes_cmp (table.seen_rows n w.versions)) now up)
+
+  pub sought_steps : blocks.IsOrdered w.versions → (old new : ℕ)
+      → new ≡ old + 1 + table.unseen_before w.stamp (table.versions_within a b w.versions)
+      → new ≤ old + 1 + rows_passed a b found (unseen_rows s.definitions stamp s.versions)
+  sought_steps o old new steps =
+      let one = steps_within s.definitions stamp h w.versions s.versions same a b o in
+      let two = ap (λ n. table.unseen_before n (table.versions_within a b w.versions)) now in
+      let three = ap (λ f. rows_passed a b f (unseen_rows s.definitions stamp s.versions)) found_now in
+      omega (arith, steps, one, two, three)
