@@ -1,6 +1,6 @@
 -- The versions of one key stay a history as one is added, ended, taken back or taken out.
-use Rattle.std.proofs.Common.{◌≡◌, ℕ, ◌<◌, ◌≤◌, Bool, true, false, cond, List, [], ◌∷◌, ◌++◌, map, Option, Some, None, refl, sym, ap, ◌∙◌, subst, arith}
-use Rattle.std.specs.Prelude.{filter, nat_eq, nat_lt, if◌then◌else◌}
+use Rattle.std.proofs.Common.{◌≡◌, ℕ, ◌<◌, ◌≤◌, Bool, true, false, cond, List, [], ◌∷◌, ◌++◌, map, Option, Some, None, refl, sym, ap, subst, arith}
+use Rattle.std.specs.Prelude.{filter, nat_eq, if◌then◌else◌}
 use Rattle.std.specs.List.{filter_map}
 use Rattle.std.proofs.lemmas.List.{map-append}
 use Rattle.std.proofs.lemmas.Bool.Decides.{nat_tests}
@@ -55,6 +55,10 @@ history-first (v ∷ vs) ws h = (h.0, each-first (Precedes v) vs ws h.1, history
 abbrev pub end_open : ℕ → Version → Version
 end_open stamp v = if is_open v.until then until_stamp (Some stamp) v else v
 
+pub map_kept : (f : Version → Version) (vs : List Version) → filter_map (λ v. Some (f v)) vs ≡ map f vs
+map_kept f [] = refl
+map_kept f (v ∷ vs) = ap (λ ws. f v ∷ ws) (map_kept f vs)
+
 kept_end : (v : Version) (stamp n : ℕ) → EndsBy n v.until → end_open stamp v ≡ v
 kept_end v stamp n h = rw (closed v.until n h) refl
 
@@ -104,11 +108,11 @@ pub history-undone : (stamp : ℕ) (vs : List Version) → Each (BeginsBy stamp)
 history-undone stamp [] b h = tt
 history-undone stamp (v ∷ vs) b h =
     by (nat_eq v.from stamp) (ends_at stamp v.until) refl refl (history-undone stamp vs b.1 h.2) where
-  by : (c d : Bool) → nat_eq v.from stamp ≡ c → ends_at stamp v.until ≡ d → IsHistory (filter_map (before_stamp stamp) vs)
-      → IsHistory (filter_map (before_stamp stamp) (v ∷ vs))
-  by true d e f i = rw e i
-  by false true e f i = rw (e, f, none_after stamp v vs (ended_there stamp v.until f) b.1 h.1) (tt, tt, tt)
-  by false false e f i = rw (e, f) (h.0, each-undone stamp v vs h.1, i)
+      by : (c d : Bool) → nat_eq v.from stamp ≡ c → ends_at stamp v.until ≡ d → IsHistory (filter_map (before_stamp stamp) vs)
+          → IsHistory (filter_map (before_stamp stamp) (v ∷ vs))
+      by true d e f i = rw e i
+      by false true e f i = rw (e, f, none_after stamp v vs (ended_there stamp v.until f) b.1 h.1) (tt, tt, tt)
+      by false false e f i = rw (e, f) (h.0, each-undone stamp v vs h.1, i)
 
 -- ---- a floor
 

@@ -1,9 +1,8 @@
 -- The version that is seen at a stamp is the last one that began by it, unless that one has ended.
 use Rattle.std.proofs.Common.{◌≡◌, ℕ, zero, suc, ◌-◌, ◌<◌, ◌≤◌, Bool, true, false, cond, List, [], ◌∷◌, length, map, get_or, Option, Some, None, refl, sym, ap, ◌∙◌, subst, arith}
-use Rattle.std.specs.Prelude.{find, option_map, ◌&&◌, nat_le, nat_lt}
+use Rattle.std.specs.Prelude.{find, option_map, nat_le, nat_lt}
 use Rattle.std.specs.List.Sorted.{IsPartitionPoint, IsPartitionedBy}
 use Rattle.std.proofs.lemmas.Bool.Decides.{nat_tests}
-use Rattle.ds_base.specs.Entities.{EntityParts}
 use Rattle.ds_rows.specs.Versions.{Version, is_before, is_seen}
 use Rattle.ds_shard.specs.declared.version_list.Kept.{Kept}
 use Rattle.ds_shard.specs.Histories.{Each, EndsBy, Precedes, IsHistory, version_of}

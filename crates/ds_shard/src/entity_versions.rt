@@ -117,11 +117,7 @@ fn end_in(map: &mut BTreeMap<Key, VersionList>, key: &Key, stamp: u64)
 }
 
 /// Makes an empty list for the key where there is none; the versions stay.
-fn make_list(
-    map: &mut BTreeMap<Key, VersionList>,
-    alloc: Global,
-    key: &Key,
-) -> Result<(), NoMemory>
+fn make_list(map: &mut BTreeMap<Key, VersionList>, alloc: Global, key: &Key) -> Result<(), NoMemory>
     requires { AreByKey map.old.entries }
     ensures by_key { AreByKey map.new.entries }
     ensures same { joined map.new.entries ≡ joined map.old.entries }

@@ -1,6 +1,6 @@
 use Rattle.std.proofs.Common.{None}
 use Rattle.ds_rows.specs.Versions.{Version}
-use Rattle.ds_shard.proofs.ByKey.{over_there, begun_by_key, begun_is, unbegun_is}
+use Rattle.ds_shard.proofs.KeyCalls.{over_there, begun_by_key, begun_is, unbegun_is}
 use Rattle.ds_shard.proofs.entity_versions.begin_in.Goals as goal
 
 pub begin-requires : goal.begin-requires

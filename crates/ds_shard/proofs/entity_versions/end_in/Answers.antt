@@ -1,7 +1,8 @@
 use Rattle.std.proofs.Common.{Some, sym, ap, ◌∙◌}
 use Rattle.ds_shard.specs.Histories.{BeginsBy, joined}
-use Rattle.ds_shard.proofs.HistoryLaws.{end_open}
-use Rattle.ds_shard.proofs.ByKey.{nothing_changed, changed, changed_by_key, each_found, ended_local, map_kept, end_keeps}
+use Rattle.ds_shard.proofs.HistoryLaws.{end_open, map_kept}
+use Rattle.ds_shard.proofs.ByKey.{each_found, ended_local}
+use Rattle.ds_shard.proofs.KeyCalls.{nothing_changed, changed, changed_by_key, end_keeps}
 use Rattle.ds_shard.proofs.entity_versions.end_in.Goals as goal
 
 pub end-requires : goal.end-requires

@@ -1,4 +1,4 @@
-use Rattle.ds_shard.proofs.ByKey.{absent, made_is, made_by_key}
+use Rattle.ds_shard.proofs.KeyCalls.{absent, made_is, made_by_key}
 use Rattle.ds_shard.proofs.entity_versions.make_list.Goals as goal
 
 pub returns-in_ok-insert-clause-by_key : goal.returns-in_ok-insert-clause-by_key

@@ -1,6 +1,7 @@
 use Rattle.std.proofs.Common.{sym, ap, ◌∙◌}
 use Rattle.ds_shard.specs.Histories.{joined, outlives}
-use Rattle.ds_shard.proofs.ByKey.{nothing_changed, changed, changed_by_key, trimmed_local, filter_kept, outliving, outliving_keeps}
+use Rattle.ds_shard.proofs.ByKey.{trimmed_local, filter_kept, outliving}
+use Rattle.ds_shard.proofs.KeyCalls.{nothing_changed, changed, changed_by_key, outliving_keeps}
 use Rattle.ds_shard.proofs.entity_versions.trim_in.Goals as goal
 
 pub returns-in-Some-clause-by_key : goal.returns-in-Some-clause-by_key

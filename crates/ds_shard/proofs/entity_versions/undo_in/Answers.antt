@@ -1,6 +1,7 @@
 use Rattle.std.proofs.Common.{sym, ap}
 use Rattle.ds_shard.specs.Histories.{BeginsBy, before_stamp}
-use Rattle.ds_shard.proofs.ByKey.{nothing_changed, changed, changed_by_key, each_found, before_keeps}
+use Rattle.ds_shard.proofs.ByKey.{each_found}
+use Rattle.ds_shard.proofs.KeyCalls.{nothing_changed, changed, changed_by_key, before_keeps}
 use Rattle.ds_shard.proofs.entity_versions.undo_in.Goals as goal
 
 pub undo-requires : goal.undo-requires

@@ -1,5 +1,5 @@
 use Rattle.std.proofs.Common.{Some, None, ◌∙◌}
-use Rattle.ds_shard.proofs.ByKey.{current_there}
+use Rattle.ds_shard.proofs.KeyCalls.{current_there}
 use Rattle.ds_shard.proofs.entity_versions.EntityVersions.current.Goals as goal
 
 pub returns-in-Some : goal.returns-in-Some

@@ -1,5 +1,5 @@
 use Rattle.std.proofs.Common.{Some, None, ◌∙◌}
-use Rattle.ds_shard.proofs.ByKey.{seen_there}
+use Rattle.ds_shard.proofs.KeyCalls.{seen_there}
 use Rattle.ds_shard.proofs.entity_versions.EntityVersions.seen_at.Goals as goal
 
 pub returns-in-Some : goal.returns-in-Some
