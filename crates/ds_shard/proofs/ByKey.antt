@@ -1,6 +1,6 @@
 -- The versions of all keys, where the versions of one key are read or changed.
-use Rattle.std.proofs.Common.{◌≡◌, ℕ, Bool, true, false, cond, List, [], ◌∷◌, ◌++◌, map, Option, Some, None, Result, Ok, Err, refl, sym, ap, ◌∙◌, subst, append_assoc}
-use Rattle.std.specs.Prelude.{◌&&◌, find, filter, option_map, OnOk, OnErr, is_some, nat_eq, if◌then◌else◌}
+use Rattle.std.proofs.Common.{◌≡◌, ℕ, Bool, true, false, cond, List, [], ◌∷◌, ◌++◌, Option, Some, None, refl, sym, ap, ◌∙◌, subst, append_assoc}
+use Rattle.std.specs.Prelude.{◌&&◌, find, filter, option_map, if◌then◌else◌}
 use Rattle.std.specs.List.{filter_map, AllByRecursion, cons_option}
 use Rattle.std.specs.List.Sorted.{IsStrictlySortedBy}
 use Rattle.std.specs.Map.{keys_of, lookup, set_value, remove_entry}
@@ -9,15 +9,14 @@ use Rattle.std.specs.Ordering.{is_eq, is_lt, ordering_reverse}
 use Rattle.std.specs.declared.cmp.Ordering.{Ordering}
 use Rattle.std.specs.declared.cmp.Ordering.TheVariants.{Less, Equal, Greater}
 use Rattle.std.proofs.lemmas.List.{append-nil}
-use Rattle.std.proofs.lemmas.Map.Steps.{set_value_same}
 use Rattle.std.proofs.lemmas.List.Elements.{filter-append, filter_map-append}
 use Rattle.ds_base.specs.Keys.{KeyParts}
 use Rattle.ds_base.specs.KeyOrder.{key_cmp, same_key}
 use Rattle.ds_base.specs.KeyOrderLaws.{key_cmp-total, key_cmp-same, key_cmp-Equal}
 use Rattle.ds_base.specs.Entities.{EntityParts}
 use Rattle.ds_rows.specs.Versions.{Version, is_seen, entities_at}
-use Rattle.ds_shard.specs.Histories.{Each, IsHistory, IsOver, IsOverAt, is_open, is_current, until_stamp, before_stamp, ends_at, ended, trimmed_at, outlives, with_version, joined, AreOwn, AreByKey}
-use Rattle.ds_shard.proofs.HistoryLaws.{end_open, map_kept}
+use Rattle.ds_shard.specs.Histories.{Each, IsHistory, IsOver, IsOverAt, is_open, until_stamp, ended, trimmed_at, outlives, with_version, joined, AreOwn}
+use Rattle.ds_shard.proofs.HistoryLaws.{end_open}
 
 abbrev pub Entry : Type 0
 Entry = KeyParts × List Version
@@ -78,7 +77,8 @@ local-own : (g : Version → Option Version) (k j : KeyParts) (vs : List Version
 local-own g k j [] e h = refl
 local-own g k j (v ∷ vs) e h = rw (same_self v.entity.key k (h.0 ∙ sym e)) (ap (cons_option (g v)) (local-own g k j vs e h.1))
 
-local-other : (g : Version → Option Version) (k j : KeyParts) (vs : List Version) → same_key j k ≡ false → Each (Own j) vs → local g k vs ≡ vs
+local-other : (g : Version → Option Version) (k j : KeyParts) (vs : List Version) → same_key j k ≡ false → Each (Own j) vs
+    → local g k vs ≡ vs
 local-other g k j [] e h = refl
 local-other g k j (v ∷ vs) e h =
     let other : same_key v.entity.key k ≡ false = ap (λ x. same_key x k) h.0 ∙ e in
@@ -179,7 +179,8 @@ pub own_set : (k : KeyParts) (es : List Entry) (ws : List Version) → AreOwn es
     → AreOwn (set_value (is_at (key_cmp k)) es ws)
 own_set k [] ws o own h = tt
 own_set k (e ∷ es) ws o own h = by (key_cmp k e.0) refl (own_set k es ws o.2 own h) where
-  by : (r : Ordering) → key_cmp k e.0 ≡ r → AreOwn (set_value (is_at (key_cmp k)) es ws) → AreOwn (set_value (is_at (key_cmp k)) (e ∷ es) ws)
+  by : (r : Ordering) → key_cmp k e.0 ≡ r → AreOwn (set_value (is_at (key_cmp k)) es ws)
+      → AreOwn (set_value (is_at (key_cmp k)) (e ∷ es) ws)
   by Less c i = rw c (o.0, o.1, i)
   by Equal c i = rw c (subst (λ x. Each (Own x) ws) (key_cmp-same k e.0 c) own, h, o.2)
   by Greater c i = rw c (o.0, o.1, i)
@@ -195,7 +196,8 @@ found_own k (e ∷ es) vs o s = by (key_cmp k e.0) refl (found_own k es vs o.2) 
       subst (λ ws. Each (Own k) ws) is (subst (λ x. Each (Own x) e.1) (sym (key_cmp-same k e.0 c)) o.0)
   by Greater c i = i (rw c at s)
 
-pub own_found : (g : Version → Option Version) → Keeps g → (k : KeyParts) (es : List Entry) (vs : List Version) → AreOwn es → at_key k es ≡ Some vs
+pub own_found : (g : Version → Option Version) → Keeps g → (k : KeyParts) (es : List Entry) (vs : List Version) → AreOwn es
+    → at_key k es ≡ Some vs
     → Each (Own k) (filter_map g vs)
 own_found g keeps k es vs o s = own-kept g keeps k vs (found_own k es vs o s)
 
@@ -203,7 +205,8 @@ each_joined : (P : Version → Type 0) (xs ys : List Version) → Each P (xs ++ 
 each_joined P [] ys h = (tt, h)
 each_joined P (x ∷ xs) ys h = let rest = each_joined P xs ys h.1 in ((h.0, rest.0), rest.1)
 
-pub each_found : (P : Version → Type 0) (k : KeyParts) (es : List Entry) (vs : List Version) → Each P (joined es) → at_key k es ≡ Some vs → Each P vs
+pub each_found : (P : Version → Type 0) (k : KeyParts) (es : List Entry) (vs : List Version) → Each P (joined es)
+    → at_key k es ≡ Some vs → Each P vs
 each_found P k [] vs h s = cc
 each_found P k (e ∷ es) vs h s = by (key_cmp k e.0) refl (each_found P k es vs (each_joined P e.1 (joined es) h).1) where
   by : (r : Ordering) → key_cmp k e.0 ≡ r → (at_key k es ≡ Some vs → Each P vs) → Each P vs
@@ -330,7 +333,8 @@ none-own k j (v ∷ vs) e h =
     let other : same_key v.entity.key k ≡ false = ap (λ x. same_key x k) h.0 ∙ e in
     rw other (none-own k j vs e h.1)
 
-filter-cons : (k : KeyParts) (e : Entry) (es : List Entry) (vs ws : List Version) → filter (of_key k) e.1 ≡ vs → filter (of_key k) (joined es) ≡ ws
+filter-cons : (k : KeyParts) (e : Entry) (es : List Entry) (vs ws : List Version) → filter (of_key k) e.1 ≡ vs
+    → filter (of_key k) (joined es) ≡ ws
     → filter (of_key k) (joined (e ∷ es)) ≡ vs ++ ws
 filter-cons k e es vs ws is rest =
     filter-append (of_key k) e.1 (joined es) ∙ (ap (λ xs. xs ++ filter (of_key k) (joined es)) is ∙ ap (λ xs. vs ++ xs) rest)
@@ -359,7 +363,8 @@ filter_joined k (e ∷ es) o a = by (key_cmp k e.0) refl (filter_joined k es o.2
 find_both : (p q : Version → Bool) (vs : List Version) → find (λ v. p v && q v) vs ≡ find q (filter p vs)
 find_both p q [] = refl
 find_both p q (v ∷ vs) = by (p v) refl (find_both p q vs) where
-  by : (b : Bool) → p v ≡ b → find (λ v. p v && q v) vs ≡ find q (filter p vs) → find (λ v. p v && q v) (v ∷ vs) ≡ find q (filter p (v ∷ vs))
+  by : (b : Bool) → p v ≡ b → find (λ v. p v && q v) vs ≡ find q (filter p vs)
+      → find (λ v. p v && q v) (v ∷ vs) ≡ find q (filter p (v ∷ vs))
   by true e i = rw e (ap (cond (q v) (Some v)) i)
   by false e i = rw e i
 

@@ -1,5 +1,5 @@
 -- What a call that reads or changes the versions of one key leaves of all.
-use Rattle.std.proofs.Common.{◌≡◌, ℕ, Bool, true, false, cond, List, [], ◌∷◌, ◌++◌, Option, Some, None, Result, Ok, Err, refl, sym, ap, ◌∙◌, subst}
+use Rattle.std.proofs.Common.{◌≡◌, ℕ, Bool, true, false, List, [], ◌∷◌, ◌++◌, Option, Some, None, Result, Ok, Err, refl, sym, ap, ◌∙◌, subst}
 use Rattle.std.specs.Prelude.{find, option_map, OnOk, OnErr, is_some, nat_eq}
 use Rattle.std.specs.List.{filter_map}
 use Rattle.std.specs.Map.{set_value}
@@ -45,7 +45,8 @@ module _ (g : Version → Option Version) (k : KeyParts) (es : List Entry) (by_k
       ascend = a;
     }
 
-pub over_there : (stamp : ℕ) (k j : KeyParts) (es : List Entry) (vs : List Version) → j ≡ k → AreByKey es → Each (IsOverAt stamp k) (joined es)
+pub over_there : (stamp : ℕ) (k j : KeyParts) (es : List Entry) (vs : List Version) → j ≡ k → AreByKey es
+    → Each (IsOverAt stamp k) (joined es)
     → Some vs ≡ at_key j es → Each (IsOver stamp) vs
 over_there stamp k j es vs key by_key h found = over_found stamp k es vs by_key.own h (sym (found ∙ ap (λ x. at_key x es) key))
 
@@ -57,7 +58,8 @@ module _ (v : Version) (k : KeyParts) (key : k ≡ v.entity.key) (es ns : List E
   found_there : at_key v.entity.key es ≡ Some vs
   found_there = sym (found ∙ ap (λ x. at_key x es) key)
 
-  pub begun_by_key : {A E : Type 0} (r : Result A E) → OnOk r (ws ≡ vs ++ v ∷ []) → OnErr r (ws ≡ vs) → OnOk r (IsHistory ws) → Ascend ns → AreByKey ns
+  pub begun_by_key : {A E : Type 0} (r : Result A E) → OnOk r (ws ≡ vs ++ v ∷ []) → OnErr r (ws ≡ vs) → OnOk r (IsHistory ws)
+      → Ascend ns → AreByKey ns
   begun_by_key (Ok x) b u h a = record {
     own = subst AreOwn (sym at_own)
         (own_set v.entity.key es ws by_key.own
@@ -81,7 +83,8 @@ module _ (v : Version) (k : KeyParts) (key : k ≡ v.entity.key) (es ns : List E
   pub unbegun_is : {A E : Type 0} (r : Result A E) → OnErr r (ws ≡ vs) → OnErr r (joined ns ≡ joined es)
   unbegun_is (Ok x) u = tt
   unbegun_is (Err e) u =
-      ap joined (at_own ∙ (ap (set_value (is_at (key_cmp v.entity.key)) es) u ∙ set_value_same (is_at (key_cmp v.entity.key)) es vs found_there))
+      ap joined (at_own ∙ (ap (set_value (is_at (key_cmp v.entity.key)) es) u
+      ∙ set_value_same (is_at (key_cmp v.entity.key)) es vs found_there))
 
 pub absent : {X : Type 0} (o : Option X) (b : Bool) → b ≡ is_some o → b ≡ false → o ≡ None
 absent None b e f = refl
@@ -119,7 +122,10 @@ module _ (k : KeyParts) (es : List Entry) (by_key : AreByKey es) (o : Option (Li
 pub end_keeps : (stamp : ℕ) → Keeps (λ v. Some (end_open stamp v))
 end_keeps stamp v w e = by (is_open v.until) refl where
   by : (b : Bool) → is_open v.until ≡ b → w.entity ≡ v.entity
-  by true o = let f : Some (until_stamp (Some stamp) v) ≡ Some w = rw o at e in let g : until_stamp (Some stamp) v ≡ w = cc in ap (λ (x : Version). x.entity) (sym g)
+  by true o =
+      let f : Some (until_stamp (Some stamp) v) ≡ Some w = rw o at e in
+      let g : until_stamp (Some stamp) v ≡ w = cc in
+      ap (λ (x : Version). x.entity) (sym g)
   by false o = let f : Some v ≡ Some w = rw o at e in let g : v ≡ w = cc in ap (λ (x : Version). x.entity) (sym g)
 
 pub before_keeps : (stamp : ℕ) → Keeps (before_stamp stamp)

@@ -14,7 +14,8 @@ use Rattle.ds_shard.proofs.HistoryLaws.{closed, end_open, eq_false, each-first, 
 is_last : (n : ℕ) → 0 < n → n ≡ suc (n - 1)
 is_last n h = omega (arith, h)
 
-each_of : (P : Version → Type 0) (xs : List Kept) (m : ℕ) (k : Kept) → m < length xs → k ≡ get_or xs m k → Each P (map version_of xs) → P (version_of k)
+each_of : (P : Version → Type 0) (xs : List Kept) (m : ℕ) (k : Kept) → m < length xs → k ≡ get_or xs m k → Each P (map version_of xs)
+    → P (version_of k)
 each_of P [] m k l is h = absurd (omega (arith, l))
 each_of P (x ∷ xs) zero k l is h = subst (λ (y : Kept). P (version_of y)) (sym is) h.0
 each_of P (x ∷ xs) (suc m) k l is h = let less : m < length xs = omega (arith, l) in each_of P xs m k less is h.1
@@ -39,7 +40,8 @@ pub current_is : (n : ℕ) (xs : List Kept) (vs : List Version) (k : Kept) → n
     → IsHistory (map version_of xs) → map version_of xs ≡ vs
     → cond (is_open k.until) (Some k.entity) None ≡ option_map (λ (v : Version). v.entity) (find (λ v. is_open v.until) vs)
 current_is n xs vs k long p is h view =
-    find_last xs (n - 1) k (sym long ∙ is_last n p) is h ∙ ap (λ ws. option_map (λ (v : Version). v.entity) (find (λ v. is_open v.until) ws)) view
+    find_last xs (n - 1) k (sym long ∙ is_last n p) is h
+    ∙ ap (λ ws. option_map (λ (v : Version). v.entity) (find (λ v. is_open v.until) ws)) view
 
 -- ---- the last one is changed
 
@@ -62,7 +64,8 @@ last_changed g (x ∷ y ∷ ys) (suc m) k l e h is keeps last =
 ended_stays : (stamp : ℕ) (v w : Version) → Precedes v w → end_open stamp v ≡ v
 ended_stays stamp v w p = rw (closed v.until w.from p.ends) refl
 
-pub ends_last : (stamp n : ℕ) (xs : List Kept) (k l : Kept) → n ≡ length xs → IsHistory (map version_of xs) → 0 < n → k ≡ get_or xs (n - 1) k
+pub ends_last : (stamp n : ℕ) (xs : List Kept) (k l : Kept) → n ≡ length xs → IsHistory (map version_of xs) → 0 < n
+    → k ≡ get_or xs (n - 1) k
     → version_of l ≡ end_open stamp (version_of k) → map version_of (slice_set xs (n - 1) l) ≡ map (end_open stamp) (map version_of xs)
 ends_last stamp n xs k l long h p is new =
     last_changed (λ v. Some (end_open stamp v)) xs (n - 1) k l (sym long ∙ is_last n p) h is
@@ -93,7 +96,8 @@ last-push stamp (w ∷ x ∷ vs) v = last-push stamp (x ∷ vs) v
 abbrev pub back : ℕ → List Kept → List Version
 back stamp xs = filter_map (before_stamp stamp) (map version_of xs)
 
-pub back_off : (stamp : ℕ) (xs ys : List Kept) (o : Option Kept) → xs ≡ ys ++ option_to_list o → last_begins_at stamp (map version_of xs) ≡ true
+pub back_off : (stamp : ℕ) (xs ys : List Kept) (o : Option Kept) → xs ≡ ys ++ option_to_list o
+    → last_begins_at stamp (map version_of xs) ≡ true
     → back stamp ys ≡ back stamp xs
 back_off stamp xs ys None is b = ap (back stamp) (sym (is ∙ append-nil ys))
 back_off stamp xs ys (Some k) is b =

@@ -42,7 +42,8 @@ impl Kept {
 
     /// Ends the version at the stamp, unless it has ended.
     fn end(&mut self, stamp: u64)
-        ensures { version_of self.new ≡ (if is_open self.old.until then until_stamp (Some stamp) (version_of self.old) else version_of self.old) }
+        ensures { version_of self.new ≡
+            (if is_open self.old.until then until_stamp (Some stamp) (version_of self.old) else version_of self.old) }
     {
         if let None = self.until {
             self.until = Some(stamp);
@@ -51,7 +52,8 @@ impl Kept {
 
     /// Opens the version where it ended at the stamp.
     fn reopen(&mut self, stamp: u64)
-        ensures { version_of self.new ≡ (if ends_at stamp self.old.until then until_stamp None (version_of self.old) else version_of self.old) }
+        ensures { version_of self.new ≡
+            (if ends_at stamp self.old.until then until_stamp None (version_of self.old) else version_of self.old) }
     {
         if ends_at(self.until, stamp) {
             self.until = None;

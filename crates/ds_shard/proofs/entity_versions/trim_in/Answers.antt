@@ -8,14 +8,16 @@ pub returns-in-Some-clause-by_key : goal.returns-in-Some-clause-by_key
 returns-in-Some-clause-by_key c =
     let w = c.trim.new.self in
     changed_by_key (outliving c.args.floor) c.args.key.now c.args.map.now.entries c.requires c.in-Some.list.now w _
-    c.in-Some.ensures.value (c.trim.ensures.trimmed ∙ sym (filter_kept (outlives c.args.floor) c.in-Some.list.now)) (c.get_mut.follows.holds w).0
+    c.in-Some.ensures.value (c.trim.ensures.trimmed ∙ sym (filter_kept (outlives c.args.floor) c.in-Some.list.now))
+    (c.get_mut.follows.holds w).0
     (outliving_keeps c.args.floor) c.trim.ensures.history (c.get_mut.follows.holds w).4
 
 pub returns-in-Some-clause-trimmed : goal.returns-in-Some-clause-trimmed
 returns-in-Some-clause-trimmed c =
     let w = c.trim.new.self in
     changed (outliving c.args.floor) c.args.key.now c.args.map.now.entries c.requires c.in-Some.list.now w _
-    c.in-Some.ensures.value (c.trim.ensures.trimmed ∙ sym (filter_kept (outlives c.args.floor) c.in-Some.list.now)) (c.get_mut.follows.holds w).0
+    c.in-Some.ensures.value (c.trim.ensures.trimmed ∙ sym (filter_kept (outlives c.args.floor) c.in-Some.list.now))
+    (c.get_mut.follows.holds w).0
     ∙ sym (trimmed_local c.args.floor c.args.key.now (joined c.args.map.now.entries))
 
 pub returns-in_default-clause-trimmed : goal.returns-in_default-clause-trimmed

@@ -5,7 +5,9 @@ use Rattle.ds_shard.proofs.KeyCalls.{nothing_changed, changed, changed_by_key, b
 use Rattle.ds_shard.proofs.entity_versions.undo_in.Goals as goal
 
 pub undo-requires : goal.undo-requires
-undo-requires c = each_found (BeginsBy c.args.stamp) c.args.key.now c.args.map.now.entries c.in-Some.list.now c.requires.begun (sym c.in-Some.ensures.value)
+undo-requires c =
+    each_found (BeginsBy c.args.stamp) c.args.key.now c.args.map.now.entries c.in-Some.list.now c.requires.begun
+    (sym c.in-Some.ensures.value)
 
 pub returns-in-Some-clause-by_key : goal.returns-in-Some-clause-by_key
 returns-in-Some-clause-by_key c =
