@@ -1,5 +1,5 @@
 //! The versions of one entity.
-ghost use Rattle.std.specs.Prelude.{◌≡◌, ◌++◌, [], ◌∷◌, None, Some, cond, map, find, option_map, if◌then◌else◌, OnOk, OnErr, IsFalse, IsTrue};
+ghost use Rattle.std.specs.Prelude.{◌≡◌, ◌↔◌, ◌++◌, [], ◌∷◌, None, Some, cond, map, find, option_map, if◌then◌else◌, OnOk, OnErr, IsFalse, IsTrue};
 ghost use Rattle.std.specs.List.{filter_map};
 ghost use Rattle.std.specs.Option.{option_copied};
 ghost use Rattle.ds_rows.specs.Versions.{Version, is_before, is_seen};
@@ -101,7 +101,7 @@ impl VersionList {
 
     /// Whether there is no version.
     pub(crate) fn is_empty(&self) -> bool
-        ensures { IsTrue result → self.now ≡ [] }
+        ensures { IsTrue result ↔ (self.now ≡ []) }
     {
         self.items.is_empty()
     }
