@@ -1,29 +1,27 @@
 -- The versions of all keys, where the versions of one key are read or changed.
-use Rattle.std.proofs.Common.{◌≡◌, ℕ, ◌≤◌, Bool, true, false, cond, List, [], ◌∷◌, ◌++◌, map, Option, Some, None, Result, Ok, Err, refl, sym, ap, ◌∙◌, subst, append_assoc, arith}
-use Rattle.std.specs.Prelude.{⊤, ◌&&◌, find, filter, option_map, IsTrue, OnOk, OnErr, is_some, nat_eq, if◌then◌else◌}
+use Rattle.std.proofs.Common.{◌≡◌, ℕ, Bool, true, false, cond, List, [], ◌∷◌, ◌++◌, Option, Some, None, refl, sym, ap, ◌∙◌, subst, append_assoc}
+use Rattle.std.specs.Prelude.{◌&&◌, find, filter, option_map, if◌then◌else◌}
 use Rattle.std.specs.List.{filter_map, AllByRecursion, cons_option}
 use Rattle.std.specs.List.Sorted.{IsStrictlySortedBy}
 use Rattle.std.specs.Map.{keys_of, lookup, set_value, remove_entry}
 use Rattle.std.specs.BTreeMap.{insert_entry, is_at}
-use Rattle.std.specs.Cmp.{IsTotalOrder}
 use Rattle.std.specs.Ordering.{is_eq, is_lt, ordering_reverse}
 use Rattle.std.specs.declared.cmp.Ordering.{Ordering}
 use Rattle.std.specs.declared.cmp.Ordering.TheVariants.{Less, Equal, Greater}
 use Rattle.std.proofs.lemmas.List.{append-nil}
-use Rattle.std.proofs.lemmas.Map.Steps.{set_value_same}
 use Rattle.std.proofs.lemmas.List.Elements.{filter-append, filter_map-append}
 use Rattle.ds_base.specs.Keys.{KeyParts}
 use Rattle.ds_base.specs.KeyOrder.{key_cmp, same_key}
 use Rattle.ds_base.specs.KeyOrderLaws.{key_cmp-total, key_cmp-same, key_cmp-Equal}
 use Rattle.ds_base.specs.Entities.{EntityParts}
 use Rattle.ds_rows.specs.Versions.{Version, is_seen, entities_at}
-use Rattle.ds_shard.specs.Histories.{Each, Precedes, IsHistory, IsOver, IsOverAt, is_open, is_current, until_stamp, before_stamp, ends_at, ended, undone, trimmed_at, outlives, with_version, joined, AreOwn, AreByKey}
+use Rattle.ds_shard.specs.Histories.{Each, IsHistory, IsOver, IsOverAt, is_open, until_stamp, ended, trimmed_at, outlives, with_version, joined, AreOwn}
 use Rattle.ds_shard.proofs.HistoryLaws.{end_open}
 
-abbrev Entry : Type 0
+abbrev pub Entry : Type 0
 Entry = KeyParts × List Version
 
-abbrev Own : KeyParts → Version → Type 0
+abbrev pub Own : KeyParts → Version → Type 0
 Own k v = v.entity.key ≡ k
 
 -- the key at which the look-up is
@@ -79,7 +77,8 @@ local-own : (g : Version → Option Version) (k j : KeyParts) (vs : List Version
 local-own g k j [] e h = refl
 local-own g k j (v ∷ vs) e h = rw (same_self v.entity.key k (h.0 ∙ sym e)) (ap (cons_option (g v)) (local-own g k j vs e h.1))
 
-local-other : (g : Version → Option Version) (k j : KeyParts) (vs : List Version) → same_key j k ≡ false → Each (Own j) vs → local g k vs ≡ vs
+local-other : (g : Version → Option Version) (k j : KeyParts) (vs : List Version) → same_key j k ≡ false → Each (Own j) vs
+    → local g k vs ≡ vs
 local-other g k j [] e h = refl
 local-other g k j (v ∷ vs) e h =
     let other : same_key v.entity.key k ≡ false = ap (λ x. same_key x k) h.0 ∙ e in
@@ -144,10 +143,6 @@ ended_local stamp k (v ∷ vs) = by (same_key v.entity.key k) (is_open v.until) 
   by true false e f i = rw (e, f) (ap (λ ws. v ∷ ws) i)
   by false c e f i = rw e (ap (λ ws. v ∷ ws) i)
 
-pub map_kept : (f : Version → Version) (vs : List Version) → filter_map (λ v. Some (f v)) vs ≡ map f vs
-map_kept f [] = refl
-map_kept f (v ∷ vs) = ap (λ ws. f v ∷ ws) (map_kept f vs)
-
 abbrev pub outliving : ℕ → Version → Option Version
 outliving floor v = cond (outlives floor v) (Some v) None
 
@@ -184,7 +179,8 @@ pub own_set : (k : KeyParts) (es : List Entry) (ws : List Version) → AreOwn es
     → AreOwn (set_value (is_at (key_cmp k)) es ws)
 own_set k [] ws o own h = tt
 own_set k (e ∷ es) ws o own h = by (key_cmp k e.0) refl (own_set k es ws o.2 own h) where
-  by : (r : Ordering) → key_cmp k e.0 ≡ r → AreOwn (set_value (is_at (key_cmp k)) es ws) → AreOwn (set_value (is_at (key_cmp k)) (e ∷ es) ws)
+  by : (r : Ordering) → key_cmp k e.0 ≡ r → AreOwn (set_value (is_at (key_cmp k)) es ws)
+      → AreOwn (set_value (is_at (key_cmp k)) (e ∷ es) ws)
   by Less c i = rw c (o.0, o.1, i)
   by Equal c i = rw c (subst (λ x. Each (Own x) ws) (key_cmp-same k e.0 c) own, h, o.2)
   by Greater c i = rw c (o.0, o.1, i)
@@ -200,7 +196,8 @@ found_own k (e ∷ es) vs o s = by (key_cmp k e.0) refl (found_own k es vs o.2) 
       subst (λ ws. Each (Own k) ws) is (subst (λ x. Each (Own x) e.1) (sym (key_cmp-same k e.0 c)) o.0)
   by Greater c i = i (rw c at s)
 
-pub own_found : (g : Version → Option Version) → Keeps g → (k : KeyParts) (es : List Entry) (vs : List Version) → AreOwn es → at_key k es ≡ Some vs
+pub own_found : (g : Version → Option Version) → Keeps g → (k : KeyParts) (es : List Entry) (vs : List Version) → AreOwn es
+    → at_key k es ≡ Some vs
     → Each (Own k) (filter_map g vs)
 own_found g keeps k es vs o s = own-kept g keeps k vs (found_own k es vs o s)
 
@@ -208,7 +205,8 @@ each_joined : (P : Version → Type 0) (xs ys : List Version) → Each P (xs ++ 
 each_joined P [] ys h = (tt, h)
 each_joined P (x ∷ xs) ys h = let rest = each_joined P xs ys h.1 in ((h.0, rest.0), rest.1)
 
-pub each_found : (P : Version → Type 0) (k : KeyParts) (es : List Entry) (vs : List Version) → Each P (joined es) → at_key k es ≡ Some vs → Each P vs
+pub each_found : (P : Version → Type 0) (k : KeyParts) (es : List Entry) (vs : List Version) → Each P (joined es)
+    → at_key k es ≡ Some vs → Each P vs
 each_found P k [] vs h s = cc
 each_found P k (e ∷ es) vs h s = by (key_cmp k e.0) refl (each_found P k es vs (each_joined P e.1 (joined es) h).1) where
   by : (r : Ordering) → key_cmp k e.0 ≡ r → (at_key k es ≡ Some vs → Each P vs) → Each P vs
@@ -335,7 +333,8 @@ none-own k j (v ∷ vs) e h =
     let other : same_key v.entity.key k ≡ false = ap (λ x. same_key x k) h.0 ∙ e in
     rw other (none-own k j vs e h.1)
 
-filter-cons : (k : KeyParts) (e : Entry) (es : List Entry) (vs ws : List Version) → filter (of_key k) e.1 ≡ vs → filter (of_key k) (joined es) ≡ ws
+filter-cons : (k : KeyParts) (e : Entry) (es : List Entry) (vs ws : List Version) → filter (of_key k) e.1 ≡ vs
+    → filter (of_key k) (joined es) ≡ ws
     → filter (of_key k) (joined (e ∷ es)) ≡ vs ++ ws
 filter-cons k e es vs ws is rest =
     filter-append (of_key k) e.1 (joined es) ∙ (ap (λ xs. xs ++ filter (of_key k) (joined es)) is ∙ ap (λ xs. vs ++ xs) rest)
@@ -364,7 +363,8 @@ filter_joined k (e ∷ es) o a = by (key_cmp k e.0) refl (filter_joined k es o.2
 find_both : (p q : Version → Bool) (vs : List Version) → find (λ v. p v && q v) vs ≡ find q (filter p vs)
 find_both p q [] = refl
 find_both p q (v ∷ vs) = by (p v) refl (find_both p q vs) where
-  by : (b : Bool) → p v ≡ b → find (λ v. p v && q v) vs ≡ find q (filter p vs) → find (λ v. p v && q v) (v ∷ vs) ≡ find q (filter p (v ∷ vs))
+  by : (b : Bool) → p v ≡ b → find (λ v. p v && q v) vs ≡ find q (filter p vs)
+      → find (λ v. p v && q v) (v ∷ vs) ≡ find q (filter p (v ∷ vs))
   by true e i = rw e (ap (cond (q v) (Some v)) i)
   by false e i = rw e i
 
@@ -392,126 +392,3 @@ pub seen_joined : (stamp : ℕ) (k : KeyParts) (es : List Entry) → AreOwn es �
     ≡ option_map (λ (v : Version). v.entity) (find (is_seen stamp) (listed (at_key k es)))
 seen_joined stamp k es o a =
     entity_seen stamp k (joined es) ∙ ap (option_map (λ (v : Version). v.entity)) (find_joined (is_seen stamp) k es o a)
-
--- ---- what a call at a key leaves
-
-found_history : (k : KeyParts) (es : List Entry) (vs : List Version) → AreOwn es → at_key k es ≡ Some vs → IsHistory vs
-found_history k [] vs o s = cc
-found_history k (e ∷ es) vs o s = by (key_cmp k e.0) refl (found_history k es vs o.2) where
-  by : (r : Ordering) → key_cmp k e.0 ≡ r → (at_key k es ≡ Some vs → IsHistory vs) → IsHistory vs
-  by Less c i = i (rw c at s)
-  by Equal c i =
-      let is : e.1 ≡ vs = (let f : Some e.1 ≡ Some vs = rw c at s in cc) in
-      subst IsHistory is o.1
-  by Greater c i = i (rw c at s)
-
-module _ (g : Version → Option Version) (k : KeyParts) (es : List Entry) (by_key : AreByKey es) where
-  pub nothing_changed : (ns : List Entry) → None ≡ at_key k es → ns ≡ es → joined ns ≡ local g k (joined es)
-  nothing_changed ns found is = ap joined is ∙ sym (local_none g k es by_key.own by_key.ascend (sym found))
-
-  module _ (vs ws : List Version) (ns : List Entry) (found : Some vs ≡ at_key k es) (after : ws ≡ filter_map g vs)
-      (is : ns ≡ set_value (is_at (key_cmp k)) es ws) where
-    pub changed : joined ns ≡ local g k (joined es)
-    changed =
-        ap joined (is ∙ ap (set_value (is_at (key_cmp k)) es) after) ∙ sym (local_some g k es vs by_key.own by_key.ascend (sym found))
-
-    pub changed_by_key : Keeps g → IsHistory ws → Ascend ns → AreByKey ns
-    changed_by_key keeps h a = record {
-      own = subst AreOwn (sym is)
-          (own_set k es ws by_key.own
-          (subst (λ xs. Each (Own k) xs) (sym after) (own_found g keeps k es vs by_key.own (sym found))) h);
-      ascend = a;
-    }
-
-pub over_there : (stamp : ℕ) (k j : KeyParts) (es : List Entry) (vs : List Version) → j ≡ k → AreByKey es → Each (IsOverAt stamp k) (joined es)
-    → Some vs ≡ at_key j es → Each (IsOver stamp) vs
-over_there stamp k j es vs key by_key h found = over_found stamp k es vs by_key.own h (sym (found ∙ ap (λ x. at_key x es) key))
-
-module _ (v : Version) (k : KeyParts) (key : k ≡ v.entity.key) (es ns : List Entry) (vs ws : List Version) (by_key : AreByKey es)
-    (found : Some vs ≡ at_key k es) (is : ns ≡ set_value (is_at (key_cmp k)) es ws) where
-  at_own : ns ≡ set_value (is_at (key_cmp v.entity.key)) es ws
-  at_own = is ∙ ap (λ x. set_value (is_at (key_cmp x)) es ws) key
-
-  found_there : at_key v.entity.key es ≡ Some vs
-  found_there = sym (found ∙ ap (λ x. at_key x es) key)
-
-  pub begun_by_key : {A E : Type 0} (r : Result A E) → OnOk r (ws ≡ vs ++ v ∷ []) → OnErr r (ws ≡ vs) → OnOk r (IsHistory ws) → Ascend ns → AreByKey ns
-  begun_by_key (Ok x) b u h a = record {
-    own = subst AreOwn (sym at_own)
-        (own_set v.entity.key es ws by_key.own
-        (subst (λ xs. Each (Own v.entity.key) xs) (sym b) (own_begun v es vs by_key.own found_there)) h);
-    ascend = a;
-  }
-  begun_by_key (Err e) b u h a = record {
-    own = subst AreOwn (sym at_own)
-        (own_set v.entity.key es ws by_key.own
-        (subst (λ xs. Each (Own v.entity.key) xs) (sym u) (found_own v.entity.key es vs by_key.own found_there))
-        (subst IsHistory (sym u) (found_history v.entity.key es vs by_key.own found_there)));
-    ascend = a;
-  }
-
-  pub begun_is : {A E : Type 0} (r : Result A E) → OnOk r (ws ≡ vs ++ v ∷ []) → OnOk r (joined ns ≡ with_version v (joined es))
-  begun_is (Ok x) b =
-      ap joined (at_own ∙ ap (set_value (is_at (key_cmp v.entity.key)) es) b)
-      ∙ sym (begun_joined v es vs by_key.own by_key.ascend found_there)
-  begun_is (Err e) b = tt
-
-  pub unbegun_is : {A E : Type 0} (r : Result A E) → OnErr r (ws ≡ vs) → OnErr r (joined ns ≡ joined es)
-  unbegun_is (Ok x) u = tt
-  unbegun_is (Err e) u =
-      ap joined (at_own ∙ (ap (set_value (is_at (key_cmp v.entity.key)) es) u ∙ set_value_same (is_at (key_cmp v.entity.key)) es vs found_there))
-
-pub absent : {X : Type 0} (o : Option X) (b : Bool) → b ≡ is_some o → b ≡ false → o ≡ None
-absent None b e f = refl
-absent (Some x) b e f = let t : true ≡ false = sym e ∙ f in cc
-
-module _ (k copy : KeyParts) (es ns : List Entry) (ws : List Version) (same : copy ≡ k) (empty : ws ≡ []) (by_key : AreByKey es)
-    (none : at_key k es ≡ None) (is : ns ≡ insert_entry key_cmp es copy ws) where
-  inserted : ns ≡ insert_entry key_cmp es k []
-  inserted = is ∙ (ap (λ x. insert_entry key_cmp es x ws) same ∙ ap (insert_entry key_cmp es k) empty)
-
-  pub made_is : joined ns ≡ joined es
-  made_is = ap joined inserted ∙ joined_insert k es none
-
-  pub made_by_key : Ascend ns → AreByKey ns
-  made_by_key a = record { own = subst AreOwn (sym inserted) (own_insert k es none by_key.own); ascend = a }
-
-module _ (k : KeyParts) (es : List Entry) (by_key : AreByKey es) (o : Option (List Version)) (found : o ≡ at_key k es) (all : List Version)
-    (view : joined es ≡ all) where
-  pub current_there : option_map (λ (v : Version). v.entity) (find (λ v. is_open v.until) (listed o))
-      ≡ option_map (λ (v : Version). v.entity) (find (is_current k) all)
-  current_there =
-      ap (option_map (λ (v : Version). v.entity))
-      (ap (λ p. find (λ (v : Version). is_open v.until) (listed p)) found
-      ∙ (sym (find_joined (λ v. is_open v.until) k es by_key.own by_key.ascend) ∙ ap (find (is_current k)) view))
-
-  pub seen_there : (stamp : ℕ) → option_map (λ (v : Version). v.entity) (find (is_seen stamp) (listed o))
-      ≡ find (λ (e : EntityParts). same_key e.key k) (entities_at stamp all)
-  seen_there stamp =
-      ap (λ p. option_map (λ (v : Version). v.entity) (find (is_seen stamp) (listed p))) found
-      ∙ (sym (seen_joined stamp k es by_key.own by_key.ascend)
-      ∙ ap (λ vs. find (λ (e : EntityParts). same_key e.key k) (entities_at stamp vs)) view)
-
--- ---- each of the three keeps the entities
-
-pub end_keeps : (stamp : ℕ) → Keeps (λ v. Some (end_open stamp v))
-end_keeps stamp v w e = by (is_open v.until) refl where
-  by : (b : Bool) → is_open v.until ≡ b → w.entity ≡ v.entity
-  by true o = let f : Some (until_stamp (Some stamp) v) ≡ Some w = rw o at e in let g : until_stamp (Some stamp) v ≡ w = cc in ap (λ (x : Version). x.entity) (sym g)
-  by false o = let f : Some v ≡ Some w = rw o at e in let g : v ≡ w = cc in ap (λ (x : Version). x.entity) (sym g)
-
-pub before_keeps : (stamp : ℕ) → Keeps (before_stamp stamp)
-before_keeps stamp v w e = by (nat_eq v.from stamp) (ends_at stamp v.until) refl refl where
-  by : (b c : Bool) → nat_eq v.from stamp ≡ b → ends_at stamp v.until ≡ c → w.entity ≡ v.entity
-  by true c a o = let f : None ≡ Some w = rw a at e in cc
-  by false true a o =
-      let f : Some (until_stamp None v) ≡ Some w = rw (a, o) at e in
-      let g : until_stamp None v ≡ w = cc in
-      ap (λ (x : Version). x.entity) (sym g)
-  by false false a o = let f : Some v ≡ Some w = rw (a, o) at e in let g : v ≡ w = cc in ap (λ (x : Version). x.entity) (sym g)
-
-pub outliving_keeps : (floor : ℕ) → Keeps (outliving floor)
-outliving_keeps floor v w e = by (outlives floor v) refl where
-  by : (b : Bool) → outlives floor v ≡ b → w.entity ≡ v.entity
-  by true o = let f : Some v ≡ Some w = rw o at e in let g : v ≡ w = cc in ap (λ (x : Version). x.entity) (sym g)
-  by false o = let f : None ≡ Some w = rw o at e in cc

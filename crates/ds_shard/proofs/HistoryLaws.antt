@@ -1,6 +1,6 @@
 -- The versions of one key stay a history as one is added, ended, taken back or taken out.
-use Rattle.std.proofs.Common.{◌≡◌, ℕ, ◌<◌, ◌≤◌, Bool, true, false, cond, List, [], ◌∷◌, ◌++◌, map, Option, Some, None, refl, sym, ap, ◌∙◌, subst, arith}
-use Rattle.std.specs.Prelude.{filter, nat_eq, nat_lt, if◌then◌else◌}
+use Rattle.std.proofs.Common.{◌≡◌, ℕ, ◌<◌, ◌≤◌, Bool, true, false, cond, List, [], ◌∷◌, ◌++◌, map, Option, Some, None, refl, sym, ap, subst, arith}
+use Rattle.std.specs.Prelude.{filter, nat_eq, if◌then◌else◌}
 use Rattle.std.specs.List.{filter_map}
 use Rattle.std.proofs.lemmas.List.{map-append}
 use Rattle.std.proofs.lemmas.Bool.Decides.{nat_tests}
@@ -27,12 +27,14 @@ each-push : (P : Version → Type 0) (ws : List Version) (v : Version) → Each 
 each-push P [] v h p = (p, tt)
 each-push P (w ∷ ws) v h p = (h.0, each-push P ws v h.1 p)
 
-pub history-push : (vs : List Version) (v : Version) → EndsFrom v.from v.until → IsHistory vs → Each (IsOver v.from) vs → IsHistory (vs ++ v ∷ [])
+pub history-push : (vs : List Version) (v : Version) → EndsFrom v.from v.until → IsHistory vs → Each (IsOver v.from) vs
+    → IsHistory (vs ++ v ∷ [])
 history-push [] v s h o = (s, tt, tt)
 history-push (w ∷ ws) v s h o =
     (h.0, each-push (Precedes w) ws v h.1 (record { rises = o.0.0; ends = o.0.1 }), history-push ws v s h.2 o.1)
 
-pub history_more : (xs ys : List Kept) (x : Kept) (stamp : ℕ) → ys ≡ xs ++ x ∷ [] → x.from ≡ stamp → x.until ≡ None → IsHistory (map version_of xs)
+pub history_more : (xs ys : List Kept) (x : Kept) (stamp : ℕ) → ys ≡ xs ++ x ∷ [] → x.from ≡ stamp → x.until ≡ None
+    → IsHistory (map version_of xs)
     → Each (IsOver stamp) (map version_of xs) → IsHistory (map version_of ys)
 history_more xs ys x stamp e f u h o =
     subst (λ (zs : List Kept). IsHistory (map version_of zs)) (sym e)
@@ -55,10 +57,15 @@ history-first (v ∷ vs) ws h = (h.0, each-first (Precedes v) vs ws h.1, history
 abbrev pub end_open : ℕ → Version → Version
 end_open stamp v = if is_open v.until then until_stamp (Some stamp) v else v
 
+pub map_kept : (f : Version → Version) (vs : List Version) → filter_map (λ v. Some (f v)) vs ≡ map f vs
+map_kept f [] = refl
+map_kept f (v ∷ vs) = ap (λ ws. f v ∷ ws) (map_kept f vs)
+
 kept_end : (v : Version) (stamp n : ℕ) → EndsBy n v.until → end_open stamp v ≡ v
 kept_end v stamp n h = rw (closed v.until n h) refl
 
-each-ended : (v : Version) (stamp : ℕ) (ws : List Version) → Each (Precedes v) ws → Each (Precedes (end_open stamp v)) (map (end_open stamp) ws)
+each-ended : (v : Version) (stamp : ℕ) (ws : List Version) → Each (Precedes v) ws
+    → Each (Precedes (end_open stamp v)) (map (end_open stamp) ws)
 each-ended v stamp [] h = tt
 each-ended v stamp (w ∷ ws) h = (first (is_open w.until), each-ended v stamp ws h.1) where
   first : (b : Bool) → Precedes (end_open stamp v) (cond b (until_stamp (Some stamp) w) w)
@@ -66,7 +73,8 @@ each-ended v stamp (w ∷ ws) h = (first (is_open w.until), each-ended v stamp w
       (record { rises = h.0.rises; ends = h.0.ends })
   first false = subst (λ (x : Version). Precedes x w) (sym (kept_end v stamp w.from h.0.ends)) h.0
 
-spans-ended : (stamp : ℕ) (v : Version) → v.from ≤ stamp → EndsFrom v.from v.until → EndsFrom (end_open stamp v).from (end_open stamp v).until
+spans-ended : (stamp : ℕ) (v : Version) → v.from ≤ stamp → EndsFrom v.from v.until
+    → EndsFrom (end_open stamp v).from (end_open stamp v).until
 spans-ended stamp v b s = by (is_open v.until) where
   by : (b : Bool) → EndsFrom (cond b (until_stamp (Some stamp) v) v).from (cond b (until_stamp (Some stamp) v) v).until
   by true = b
@@ -100,15 +108,16 @@ ended_there : (stamp : ℕ) (u : Option ℕ) → ends_at stamp u ≡ true → u 
 ended_there stamp None e = cc
 ended_there stamp (Some u) e = ap Some (eq_true u stamp e)
 
-pub history-undone : (stamp : ℕ) (vs : List Version) → Each (BeginsBy stamp) vs → IsHistory vs → IsHistory (filter_map (before_stamp stamp) vs)
+pub history-undone : (stamp : ℕ) (vs : List Version) → Each (BeginsBy stamp) vs → IsHistory vs
+    → IsHistory (filter_map (before_stamp stamp) vs)
 history-undone stamp [] b h = tt
 history-undone stamp (v ∷ vs) b h =
     by (nat_eq v.from stamp) (ends_at stamp v.until) refl refl (history-undone stamp vs b.1 h.2) where
-  by : (c d : Bool) → nat_eq v.from stamp ≡ c → ends_at stamp v.until ≡ d → IsHistory (filter_map (before_stamp stamp) vs)
-      → IsHistory (filter_map (before_stamp stamp) (v ∷ vs))
-  by true d e f i = rw e i
-  by false true e f i = rw (e, f, none_after stamp v vs (ended_there stamp v.until f) b.1 h.1) (tt, tt, tt)
-  by false false e f i = rw (e, f) (h.0, each-undone stamp v vs h.1, i)
+      by : (c d : Bool) → nat_eq v.from stamp ≡ c → ends_at stamp v.until ≡ d → IsHistory (filter_map (before_stamp stamp) vs)
+          → IsHistory (filter_map (before_stamp stamp) (v ∷ vs))
+      by true d e f i = rw e i
+      by false true e f i = rw (e, f, none_after stamp v vs (ended_there stamp v.until f) b.1 h.1) (tt, tt, tt)
+      by false false e f i = rw (e, f) (h.0, each-undone stamp v vs h.1, i)
 
 -- ---- a floor
 
@@ -132,7 +141,8 @@ later floor None (Some w) from o e f = absurd e
 later floor (Some u) (Some w) from o e f = grind (arith, nat_tests)
 
 -- behind a version that outlives the floor each does
-all_outlive : (floor : ℕ) (v : Version) (ws : List Version) → outlives floor v ≡ true → Each (Precedes v) ws → IsHistory ws → trimmed floor ws ≡ ws
+all_outlive : (floor : ℕ) (v : Version) (ws : List Version) → outlives floor v ≡ true → Each (Precedes v) ws → IsHistory ws
+    → trimmed floor ws ≡ ws
 all_outlive floor v [] o p h = refl
 all_outlive floor v (w ∷ ws) o p h =
     rw (later floor v.until w.until w.from o p.0.ends h.0) (ap (λ xs. w ∷ xs) (all_outlive floor v ws o p.1 h.2))

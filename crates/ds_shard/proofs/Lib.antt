@@ -1,7 +1,7 @@
 mod ByKey
 mod Currents
-mod FirstVersions
 mod HistoryLaws
+mod KeyCalls
 mod Kept
 mod LastVersions
 mod SeenVersions

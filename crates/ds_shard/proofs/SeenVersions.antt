@@ -1,9 +1,8 @@
 -- The version that is seen at a stamp is the last one that began by it, unless that one has ended.
 use Rattle.std.proofs.Common.{◌≡◌, ℕ, zero, suc, ◌-◌, ◌<◌, ◌≤◌, Bool, true, false, cond, List, [], ◌∷◌, length, map, get_or, Option, Some, None, refl, sym, ap, ◌∙◌, subst, arith}
-use Rattle.std.specs.Prelude.{find, option_map, ◌&&◌, nat_le, nat_lt}
+use Rattle.std.specs.Prelude.{find, option_map, nat_le, nat_lt}
 use Rattle.std.specs.List.Sorted.{IsPartitionPoint, IsPartitionedBy}
 use Rattle.std.proofs.lemmas.Bool.Decides.{nat_tests}
-use Rattle.ds_base.specs.Entities.{EntityParts}
 use Rattle.ds_rows.specs.Versions.{Version, is_before, is_seen}
 use Rattle.ds_shard.specs.declared.version_list.Kept.{Kept}
 use Rattle.ds_shard.specs.Histories.{Each, EndsBy, Precedes, IsHistory, version_of}
@@ -47,17 +46,23 @@ none_seen stamp (x ∷ xs) h =
     rw none (none_seen stamp xs (λ k d l u. absurd (omega (arith, u)), λ k d l u. h.1 (suc k) d (omega arith) (omega (arith, u))))
 
 behind : (stamp : ℕ) (x : Kept) (xs : List Kept) (n : ℕ) → Begun stamp (x ∷ xs) (suc n) → Begun stamp xs n
-behind stamp x xs n h = (λ k d l u. h.0 (suc k) d (omega arith) (omega (arith, u)), λ k d l u. h.1 (suc k) d (omega (arith, l)) (omega (arith, u)))
+behind stamp x xs n h =
+    (λ k d l u. h.0 (suc k) d (omega arith) (omega (arith, u)), λ k d l u. h.1 (suc k) d (omega (arith, l)) (omega (arith, u)))
 
 last_seen : (stamp : ℕ) (xs : List Kept) (n : ℕ) (k : Kept) → Begun stamp xs (suc n) → suc n ≤ length xs → k ≡ get_or xs n k
     → IsHistory (map version_of xs)
-    → cond (is_before k.until stamp) (Some k.entity) None ≡ option_map (λ (v : Version). v.entity) (find (is_seen stamp) (map version_of xs))
+    → cond (is_before k.until stamp) (Some k.entity) None
+    ≡ option_map (λ (v : Version). v.entity) (find (is_seen stamp) (map version_of xs))
 last_seen stamp [] n k b l is h = absurd (omega (arith, l))
-last_seen stamp (x ∷ xs) zero k b l is h = ap (λ (y : Kept). cond (is_before y.until stamp) (Some y.entity) None) is ∙ by (is_before x.until stamp) refl where
-  by : (c : Bool) → is_before x.until stamp ≡ c
-      → cond (is_before x.until stamp) (Some x.entity) None ≡ option_map (λ (v : Version). v.entity) (find (is_seen stamp) (map version_of (x ∷ xs)))
-  by true e = let t : nat_le x.from stamp ≡ true = b.0 0 x (omega arith) (omega arith) in rw (e, t) refl
-  by false e = let t : nat_le x.from stamp ≡ true = b.0 0 x (omega arith) (omega arith) in rw (e, t, none_seen stamp xs (behind stamp x xs 0 b)) refl
+last_seen stamp (x ∷ xs) zero k b l is h =
+    ap (λ (y : Kept). cond (is_before y.until stamp) (Some y.entity) None) is ∙ by (is_before x.until stamp) refl where
+      by : (c : Bool) → is_before x.until stamp ≡ c
+          → cond (is_before x.until stamp) (Some x.entity) None
+          ≡ option_map (λ (v : Version). v.entity) (find (is_seen stamp) (map version_of (x ∷ xs)))
+      by true e = let t : nat_le x.from stamp ≡ true = b.0 0 x (omega arith) (omega arith) in rw (e, t) refl
+      by false e =
+          let t : nat_le x.from stamp ≡ true = b.0 0 x (omega arith) (omega arith) in
+          rw (e, t, none_seen stamp xs (behind stamp x xs 0 b)) refl
 last_seen stamp (x ∷ []) (suc n) k b l is h = absurd (omega (arith, l))
 last_seen stamp (x ∷ y ∷ ys) (suc n) k b l is h =
     let t : nat_le y.from stamp ≡ true = b.0 1 y (omega arith) (omega arith) in

@@ -1,5 +1,5 @@
 //! The versions of all entities, by key.
-ghost use Rattle.std.specs.Prelude.{◌≡◌, [], None, Some, map, find, option_map, IsTrue, OnOk, OnErr};
+ghost use Rattle.std.specs.Prelude.{◌≡◌, ◌↔◌, [], None, Some, map, find, option_map, IsTrue, OnOk, OnErr};
 ghost use Rattle.std.specs.BTreeMap.{is_at};
 ghost use Rattle.std.specs.Map.{lookup};
 ghost use Rattle.std.specs.Option.{option_copied};
@@ -117,11 +117,7 @@ fn end_in(map: &mut BTreeMap<Key, VersionList>, key: &Key, stamp: u64)
 }
 
 /// Makes an empty list for the key where there is none; the versions stay.
-fn make_list(
-    map: &mut BTreeMap<Key, VersionList>,
-    alloc: Global,
-    key: &Key,
-) -> Result<(), NoMemory>
+fn make_list(map: &mut BTreeMap<Key, VersionList>, alloc: Global, key: &Key) -> Result<(), NoMemory>
     requires { AreByKey map.old.entries }
     ensures by_key { AreByKey map.new.entries }
     ensures same { joined map.new.entries ≡ joined map.old.entries }
@@ -189,7 +185,7 @@ fn drop_empty(map: &mut BTreeMap<Key, VersionList>, key: &Key)
 
 /// Whether the key is there without a version.
 fn is_empty_at(map: &BTreeMap<Key, VersionList>, key: &Key) -> bool
-    ensures { IsTrue result → lookup (is_at (key_cmp key.now)) map.now.entries ≡ Some [] }
+    ensures { IsTrue result ↔ (lookup (is_at (key_cmp key.now)) map.now.entries ≡ Some []) }
 {
     match map.get(key) {
         Some(list) => list.is_empty(),

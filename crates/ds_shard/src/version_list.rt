@@ -1,5 +1,5 @@
 //! The versions of one entity.
-ghost use Rattle.std.specs.Prelude.{◌≡◌, ◌++◌, [], ◌∷◌, None, Some, cond, map, find, option_map, if◌then◌else◌, OnOk, OnErr, IsFalse, IsTrue};
+ghost use Rattle.std.specs.Prelude.{◌≡◌, ◌↔◌, ◌++◌, [], ◌∷◌, None, Some, cond, map, find, option_map, if◌then◌else◌, OnOk, OnErr, IsFalse, IsTrue};
 ghost use Rattle.std.specs.List.{filter_map};
 ghost use Rattle.std.specs.Option.{option_copied};
 ghost use Rattle.ds_rows.specs.Versions.{Version, is_before, is_seen};
@@ -37,6 +37,26 @@ impl Kept {
             Some(&self.entity)
         } else {
             None
+        }
+    }
+
+    /// Ends the version at the stamp, unless it has ended.
+    fn end(&mut self, stamp: u64)
+        ensures { version_of self.new ≡
+            (if is_open self.old.until then until_stamp (Some stamp) (version_of self.old) else version_of self.old) }
+    {
+        if let None = self.until {
+            self.until = Some(stamp);
+        }
+    }
+
+    /// Opens the version where it ended at the stamp.
+    fn reopen(&mut self, stamp: u64)
+        ensures { version_of self.new ≡
+            (if ends_at stamp self.old.until then until_stamp None (version_of self.old) else version_of self.old) }
+    {
+        if ends_at(self.until, stamp) {
+            self.until = None;
         }
     }
 }
@@ -81,7 +101,7 @@ impl VersionList {
 
     /// Whether there is no version.
     pub(crate) fn is_empty(&self) -> bool
-        ensures { IsTrue result → self.now ≡ [] }
+        ensures { IsTrue result ↔ (self.now ≡ []) }
     {
         self.items.is_empty()
     }
@@ -113,10 +133,7 @@ impl VersionList {
         ensures ended { self.new ≡ map (λ v. if is_open v.until then until_stamp (Some stamp) v else v) self.old }
         ensures history { IsHistory self.new }
     {
-        let count = self.items.len();
-        if count > 0 && self.items[count - 1].until.is_none() {
-            self.items[count - 1].until = Some(stamp);
-        }
+        end_last(&mut self.items, stamp);
     }
 
     /// Begins a version at the stamp, by which each one has ended. A refusal, which is want of memory, changes nothing.
@@ -159,6 +176,17 @@ impl VersionList {
     }
 }
 
+/// Ends the last version at the stamp, unless it has ended.
+fn end_last(items: &mut VecDeque<Kept>, stamp: u64)
+    requires { IsHistory (map version_of items.old.items) }
+    ensures { map version_of items.new.items
+        ≡ map (λ v. if is_open v.until then until_stamp (Some stamp) v else v) (map version_of items.old.items) }
+{
+    if let Some(last) = items.back_mut() {
+        last.end(stamp);
+    }
+}
+
 /// Takes off the versions that began at the stamp, after which none did.
 fn take_off(items: &mut VecDeque<Kept>, stamp: u64)
     requires history { IsHistory (map version_of items.old.items) }
@@ -191,9 +219,8 @@ fn open_last(items: &mut VecDeque<Kept>, stamp: u64)
     requires before { IsFalse (last_begins_at stamp (map version_of items.old.items)) }
     ensures { map version_of items.new.items ≡ filter_map (before_stamp stamp) (map version_of items.old.items) }
 {
-    let count = items.len();
-    if count > 0 && ends_at(items[count - 1].until, stamp) {
-        items[count - 1].until = None;
+    if let Some(last) = items.back_mut() {
+        last.reopen(stamp);
     }
 }
 

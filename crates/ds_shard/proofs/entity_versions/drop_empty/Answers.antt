@@ -12,4 +12,4 @@ returns-then-is_empty_at-clause-by_key c = record {
 pub returns-then-is_empty_at-clause-same : goal.returns-then-is_empty_at-clause-same
 returns-then-is_empty_at-clause-same c =
     ap joined c.remove.ensures.entries
-    ∙ joined_remove c.args.key.now c.args.map.now.entries (c.is_empty_at.ensures c.if-is_empty_at.true)
+    ∙ joined_remove c.args.key.now c.args.map.now.entries (c.is_empty_at.ensures.0 c.if-is_empty_at.true)

@@ -1,11 +1,14 @@
 use Rattle.std.proofs.Common.{Some, sym, ap, ◌∙◌}
 use Rattle.ds_shard.specs.Histories.{BeginsBy, joined}
-use Rattle.ds_shard.proofs.HistoryLaws.{end_open}
-use Rattle.ds_shard.proofs.ByKey.{nothing_changed, changed, changed_by_key, each_found, ended_local, map_kept, end_keeps}
+use Rattle.ds_shard.proofs.HistoryLaws.{end_open, map_kept}
+use Rattle.ds_shard.proofs.ByKey.{each_found, ended_local}
+use Rattle.ds_shard.proofs.KeyCalls.{nothing_changed, changed, changed_by_key, end_keeps}
 use Rattle.ds_shard.proofs.entity_versions.end_in.Goals as goal
 
 pub end-requires : goal.end-requires
-end-requires c = each_found (BeginsBy c.args.stamp) c.args.key.now c.args.map.now.entries c.in-Some.list.now c.requires.begun (sym c.in-Some.ensures.value)
+end-requires c =
+    each_found (BeginsBy c.args.stamp) c.args.key.now c.args.map.now.entries c.in-Some.list.now c.requires.begun
+    (sym c.in-Some.ensures.value)
 
 pub returns-in-Some-clause-by_key : goal.returns-in-Some-clause-by_key
 returns-in-Some-clause-by_key c =
@@ -23,6 +26,6 @@ returns-in-Some-clause-ended c =
 
 pub returns-in_default-clause-ended : goal.returns-in_default-clause-ended
 returns-in_default-clause-ended c =
-    nothing_changed (λ v. Some (end_open c.args.stamp v)) c.args.key.now c.args.map.now.entries c.requires.by_key _ c.in_default.ensures.value
-    (ap (λ m. m.entries) c.get_mut.follows.holds-at-none)
+    nothing_changed (λ v. Some (end_open c.args.stamp v)) c.args.key.now c.args.map.now.entries c.requires.by_key _
+    c.in_default.ensures.value (ap (λ m. m.entries) c.get_mut.follows.holds-at-none)
     ∙ sym (ended_local c.args.stamp c.args.key.now (joined c.args.map.now.entries))

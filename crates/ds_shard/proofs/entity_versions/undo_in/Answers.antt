@@ -1,10 +1,13 @@
 use Rattle.std.proofs.Common.{sym, ap}
 use Rattle.ds_shard.specs.Histories.{BeginsBy, before_stamp}
-use Rattle.ds_shard.proofs.ByKey.{nothing_changed, changed, changed_by_key, each_found, before_keeps}
+use Rattle.ds_shard.proofs.ByKey.{each_found}
+use Rattle.ds_shard.proofs.KeyCalls.{nothing_changed, changed, changed_by_key, before_keeps}
 use Rattle.ds_shard.proofs.entity_versions.undo_in.Goals as goal
 
 pub undo-requires : goal.undo-requires
-undo-requires c = each_found (BeginsBy c.args.stamp) c.args.key.now c.args.map.now.entries c.in-Some.list.now c.requires.begun (sym c.in-Some.ensures.value)
+undo-requires c =
+    each_found (BeginsBy c.args.stamp) c.args.key.now c.args.map.now.entries c.in-Some.list.now c.requires.begun
+    (sym c.in-Some.ensures.value)
 
 pub returns-in-Some-clause-by_key : goal.returns-in-Some-clause-by_key
 returns-in-Some-clause-by_key c =
