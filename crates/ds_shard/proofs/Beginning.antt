@@ -96,10 +96,11 @@ module _ (defs : List IndexDef) where
   alive-here : (v : Version) → is_open v.until ≡ true → (rows : List (List ℕ))
       → Each (λ x. list_any (table.is_alive x) (map (row_of v) rows) ≡ true) rows
   alive-here v o [] = tt
-  alive-here v o (y ∷ rows) =
-      (let never : (end_in_table v.until == table.never) ≡ true = at_end v.until o in rw (same_row y y refl, never) refl,
-      each_more (λ x. list_any (table.is_alive x) (map (row_of v) rows) ≡ true) (λ x. list_any (table.is_alive x) (map (row_of v) (y ∷ rows)) ≡ true) rows
-      (λ x h. or_true (table.is_alive x (row_of v y)) (list_any (table.is_alive x) (map (row_of v) rows)) h) (alive-here v o rows)) where
+  alive-here v o (y ∷ rows) = (
+    let never : (end_in_table v.until == table.never) ≡ true = at_end v.until o in rw (same_row y y refl, never) refl,
+    each_more (λ x. list_any (table.is_alive x) (map (row_of v) rows) ≡ true) (λ x. list_any (table.is_alive x) (map (row_of v) (y ∷ rows)) ≡ true) rows
+        (λ x h. or_true (table.is_alive x (row_of v y)) (list_any (table.is_alive x) (map (row_of v) rows)) h) (alive-here v o rows),
+  ) where
     at_end : (u : Option ℕ) → is_open u ≡ true → (end_in_table u == table.never) ≡ true
     at_end None o = refl
     at_end (Some u) o = cc

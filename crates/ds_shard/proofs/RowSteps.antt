@@ -36,9 +36,10 @@ module _ (rows : List (List ℕ)) (i : ℕ) (row : List ℕ) (e : Some row ≡ s
     alive_left : (rest : List (List ℕ)) → All (λ y. row ≢ y) rest → Each (λ r. IsTrue (has_alive r vs)) rest
         → Each (λ r. IsTrue (has_alive r (closed row stamp vs))) rest
     alive_left [] once h = tt
-    alive_left (r ∷ rest) once h =
-        (others_closed r row stamp vs below (All-head (λ y. row ≢ y) r rest once) ∙ h.0,
-        alive_left rest (All-tail (λ y. row ≢ y) r rest once) h.1)
+    alive_left (r ∷ rest) once h = (
+      others_closed r row stamp vs below (All-head (λ y. row ≢ y) r rest once) ∙ h.0,
+      alive_left rest (All-tail (λ y. row ≢ y) r rest once) h.1,
+    )
 
     pub alive_next : ws ≡ closed row stamp vs → IsOnce (drop i rows) → Each (λ r. IsTrue (has_alive r vs)) (drop i rows)
         → Each (λ r. IsTrue (has_alive r ws)) (drop (i + 1) rows)
@@ -53,9 +54,10 @@ module _ (rows : List (List ℕ)) (i : ℕ) (row : List ℕ) (e : Some row ≡ s
     not_alive_left : (rest : List (List ℕ)) → All (λ y. row ≢ y) rest → Each (λ r. IsFalse (has_alive r vs)) rest
         → Each (λ r. IsFalse (has_alive r (added row stamp vs))) rest
     not_alive_left [] once h = tt
-    not_alive_left (r ∷ rest) once h =
-        (others_added r row stamp vs (All-head (λ y. row ≢ y) r rest once) ∙ h.0,
-        not_alive_left rest (All-tail (λ y. row ≢ y) r rest once) h.1)
+    not_alive_left (r ∷ rest) once h = (
+      others_added r row stamp vs (All-head (λ y. row ≢ y) r rest once) ∙ h.0,
+      not_alive_left rest (All-tail (λ y. row ≢ y) r rest once) h.1,
+    )
 
     pub not_alive_next : ws ≡ added row stamp vs → IsOnce (drop i rows) → Each (λ r. IsFalse (has_alive r vs)) (drop i rows)
         → Each (λ r. IsFalse (has_alive r ws)) (drop (i + 1) rows)

@@ -91,7 +91,8 @@ or_true false b h = h
 -- each row is one of them
 pub among_itself : (rows : List (List ℕ)) → Each (λ x. list_any (bytes_eq x) rows ≡ true) rows
 among_itself [] = tt
-among_itself (y ∷ rows) =
-    (rw (same_row y y refl) refl,
-    each_more (λ x. list_any (bytes_eq x) rows ≡ true) (λ x. list_any (bytes_eq x) (y ∷ rows) ≡ true) rows
-    (λ x h. or_true (bytes_eq x y) (list_any (bytes_eq x) rows) h) (among_itself rows))
+among_itself (y ∷ rows) = (
+  rw (same_row y y refl) refl,
+  each_more (λ x. list_any (bytes_eq x) rows ≡ true) (λ x. list_any (bytes_eq x) (y ∷ rows) ≡ true) rows
+      (λ x h. or_true (bytes_eq x y) (list_any (bytes_eq x) rows) h) (among_itself rows),
+)

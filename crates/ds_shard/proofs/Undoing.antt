@@ -37,11 +37,13 @@ free_end stamp below n is (Some u) h e = omega (arith, is, h, e)
 free_rows : (stamp : ℕ) → stamp < table.never → (v : Version) → IsGivenBefore stamp v → (rows : List (List ℕ))
     → table_each.Each (IsFree stamp) (map (row_of v) rows)
 free_rows stamp below v h [] = tt
-free_rows stamp below v h (x ∷ rows) =
-    (record {
-      from_free = λ e. let b = h.2.begins in let n = h.1 in omega (arith, b, n, e);
-      to_free = free_end stamp below h.0 h.1 v.until h.2.ends;
-    }, free_rows stamp below v h rows)
+free_rows stamp below v h (x ∷ rows) = (
+  record {
+    from_free = λ e. let b = h.2.begins in let n = h.1 in omega (arith, b, n, e);
+    to_free = free_end stamp below h.0 h.1 v.until h.2.ends;
+  },
+  free_rows stamp below v h rows,
+)
 
 free_versions : (stamp : ℕ) → stamp < table.never → (defs : List IndexDef) (floor : ℕ) (vs : List Version) → Each (IsGivenBefore stamp) vs
     → table_each.Each (IsFree stamp) (rows_of_versions defs (trimmed floor vs))

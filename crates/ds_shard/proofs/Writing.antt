@@ -131,15 +131,17 @@ module _ (stamp : ℕ) (c d : ContentsParts) (h : AreKept stamp c) (s : Stays st
   pub leads : (k : KeyParts) → table.undone stamp (versions d.table) ≡ table.undone stamp (versions c.table)
       → ((keys : List KeyParts) → IsTrue (list_any (same_key k) keys) → all_undone stamp keys d.entities ≡ all_undone stamp keys c.entities)
       → Each (BeginsBy stamp) d.entities → LeadsBack stamp k c d
-  leads k undone entities begun =
-      ((λ keys among. record {
-        table = undone;
-        entities = entities keys among;
-        floor = s.floor;
-        least = s.least;
-        least_undone = s.least_undone;
-        definitions = s.definitions;
-      }), can_undo begun)
+  leads k undone entities begun = (
+    (λ keys among. record {
+      table = undone;
+      entities = entities keys among;
+      floor = s.floor;
+      least = s.least;
+      least_undone = s.least_undone;
+      definitions = s.definitions;
+    }),
+    can_undo begun,
+  )
 
   -- ---- an end
 

@@ -19,7 +19,7 @@ loop-i-preserved c =
     let before = versions c.loop-i.table in
     let after = versions c.match-get.table in
     elim c.match-get.branch [
-      in-Some+in_ok-add-in-Some w ↦
+      | in-Some+in_ok-add-in-Some w ↦
           let row = w.in-Some.row.now in
           let then : after ≡ added row stamp before = ap versions w.table-is ∙ w.in_ok-add-in-Some.ensures.added in
           record {

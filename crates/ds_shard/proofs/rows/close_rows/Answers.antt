@@ -18,7 +18,7 @@ loop-i-preserved c =
     let before = versions c.loop-i.table in
     let after = versions c.match-get.table in
     elim c.match-get.branch [
-      in-Some w ↦
+      | in-Some w ↦
           let then : after ≡ closed w.in-Some.row.now stamp before = ap versions w.table-is ∙ w.close.ensures.closed in
           record {
             closed = closed_next rows c.loop-i.i w.in-Some.row.now w.in-Some.ensures stamp c.requires.a_stamp before after then _ old.closed;
