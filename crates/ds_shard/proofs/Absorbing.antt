@@ -1,14 +1,12 @@
 -- What a shard's parts stand for, and that an absorbed entry keeps them so.
-use Rattle.std.proofs.Common.{◌≡◌, ℕ, ◌+◌, ◌-◌, ◌<◌, ◌≤◌, Bool, true, List, refl, sym, ap, ◌∙◌, subst, arith}
+use Rattle.std.proofs.Common.{◌≡◌, ℕ, ◌+◌, ◌-◌, ◌<◌, ◌≤◌, sym, ap, ◌∙◌, arith}
 use Rattle.std.specs.Prelude.{◌^◌, IsTrue, nat_le, fold, find}
 use Rattle.ds_base.specs.Keys.{KeyParts}
 use Rattle.ds_base.specs.KeyOrder.{same_key}
 use Rattle.ds_base.specs.Entities.{EntityParts}
-use Rattle.ds_indexdef.specs.declared.IndexDef.{IndexDef}
 use Rattle.ds_log.specs.declared.Entry.{Entry}
 use Rattle.ds_rows.specs.Indexable.{IsIndexable}
 use Rattle.ds_rows.specs.Versions.{Version, entities_at, AreTables}
-use Rattle.ds_table.specs.Versions as table
 use Rattle.ds_shard.specs.Histories.{written, outlives, trimmed}
 use Rattle.ds_shard.specs.Contents.{ContentsParts, IsTrimmed}
 use Rattle.ds_shard.specs.Shards.{ShardParts, IsShard, floor_of, keeps, absorbed}

@@ -1,6 +1,6 @@
 -- An entity that ends has its rows closed.
-use Rattle.std.proofs.Common.{◌≡◌, ℕ, ◌+◌, ◌<◌, ◌≤◌, Bool, true, false, cond, List, [], ◌∷◌, ◌++◌, map, Option, Some, None, refl, sym, ap, ◌∙◌, subst, arith}
-use Rattle.std.specs.Prelude.{◌&&◌, ◌||◌, ◌==◌, nat_lt, if◌then◌else◌, filter, find, flat_map, option_map, bytes_eq}
+use Rattle.std.proofs.Common.{◌≡◌, ℕ, ◌<◌, ◌≤◌, Bool, true, false, cond, List, [], ◌∷◌, ◌++◌, map, Option, Some, None, refl, sym, ap, ◌∙◌, subst, arith}
+use Rattle.std.specs.Prelude.{◌&&◌, ◌==◌, if◌then◌else◌, bytes_eq}
 use Rattle.std.specs.List.{list_any}
 use Rattle.std.proofs.lemmas.Bool.Decides.{nat_tests}
 use Rattle.std.proofs.lemmas.List.{map-append}
@@ -8,16 +8,12 @@ use Rattle.ds_base.specs.Keys.{KeyParts}
 use Rattle.ds_base.specs.KeyOrder.{same_key}
 use Rattle.ds_base.specs.Entities.{EntityParts}
 use Rattle.ds_indexdef.specs.declared.IndexDef.{IndexDef}
-use Rattle.ds_indexdef.specs.Definitions.{AreDefs}
-use Rattle.ds_rows.specs.Indexable.{IsIndexable}
 use Rattle.ds_rows.specs.Rows.{rows_of}
-use Rattle.ds_rows.specs.Versions.{Version, is_before}
+use Rattle.ds_rows.specs.Versions.{Version}
 use Rattle.ds_table.specs.Versions as table
-use Rattle.ds_shard.specs.Histories.{Each, EndsWithin, EndsBy, IsOver, IsOverAt, is_open, is_current, until_stamp, ended, outlives, trimmed}
+use Rattle.ds_shard.specs.Histories.{Each, EndsWithin, is_open, is_current, until_stamp, ended, outlives, trimmed}
 use Rattle.ds_shard.specs.Rows.{end_in_table, row_of, rows_of_version, rows_of_versions, all_closed}
-use Rattle.ds_shard.specs.Contents.{IsGiven, HaveSame}
 use Rattle.ds_shard.proofs.Currents.{and_false}
-use Rattle.ds_shard.proofs.Counting.{same-map}
 use Rattle.ds_shard.proofs.Trimming.{outlives-after}
 use Rattle.ds_shard.proofs.RowsApart.{NotAmong, each_more, none_among, among_itself}
 

@@ -1,11 +1,10 @@
 -- The versions of one key among all: at most one is open, and the order of keys and stamps is kept by each write.
-use Rattle.std.proofs.Common.{◌≡◌, ℕ, ◌+◌, ◌<◌, ◌≤◌, Bool, true, false, cond, List, [], ◌∷◌, map, Option, Some, None, refl, sym, ap, ◌∙◌, subst, arith}
-use Rattle.std.specs.Prelude.{⊤, ◌&&◌, if◌then◌else◌, filter, find, option_map, IsTrue}
+use Rattle.std.proofs.Common.{◌≡◌, ℕ, Bool, true, false, cond, List, [], ◌∷◌, Option, Some, None, refl, sym, ap, ◌∙◌}
+use Rattle.std.specs.Prelude.{◌&&◌, filter, find, option_map}
 use Rattle.std.specs.Cmp.{alike_right}
 use Rattle.std.specs.declared.cmp.Ordering.{Ordering}
 use Rattle.std.specs.declared.cmp.Ordering.TheVariants.{Less, Equal, Greater}
-use Rattle.std.specs.Ordering.{is_eq, is_gt, is_lt, ordering_reverse}
-use Rattle.std.proofs.lemmas.Bool.Decides.{nat_tests}
+use Rattle.std.specs.Ordering.{is_eq, is_gt, is_lt}
 use Rattle.ds_base.specs.Keys.{KeyParts}
 use Rattle.ds_base.specs.KeyOrder.{key_cmp, same_key}
 use Rattle.ds_base.specs.KeyOrderLaws.{key_cmp-total, same_key-decides}
@@ -14,7 +13,6 @@ use Rattle.ds_base.specs.SortingLaws.{NoneBefore, Ascends}
 use Rattle.ds_rows.specs.Versions.{Version}
 use Rattle.ds_shard.specs.Histories.{Each, EndsBy, Precedes, IsOver, IsOverAt, is_open, is_current, until_stamp, ended, with_version}
 use Rattle.ds_shard.specs.Contents.{version_cmp, PrecedesOwn, AreHistories}
-use Rattle.ds_shard.proofs.Currents.{and_false}
 use Rattle.ds_shard.proofs.Kept.{current-open}
 
 true_not_false : true ≡ false → ⊥

@@ -1,14 +1,13 @@
 -- What is done at a stamp is taken back, of the keys that were written and in the table.
-use Rattle.std.proofs.Common.{◌≡◌, ℕ, suc, zero, ◌+◌, ◌<◌, ◌≤◌, Bool, true, false, cond, List, [], ◌∷◌, ◌++◌, length, get_or, drop, map, Option, Some, None, refl, sym, ap, ◌∙◌, subst, arith}
-use Rattle.std.specs.Prelude.{◌&&◌, ◌||◌, ◌==◌, if◌then◌else◌, IsTrue, flat_map}
-use Rattle.std.specs.List.{cons_option, filter_map, list_any}
+use Rattle.std.proofs.Common.{◌≡◌, ℕ, ◌+◌, ◌<◌, ◌≤◌, Bool, true, false, cond, List, [], ◌∷◌, ◌++◌, length, get_or, drop, map, Option, Some, None, refl, sym, ap, ◌∙◌, subst, arith}
+use Rattle.std.specs.Prelude.{◌&&◌, ◌||◌, ◌==◌, if◌then◌else◌, IsTrue}
+use Rattle.std.specs.List.{cons_option, list_any}
 use Rattle.std.specs.Ordering.{is_lt}
 use Rattle.std.proofs.lemmas.List.{drop_more, drop_all}
 use Rattle.std.proofs.lemmas.Bool.Decides.{nat_tests}
 use Rattle.ds_base.specs.Keys.{KeyParts}
 use Rattle.ds_base.specs.KeyOrder.{key_cmp, same_key}
 use Rattle.ds_base.specs.KeyOrderLaws.{same_key-decides}
-use Rattle.ds_base.specs.Entities.{EntityParts}
 use Rattle.ds_indexdef.specs.declared.IndexDef.{IndexDef}
 use Rattle.ds_log.specs.declared.Write.{Write}
 use Rattle.ds_log.specs.Logs.{key_of}
@@ -20,9 +19,7 @@ use Rattle.ds_table.specs.UndoLaws.{IsFree, undo_nothing}
 use Rattle.ds_shard.specs.Histories.{Each, BeginsBy, EndsWithin, is_open, is_current, until_stamp, ended, with_version, ends_at, before_stamp, undone, outlives, trimmed}
 use Rattle.ds_shard.specs.Rows.{end_in_table, row_of, rows_of_version, rows_of_versions}
 use Rattle.ds_shard.specs.Contents.{IsGiven, IsGivenBefore, all_undone}
-use Rattle.ds_shard.proofs.Currents.{and_false}
 use Rattle.ds_shard.proofs.Kept.{current-open}
-use Rattle.ds_shard.proofs.RowsApart.{or_true}
 
 -- ---- in the table
 

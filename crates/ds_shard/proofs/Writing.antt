@@ -1,6 +1,6 @@
 -- One write after another, and a floor that rises: the table goes on holding the rows of the versions.
-use Rattle.std.proofs.Common.{◌≡◌, ℕ, suc, zero, ◌+◌, ◌<◌, ◌≤◌, Bool, true, false, cond, List, [], ◌∷◌, ◌++◌, length, get_or, map, Option, Some, None, refl, sym, ap, ◌∙◌, subst, arith}
-use Rattle.std.specs.Prelude.{◌&&◌, ◌||◌, if◌then◌else◌, IsTrue, IsFalse, OnOk, OnErr, Result, Ok, Err, filter, fold, drop, find, option_map, max, nat_lt}
+use Rattle.std.proofs.Common.{◌≡◌, ℕ, suc, zero, ◌+◌, ◌<◌, ◌≤◌, Bool, true, false, cond, List, [], ◌∷◌, length, get_or, map, Option, Some, None, refl, sym, ap, ◌∙◌, subst, arith}
+use Rattle.std.specs.Prelude.{◌&&◌, ◌||◌, IsTrue, IsFalse, OnOk, OnErr, Result, Ok, Err, filter, fold, drop, find, option_map, max, nat_lt}
 use Rattle.std.specs.List.{list_any}
 use Rattle.std.proofs.lemmas.List.{drop_more}
 use Rattle.ds_base.specs.Keys.{KeyParts}
@@ -9,7 +9,6 @@ use Rattle.ds_base.specs.KeyOrder.{key_cmp, same_key}
 use Rattle.ds_base.specs.KeyOrderLaws.{same_key-decides}
 use Rattle.ds_base.specs.Entities.{EntityParts}
 use Rattle.ds_base.specs.SortingLaws.{Ascends}
-use Rattle.ds_indexdef.specs.declared.IndexDef.{IndexDef}
 use Rattle.ds_indexdef.specs.Definitions.{AreDefs}
 use Rattle.ds_log.specs.declared.Write.{Write}
 use Rattle.ds_log.specs.Logs.{key_of}
@@ -17,18 +16,18 @@ use Rattle.ds_rows.specs.Indexable.{IsIndexable}
 use Rattle.ds_rows.specs.Rows.{rows_of}
 use Rattle.ds_rows.specs.Versions.{Version}
 use Rattle.ds_table.specs.Versions as table
-use Rattle.ds_table.specs.Blocks.{Tabled, versions}
-use Rattle.ds_table.specs.UndoLaws.{undo_added, undo_closed}
-use Rattle.ds_shard.specs.Histories.{Each, BeginsBy, EndsBy, EndsWithin, IsOver, IsOverAt, is_open, is_current, until_stamp, ended, with_version, outlives, trimmed}
-use Rattle.ds_shard.specs.Rows.{rows_of_version, rows_of_versions, all_closed, all_added}
+use Rattle.ds_table.specs.Blocks.{versions}
+use Rattle.ds_table.specs.UndoLaws.{undo_closed}
+use Rattle.ds_shard.specs.Histories.{Each, BeginsBy, EndsBy, EndsWithin, IsOverAt, is_open, is_current, until_stamp, ended, with_version, trimmed}
+use Rattle.ds_shard.specs.Rows.{rows_of_versions, all_closed, all_added}
 use Rattle.ds_shard.specs.Contents.{ContentsParts, counted, HaveSame, IsGiven, version_cmp, AreHistories, AreKept, CanUndo, LeadBack, LeadsBack, all_undone, AreFewer, IsTrimmed, IsGivenBefore, IsBack}
 use Rattle.ds_shard.proofs.Kept.{Ascends-ended, Ascends-with, Ascends-filter, given-ended, given-with, given-filter, given-later}
 use Rattle.ds_shard.proofs.Counting.{same-map, same-filter, same-filter_map, same-any}
 use Rattle.ds_shard.proofs.Own.{Owns, only_current, histories-ended, histories-with, histories-filter}
 use Rattle.ds_shard.proofs.Trimming.{trimmed_rows}
-use Rattle.ds_shard.proofs.RowsApart.{NotAmong, each_more, apart, or_true}
+use Rattle.ds_shard.proofs.RowsApart.{each_more, apart, or_true}
 use Rattle.ds_shard.proofs.Closing.{Suits, all_closed_map, closed_in, ended_rows}
-use Rattle.ds_shard.proofs.Beginning.{Leaves, new_rows, counted-added, counted-with, alive_own, none_left}
+use Rattle.ds_shard.proofs.Beginning.{Leaves, counted-added, counted-with, alive_own, none_left}
 use Rattle.ds_shard.proofs.Undoing.{undone_rows, undone-given, undone-ended, undone-with, begun-given}
 
 -- ---- of each

@@ -1,7 +1,5 @@
-use Rattle.std.proofs.Common.{◌≡◌, ◌≤◌, ◌∙◌, sym, ap, subst, map, drop, arith}
-use Rattle.ds_log.specs.Logs.{key_of}
+use Rattle.std.proofs.Common.{sym, subst}
 use Rattle.ds_shard.specs.Histories.{Each, BeginsBy}
-use Rattle.ds_shard.specs.Contents.{all_undone}
 use Rattle.ds_shard.proofs.Undoing.{begun-undone, undone_next, undone_end}
 use Rattle.ds_shard.proofs.contents.undo_writes.Goals as goal
 

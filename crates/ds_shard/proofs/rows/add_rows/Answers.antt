@@ -1,4 +1,4 @@
-use Rattle.std.proofs.Common.{◌≡◌, ◌≤◌, ◌∙◌, ap, arith}
+use Rattle.std.proofs.Common.{◌≡◌, ◌∙◌, ap, arith}
 use Rattle.std.specs.Prelude.{IsFalse}
 use Rattle.ds_table.specs.Versions.{has_alive, added, undone}
 use Rattle.ds_table.specs.Blocks.{versions}

@@ -1,4 +1,4 @@
-use Rattle.std.proofs.Common.{◌≡◌, ◌∙◌, sym, ap, subst, arith, refl}
+use Rattle.std.proofs.Common.{◌≡◌, ◌∙◌, sym, ap, subst, refl}
 use Rattle.std.specs.Prelude.{IsFalse}
 use Rattle.ds_table.specs.Versions as table
 use Rattle.ds_table.specs.Blocks.{versions}

@@ -1,4 +1,4 @@
-use Rattle.std.proofs.Common.{◌≤◌, sym, subst, refl, ap}
+use Rattle.std.proofs.Common.{◌≤◌, sym, subst, refl}
 use Rattle.ds_shard.specs.Contents.{ContentsParts, AreKept}
 use Rattle.ds_shard.proofs.Writing.{Falls, is_trimmed}
 use Rattle.ds_shard.proofs.contents.Contents.trim.Goals as goal

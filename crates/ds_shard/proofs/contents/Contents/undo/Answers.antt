@@ -1,4 +1,4 @@
-use Rattle.std.proofs.Common.{◌≡◌, ◌≤◌, sym, subst, map, refl, arith}
+use Rattle.std.proofs.Common.{sym, subst, map, refl, arith}
 use Rattle.ds_log.specs.Logs.{key_of}
 use Rattle.ds_shard.specs.Contents.{ContentsParts, LeadBack}
 use Rattle.ds_shard.proofs.Writing.{Stays, is_back}

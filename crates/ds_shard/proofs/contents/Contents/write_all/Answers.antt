@@ -1,6 +1,4 @@
-use Rattle.std.proofs.Common.{◌≡◌, ◌∙◌, sym, ap, map, drop, take}
-use Rattle.std.specs.Prelude.{fold}
-use Rattle.std.proofs.lemmas.List.{drop_more}
+use Rattle.std.proofs.Common.{map}
 use Rattle.ds_log.specs.Logs.{key_of}
 use Rattle.ds_shard.specs.Histories.{written}
 use Rattle.ds_shard.proofs.Writing.{among, back_on, fold_next}

@@ -1,6 +1,5 @@
-use Rattle.std.proofs.Common.{◌≡◌, ◌<◌, ◌≤◌, ◌+◌, ◌∙◌, ap, sym, subst, arith}
+use Rattle.std.proofs.Common.{◌≡◌, ◌<◌, ◌+◌, ◌∙◌, ap, sym, subst, arith}
 use Rattle.std.specs.Prelude.{◌^◌, fold}
-use Rattle.ds_table.specs.Versions.{never}
 use Rattle.ds_shard.specs.Contents.{IsTrimmed}
 use Rattle.ds_shard.specs.Histories.{written, trimmed}
 use Rattle.ds_shard.specs.Shards.{ShardParts, floor_of, absorbed}

@@ -1,4 +1,4 @@
-use Rattle.std.proofs.Common.{◌≡◌, ◌∙◌, ap, sym, subst, IsTrue}
+use Rattle.std.proofs.Common.{◌∙◌, ap, sym, subst, IsTrue}
 use Rattle.std.specs.Prelude.{find}
 use Rattle.ds_base.specs.Entities.{EntityParts}
 use Rattle.ds_base.specs.KeyOrder.{same_key}
