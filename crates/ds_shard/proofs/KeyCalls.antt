@@ -1,6 +1,6 @@
 -- What a call that reads or changes the versions of one key leaves of all.
 use Rattle.std.proofs.Common.{◌≡◌, ℕ, Bool, true, false, List, [], ◌∷◌, ◌++◌, Option, Some, None, Result, Ok, Err, refl, sym, ap, ◌∙◌, subst}
-use Rattle.std.specs.Prelude.{find, option_map, OnOk, OnErr, is_some, nat_eq}
+use Rattle.std.specs.Prelude.{find, option_map, OnOk, OnErr, nat_eq}
 use Rattle.std.specs.List.{filter_map}
 use Rattle.std.specs.Map.{set_value}
 use Rattle.std.specs.BTreeMap.{insert_entry, is_at}
@@ -11,9 +11,9 @@ use Rattle.ds_base.specs.Keys.{KeyParts}
 use Rattle.ds_base.specs.KeyOrder.{key_cmp, same_key}
 use Rattle.ds_base.specs.Entities.{EntityParts}
 use Rattle.ds_rows.specs.Versions.{Version, is_seen, entities_at}
-use Rattle.ds_shard.specs.Histories.{Each, IsHistory, IsOver, IsOverAt, is_open, is_current, until_stamp, before_stamp, ends_at, outlives, with_version, joined, AreOwn, AreByKey}
+use Rattle.ds_shard.specs.Histories.{Each, EndsFrom, IsHistory, IsOver, IsOverAt, is_open, is_current, until_stamp, before_stamp, ends_at, outlives, with_version, joined, AreOwn, AreByKey}
 use Rattle.ds_shard.proofs.HistoryLaws.{end_open}
-use Rattle.ds_shard.proofs.ByKey.{Entry, Own, Ascend, Keeps, at_key, listed, local, local_none, local_some, own_set, own_found, found_own, over_found, begun_joined, own_begun, joined_insert, own_insert, find_joined, seen_joined, outliving}
+use Rattle.ds_shard.proofs.ByKey.{Entry, Own, Ascend, Keeps, at_key, listed, local, local_none, local_some, own_set, own_found, found_own, over_found, begun_joined, own_begun, begun_new, own_insert, find_joined, seen_joined, outliving}
 
 -- ---- a change
 
@@ -86,20 +86,21 @@ module _ (v : Version) (k : KeyParts) (key : k ≡ v.entity.key) (es ns : List E
       ap joined (at_own ∙ (ap (set_value (is_at (key_cmp v.entity.key)) es) u
       ∙ set_value_same (is_at (key_cmp v.entity.key)) es vs found_there))
 
-pub absent : {X : Type 0} (o : Option X) (b : Bool) → b ≡ is_some o → b ≡ false → o ≡ None
-absent None b e f = refl
-absent (Some x) b e f = let t : true ≡ false = sym e ∙ f in cc
+-- a list is made for the first version of a key
+module _ (v : Version) (k : KeyParts) (key : k ≡ v.entity.key) (es ns : List Entry) (ws : List Version) (by_key : AreByKey es)
+    (none : at_key v.entity.key es ≡ None) (first : ws ≡ v ∷ []) (is : ns ≡ insert_entry key_cmp es k ws) where
+  inserted : ns ≡ insert_entry key_cmp es v.entity.key (v ∷ [])
+  inserted = is ∙ (ap (λ x. insert_entry key_cmp es x ws) key ∙ ap (insert_entry key_cmp es v.entity.key) first)
 
-module _ (k copy : KeyParts) (es ns : List Entry) (ws : List Version) (same : copy ≡ k) (empty : ws ≡ []) (by_key : AreByKey es)
-    (none : at_key k es ≡ None) (is : ns ≡ insert_entry key_cmp es copy ws) where
-  inserted : ns ≡ insert_entry key_cmp es k []
-  inserted = is ∙ (ap (λ x. insert_entry key_cmp es x ws) same ∙ ap (insert_entry key_cmp es k) empty)
+  pub made_is : joined ns ≡ with_version v (joined es)
+  made_is = ap joined inserted ∙ sym (begun_new v es by_key.own by_key.ascend none)
 
-  pub made_is : joined ns ≡ joined es
-  made_is = ap joined inserted ∙ joined_insert k es none
-
-  pub made_by_key : Ascend ns → AreByKey ns
-  made_by_key a = record { own = subst AreOwn (sym inserted) (own_insert k es none by_key.own); ascend = a }
+  pub made_by_key : v.until ≡ None → Ascend ns → AreByKey ns
+  made_by_key u a = record {
+    own = subst AreOwn (sym inserted)
+        (own_insert v.entity.key es (v ∷ []) none (refl, tt) (subst (EndsFrom v.from) (sym u) tt, tt, tt) by_key.own);
+    ascend = a;
+  }
 
 module _ (k : KeyParts) (es : List Entry) (by_key : AreByKey es) (o : Option (List Version)) (found : o ≡ at_key k es) (all : List Version)
     (view : joined es ≡ all) where

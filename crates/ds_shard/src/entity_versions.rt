@@ -10,7 +10,7 @@ ghost use Rattle.ds_shard.specs.Histories.{joined, is_current, ended, with_versi
 
 use crate::version_list::VersionList;
 use ds_base::{Entity, Key, NoMemory, TryCopy};
-use std::alloc::{AllocError, Global};
+use std::alloc::Global;
 use std::collections::BTreeMap;
 use std::marker::Model;
 
@@ -82,7 +82,6 @@ impl EntityVersions {
         ensures begun { OnOk result (self.new ≡ with_version (record { entity = entity.now; from = stamp; until = None }) self.old) }
         ensures unchanged { OnErr result (self.new ≡ self.old) }
     {
-        make_list(&mut self.by_key, alloc, entity.key())?;
         begin_in(&mut self.by_key, alloc, entity, stamp)
     }
 
@@ -116,20 +115,7 @@ fn end_in(map: &mut BTreeMap<Key, VersionList>, key: &Key, stamp: u64)
     }
 }
 
-/// Makes an empty list for the key where there is none; the versions stay.
-fn make_list(map: &mut BTreeMap<Key, VersionList>, alloc: Global, key: &Key) -> Result<(), NoMemory>
-    requires { AreByKey map.old.entries }
-    ensures by_key { AreByKey map.new.entries }
-    ensures same { joined map.new.entries ≡ joined map.old.entries }
-{
-    if !map.contains_key(key) {
-        let copy = key.copy(alloc)?;
-        map.insert(copy, VersionList::new(alloc))?;
-    }
-    Ok(())
-}
-
-/// Begins a version in the list of its key. Without such a list it counts as want of memory.
+/// Begins a version in the list of its key, which is made where there is none.
 fn begin_in(
     map: &mut BTreeMap<Key, VersionList>,
     alloc: Global,
@@ -145,8 +131,29 @@ fn begin_in(
 {
     match map.get_mut(entity.key()) {
         Some(list) => list.begin(alloc, entity, stamp),
-        None => Err(AllocError),
+        None => begin_list(map, alloc, entity, stamp),
     }
+}
+
+/// Makes the list of a key that has none, with its first version.
+fn begin_list(
+    map: &mut BTreeMap<Key, VersionList>,
+    alloc: Global,
+    entity: &Entity,
+    stamp: u64,
+) -> Result<(), NoMemory>
+    requires by_key { AreByKey map.old.entries }
+    requires none { lookup (is_at (key_cmp entity.now.key)) map.old.entries ≡ None }
+    ensures by_key { AreByKey map.new.entries }
+    ensures begun { OnOk result (joined map.new.entries
+        ≡ with_version (record { entity = entity.now; from = stamp; until = None }) (joined map.old.entries)) }
+    ensures unchanged { OnErr result (joined map.new.entries ≡ joined map.old.entries) }
+{
+    let mut list = VersionList::new(alloc);
+    list.begin(alloc, entity, stamp)?;
+    let key = entity.key().copy(alloc)?;
+    map.insert(key, list)?;
+    Ok(())
 }
 
 /// Takes back what was done to the entity of the key at the stamp.
