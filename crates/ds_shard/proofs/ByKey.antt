@@ -32,7 +32,7 @@ abbrev pub Ascend : List Entry → Type 0
 Ascend es = IsStrictlySortedBy key_cmp (keys_of es)
 
 -- every key is above this one
-abbrev Above : KeyParts → List Entry → Type 0
+abbrev pub Above : KeyParts → List Entry → Type 0
 Above k es = AllByRecursion (λ y. key_cmp k y ≡ Less) (keys_of es)
 
 -- ---- keys

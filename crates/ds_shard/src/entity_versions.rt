@@ -6,7 +6,7 @@ ghost use Rattle.std.specs.Option.{option_copied};
 ghost use Rattle.ds_base.specs.KeyOrder.{key_cmp, same_key};
 ghost use Rattle.ds_base.specs.Entities.{EntityParts};
 ghost use Rattle.ds_rows.specs.Versions.{Version, entities_at};
-ghost use Rattle.ds_shard.specs.Histories.{joined, is_current, ended, with_version, undone, trimmed_at, BeginsBy, IsOverAt, Each, AreByKey};
+ghost use Rattle.ds_shard.specs.Histories.{joined, is_current, ended, with_version, undone, trimmed_at, BeginsBy, IsOverAt, Each, AreByKey, AreByKeyBut};
 
 use crate::version_list::VersionList;
 use ds_base::{Entity, Key, NoMemory, TryCopy};
@@ -160,7 +160,7 @@ fn begin_list(
 fn undo_in(map: &mut BTreeMap<Key, VersionList>, key: &Key, stamp: u64)
     requires by_key { AreByKey map.old.entries }
     requires begun { Each (BeginsBy stamp) (joined map.old.entries) }
-    ensures by_key { AreByKey map.new.entries }
+    ensures by_key { AreByKeyBut key.now map.new.entries }
     ensures undone { joined map.new.entries ≡ undone stamp key.now (joined map.old.entries) }
 {
     if let Some(list) = map.get_mut(key) {
@@ -171,7 +171,7 @@ fn undo_in(map: &mut BTreeMap<Key, VersionList>, key: &Key, stamp: u64)
 /// Takes out the versions of the key that ended at or before the floor.
 fn trim_in(map: &mut BTreeMap<Key, VersionList>, key: &Key, floor: u64)
     requires { AreByKey map.old.entries }
-    ensures by_key { AreByKey map.new.entries }
+    ensures by_key { AreByKeyBut key.now map.new.entries }
     ensures trimmed { joined map.new.entries ≡ trimmed_at floor key.now (joined map.old.entries) }
 {
     if let Some(list) = map.get_mut(key) {
@@ -181,7 +181,7 @@ fn trim_in(map: &mut BTreeMap<Key, VersionList>, key: &Key, floor: u64)
 
 /// Takes the key out where it has no version any more; the versions stay.
 fn drop_empty(map: &mut BTreeMap<Key, VersionList>, key: &Key)
-    requires { AreByKey map.old.entries }
+    requires { AreByKeyBut key.now map.old.entries }
     ensures by_key { AreByKey map.new.entries }
     ensures same { joined map.new.entries ≡ joined map.old.entries }
 {
