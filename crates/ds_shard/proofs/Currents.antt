@@ -1,11 +1,10 @@
 -- The versions that a write leaves open are the entities that it leaves, and no other stamp sees the write.
-use Rattle.std.proofs.Common.{◌≡◌, ℕ, ◌+◌, ◌<◌, ◌≤◌, Bool, true, false, cond, List, [], ◌∷◌, ◌++◌, Option, Some, None, refl, sym, ap, ◌∙◌, subst, arith}
-use Rattle.std.specs.Prelude.{⊤, not, ◌&&◌, nat_le, nat_lt, filter, map}
+use Rattle.std.proofs.Common.{◌≡◌, ℕ, ◌<◌, ◌≤◌, Bool, true, false, cond, List, [], ◌∷◌, Option, Some, None, refl, sym, ap, ◌∙◌, arith}
+use Rattle.std.specs.Prelude.{⊤, not, ◌&&◌, nat_le, nat_lt}
 use Rattle.std.specs.Cmp.{IsTotalOrder, on_total, upto}
-use Rattle.std.specs.List.{AllByRecursion}
 use Rattle.std.specs.declared.cmp.Ordering.{Ordering}
 use Rattle.std.specs.declared.cmp.Ordering.TheVariants.{Less, Equal, Greater}
-use Rattle.std.specs.Ordering.{on, is_eq, is_gt, ordering_reverse}
+use Rattle.std.specs.Ordering.{is_eq, is_gt, ordering_reverse}
 use Rattle.std.proofs.lemmas.Bool.Decides.{nat_tests}
 use Rattle.ds_base.specs.Keys.{KeyParts}
 use Rattle.ds_base.specs.KeyOrder.{key_cmp, same_key}
@@ -18,12 +17,9 @@ use Rattle.ds_log.specs.declared.Write.TheVariants.{Put, Delete}
 use Rattle.ds_log.specs.Logs.{key_of}
 use Rattle.ds_log.specs.After.{apply_write, without}
 use Rattle.ds_rows.specs.Versions.{Version, is_before, is_seen, entities_at}
-use Rattle.ds_shard.specs.Histories.{Each, EndsWithin, is_open, is_current, until_stamp, ended, with_version, written, outlives, trimmed}
-use Rattle.ds_shard.specs.Contents.{IsGiven}
+use Rattle.ds_shard.specs.Histories.{Each, EndsWithin, is_open, is_current, ended, with_version, written}
+use Rattle.ds_shard.specs.Contents.{IsGiven, version_cmp}
 use Rattle.ds_shard.specs.Shards.{entity_cmp, by_key}
-
-abbrev pub version_cmp : Version → Version → Ordering
-version_cmp = on (λ (v : Version). v.entity.key) key_cmp
 
 -- the entities of the open versions
 abbrev pub currents : List Version → List EntityParts

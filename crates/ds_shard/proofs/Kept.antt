@@ -1,7 +1,6 @@
 -- Writes and a rising floor keep the order of versions, and change nothing that earlier stamps of the window see.
-use Rattle.std.proofs.Common.{◌≡◌, ℕ, ◌+◌, ◌<◌, ◌≤◌, Bool, true, false, cond, List, [], ◌∷◌, Option, Some, None, refl, sym, ap, ◌∙◌, arith}
-use Rattle.std.specs.Prelude.{⊤, ◌&&◌, nat_le, nat_lt, filter, fold}
-use Rattle.std.specs.List.{AllByRecursion}
+use Rattle.std.proofs.Common.{◌≡◌, ℕ, ◌<◌, ◌≤◌, Bool, true, false, cond, List, [], ◌∷◌, Option, Some, None, refl, sym, ap, ◌∙◌, arith}
+use Rattle.std.specs.Prelude.{◌&&◌, nat_le, nat_lt, filter}
 use Rattle.std.specs.Cmp.{upto}
 use Rattle.std.specs.declared.cmp.Ordering.{Ordering}
 use Rattle.std.specs.declared.cmp.Ordering.TheVariants.{Less, Equal, Greater}
@@ -15,8 +14,8 @@ use Rattle.ds_log.specs.declared.Write.{Write}
 use Rattle.ds_log.specs.declared.Write.TheVariants.{Put, Delete}
 use Rattle.ds_rows.specs.Versions.{Version, is_before, is_seen, entities_at}
 use Rattle.ds_shard.specs.Histories.{Each, EndsWithin, is_open, is_current, ended, with_version, written, outlives, trimmed}
-use Rattle.ds_shard.specs.Contents.{IsGiven}
-use Rattle.ds_shard.proofs.Currents.{version_cmp, and_false, le_false, lt_true}
+use Rattle.ds_shard.specs.Contents.{IsGiven, version_cmp}
+use Rattle.ds_shard.proofs.Currents.{and_false, le_false, lt_true}
 
 -- ---- by key
 
@@ -130,11 +129,11 @@ given-written n vs (Delete k) g = given-ended n k vs g
 
 -- ---- other stamps
 
-open-before : (u : Option ℕ) (stamp : ℕ) → is_open u ≡ true → is_before u stamp ≡ true
+pub open-before : (u : Option ℕ) (stamp : ℕ) → is_open u ≡ true → is_before u stamp ≡ true
 open-before None stamp h = refl
 open-before (Some u) stamp h = cc
 
-current-open : (a b : Bool) → (a && b) ≡ true → b ≡ true
+pub current-open : (a b : Bool) → (a && b) ≡ true → b ≡ true
 current-open true b h = h
 current-open false b h = cc
 
@@ -170,7 +169,7 @@ seen-written stamp n h vs (Put e) =
     seen-with stamp (record { entity = e; from = n; until = None }) (ended n e.key vs) h ∙ seen-ended stamp n h e.key vs
 seen-written stamp n h vs (Delete k) = seen-ended stamp n h k vs
 
-gone : (u : Option ℕ) (floor stamp : ℕ) → floor ≤ stamp → is_before u floor ≡ false → is_before u stamp ≡ false
+pub gone : (u : Option ℕ) (floor stamp : ℕ) → floor ≤ stamp → is_before u floor ≡ false → is_before u stamp ≡ false
 gone None floor stamp h e = e
 gone (Some u) floor stamp h e = by (nat_lt stamp u) refl where
   by : (b : Bool) → b ≡ nat_lt stamp u → nat_lt stamp u ≡ false

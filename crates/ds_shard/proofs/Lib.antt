@@ -7,3 +7,15 @@ mod Kept
 mod LastVersions
 mod SeenVersions
 mod Standing
+mod Counting
+mod Ordered
+mod Own
+mod Trimming
+mod RowsApart
+mod RowSteps
+mod Closing
+mod Beginning
+mod Undoing
+mod Seeking
+mod Writing
+mod Absorbing

@@ -1,7 +1,7 @@
 -- A shard that absorbed entries stands for them at each stamp of its window.
 use Rattle.std.proofs.Common.{◌≡◌, ℕ, ◌+◌, ◌-◌, ◌<◌, ◌≤◌, Bool, true, false, cond, List, [], ◌∷◌, ◌++◌, length, take, refl, sym, ap, ◌∙◌, subst, arith}
 use Rattle.std.proofs.Common.{append-nil, append_assoc, length-append}
-use Rattle.std.specs.Prelude.{⊤, nat_lt, fold, flat_map}
+use Rattle.std.specs.Prelude.{nat_lt, fold, flat_map}
 use Rattle.std.proofs.lemmas.Bool.Decides.{nat_tests}
 use Rattle.std.proofs.lemmas.List.{take_all, take-append-le}
 use Rattle.std.proofs.lemmas.List.Concat.{flat_map-append}
@@ -16,15 +16,15 @@ use Rattle.ds_log.specs.Logs.{entry_writes, key_of}
 use Rattle.ds_rows.specs.Rows.{rows_of}
 use Rattle.ds_rows.specs.Versions.{Version, entities_at}
 use Rattle.ds_shard.specs.Histories.{Each, written, trimmed, outlives}
-use Rattle.ds_shard.specs.Contents.{IsGiven}
+use Rattle.ds_shard.specs.Contents.{IsGiven, version_cmp}
 use Rattle.ds_shard.specs.Shards.{ShardParts, StandsFor, floor_of, floor, empty, absorbed, shard_of_entries, last_commit, by_key}
-use Rattle.ds_shard.proofs.Currents.{version_cmp, currents, seen_currents, currents-written}
+use Rattle.ds_shard.proofs.Currents.{currents, seen_currents, currents-written}
 use Rattle.ds_shard.proofs.Kept.{Ascends-ended, Ascends-written, Ascends-filter, given-later, given-written, given-filter}
 use Rattle.ds_shard.proofs.Kept.{seen-written, seen-trimmed, trimmed-twice}
 
 -- ---- the floor
 
-floor_is : (window count : ℕ) → 1 ≤ window → floor_of window count ≡ (count + 1) - window
+pub floor_is : (window count : ℕ) → 1 ≤ window → floor_of window count ≡ (count + 1) - window
 floor_is window count h = by (nat_lt count window) refl where
   by : (b : Bool) → b ≡ nat_lt count window → cond b 0 (count - window + 1) ≡ (count + 1) - window
   by true e = let l : count < window = grind (arith, nat_tests) in omega (arith, l)

@@ -1,14 +1,18 @@
 -- The entities of a shard and the table of their rows, which writes change together.
-use Rattle.std.specs.Prelude.{◌≡◌, ℕ, ◌+◌, ◌≤◌, ◌<◌, Bool, List, [], ◌∷◌, fold, filter, map, Contains, IsTrue, if◌then◌else◌}
+use Rattle.std.specs.Prelude.{◌≡◌, ℕ, ◌+◌, ◌≤◌, ◌<◌, Bool, List, [], ◌∷◌, Some, filter, IsTrue, if◌then◌else◌}
+use Rattle.std.specs.List.{filter_map, list_any}
 use Rattle.ds_base.specs.Keys.{KeyParts}
-use Rattle.ds_base.specs.KeyOrder.{same_key}
+use Rattle.std.specs.declared.cmp.Ordering.{Ordering}
+use Rattle.std.specs.Ordering.{on}
+use Rattle.ds_base.specs.KeyOrder.{key_cmp, same_key}
+use Rattle.ds_base.specs.SortingLaws.{Ascends}
 use Rattle.ds_indexdef.specs.declared.IndexDef.{IndexDef}
 use Rattle.ds_indexdef.specs.Definitions.{AreDefs}
 use Rattle.ds_rows.specs.Indexable.{IsIndexable}
 use Rattle.ds_rows.specs.Versions.{Version}
 use Rattle.ds_table.specs.Blocks.{Tabled, versions}
 use Rattle.ds_table.specs.Versions as table
-use Rattle.ds_shard.specs.Histories.{Each, BeginsBy, EndsWithin, Precedes, trimmed, undone}
+use Rattle.ds_shard.specs.Histories.{Each, BeginsBy, EndsWithin, Precedes, before_stamp, trimmed}
 use Rattle.ds_shard.specs.Rows.{rows_of_versions}
 
 pub record ContentsParts : Type 0 where
@@ -35,10 +39,15 @@ pub record IsGiven (stamp : ℕ) (v : Version) : Type 0 where
 abbrev pub IsGivenBefore : ℕ → Version → Type 0
 IsGivenBefore stamp v = (given : ℕ) × (stamp ≡ given + 1) × IsGiven given v
 
+-- versions compare by the keys of their entities
+abbrev pub version_cmp : Version → Version → Ordering
+version_cmp = on (λ (v : Version). v.entity.key) key_cmp
+
 -- of two versions of one key the one precedes the other
 abbrev pub PrecedesOwn : Version → Version → Type 0
 PrecedesOwn v w = IsTrue (same_key v.entity.key w.entity.key) → Precedes v w
 
+-- the versions of each key are a history
 abbrev pub AreHistories : List Version → Type 0
 AreHistories [] = Unit {0}
 AreHistories (v ∷ vs) = Each (PrecedesOwn v) vs × AreHistories vs
@@ -48,6 +57,7 @@ pub record AreKept (stamp : ℕ) (c : ContentsParts) : Type 0 where
   pub definitions : AreDefs c.definitions
   pub indexable : Each (λ (v : Version). IsIndexable v.entity) c.entities
   pub given : Each (IsGiven stamp) c.entities
+  pub ascend : Ascends version_cmp c.entities
   pub histories : AreHistories c.entities
   pub rows : HaveSame (versions c.table) (rows_of_versions c.definitions (trimmed c.table.floor c.entities))
   pub last : c.table.last ≤ stamp
@@ -57,8 +67,8 @@ pub record AreKept (stamp : ℕ) (c : ContentsParts) : Type 0 where
   pub a_stamp : stamp < table.never
 
 -- the versions of these keys before the writes at the stamp, and all others
-abbrev pub all_undone : ℕ → List Version → List KeyParts → List Version
-all_undone stamp = fold (λ vs k. undone stamp k vs)
+abbrev pub all_undone : ℕ → List KeyParts → List Version → List Version
+all_undone stamp keys = filter_map (λ v. if list_any (same_key v.entity.key) keys then before_stamp stamp v else Some v)
 
 -- what was done at the stamp can be taken back
 pub record CanUndo (stamp : ℕ) (c : ContentsParts) : Type 0 where
@@ -72,7 +82,7 @@ pub record CanUndo (stamp : ℕ) (c : ContentsParts) : Type 0 where
 -- entities where those of all these keys are taken back.
 pub record LeadBack (stamp : ℕ) (keys : List KeyParts) (c d : ContentsParts) : Type 0 where
   pub table : table.undone stamp (versions d.table) ≡ table.undone stamp (versions c.table)
-  pub entities : all_undone stamp d.entities keys ≡ all_undone stamp c.entities keys
+  pub entities : all_undone stamp keys d.entities ≡ all_undone stamp keys c.entities
   pub floor : d.table.floor ≡ c.table.floor
   pub least : d.table.least ≡ c.table.least
   pub least_undone : d.table.least_undone ≡ c.table.least_undone
@@ -80,7 +90,7 @@ pub record LeadBack (stamp : ℕ) (keys : List KeyParts) (c d : ContentsParts) :
 
 -- a step that leads back, whatever other keys are taken back as well
 abbrev pub LeadsBack : ℕ → KeyParts → ContentsParts → ContentsParts → Type 0
-LeadsBack stamp k c d = ((keys : List KeyParts) → Contains keys k → LeadBack stamp keys c d) × CanUndo stamp d
+LeadsBack stamp k c d = ((keys : List KeyParts) → IsTrue (list_any (same_key k) keys) → LeadBack stamp keys c d) × CanUndo stamp d
 
 -- it was taken back
 pub record IsBack (stamp : ℕ) (c d : ContentsParts) : Type 0 where

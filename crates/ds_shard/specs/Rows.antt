@@ -1,5 +1,5 @@
 -- The rows of versions of entities, as a table holds them.
-use Rattle.std.specs.Prelude.{◌≡◌, ℕ, List, [], ◌∷◌, Option, Some, None, map, flat_map, fold}
+use Rattle.std.specs.Prelude.{ℕ, List, Option, Some, None, map, flat_map, fold}
 use Rattle.ds_indexdef.specs.declared.IndexDef.{IndexDef}
 use Rattle.ds_rows.specs.Rows.{rows_of}
 use Rattle.ds_rows.specs.Versions.{Version}

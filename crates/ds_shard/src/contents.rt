@@ -7,8 +7,8 @@ ghost use Rattle.ds_log.specs.Logs.{key_of};
 ghost use Rattle.ds_rows.specs.Versions.{Version, entities_at};
 ghost use Rattle.ds_table.specs.Versions.{never};
 ghost use Rattle.ds_table.specs.Blocks.{versions};
-ghost use Rattle.ds_shard.specs.Histories.{written, ended, with_version, trimmed, IsOverAt, Each};
-ghost use Rattle.ds_shard.specs.Contents.{ContentsParts, AreKept, IsGivenBefore, CanUndo, IsBack, IsTrimmed, AreFewer, LeadBack, LeadsBack};
+ghost use Rattle.ds_shard.specs.Histories.{written, ended, with_version, trimmed, BeginsBy, IsOverAt, Each};
+ghost use Rattle.ds_shard.specs.Contents.{ContentsParts, all_undone, AreKept, IsGivenBefore, CanUndo, IsBack, IsTrimmed, AreFewer, LeadBack, LeadsBack};
 
 use crate::entity_versions::EntityVersions;
 use crate::expiring::Expiring;
@@ -110,10 +110,10 @@ impl Contents {
         ensures kept { OnOk result (AreKept stamp self.new) }
         ensures leads_back { LeadsBack stamp key.now self.old self.new }
     {
-        let Some(entity) = self.entities.current(key) else {
-            return Ok(());
+        let rows = match self.entities.current(key) {
+            Some(entity) => rows_of(self.alloc, &self.defs, entity)?,
+            None => return Ok(()),
         };
-        let rows = rows_of(self.alloc, &self.defs, entity)?;
         let copy = key.copy(self.alloc)?;
         self.expiring.push(copy, stamp)?;
         close_rows(&mut self.table, &rows, stamp);
@@ -162,9 +162,7 @@ impl Contents {
             → LeadBack stamp (map key_of writes.now) before self.old → IsBack stamp before self.new }
     {
         self.table.undo(stamp);
-        for write in writes {
-            self.entities.undo(write.key(), stamp);
-        }
+        undo_writes(&mut self.entities, stamp, writes);
         self.expiring.undo(stamp);
     }
 
@@ -178,18 +176,26 @@ impl Contents {
         ensures kept { (stamp : ℕ) → AreKept stamp self.old → floor ≤ stamp → stamp + 1 < never → IsTrimmed stamp self.new }
     {
         self.table.trim(floor);
-        self.trim_entities(floor);
+        trim_due(&mut self.entities, &mut self.expiring, floor);
     }
+}
 
-    /// Takes out versions that ended at or before the floor. It takes no memory.
-    fn trim_entities(&mut self, floor: u64)
-        ensures entities { trimmed floor self.new.entities ≡ trimmed floor self.old.entities }
-        ensures kept { AreFewer self.old.entities self.new.entities }
-        ensures definitions { self.new.definitions ≡ self.old.definitions }
-        ensures table { self.new.table ≡ self.old.table }
-    {
-        while let Some(key) = self.expiring.pop_due(floor) {
-            self.entities.trim(&key, floor);
-        }
+/// Takes back what was done at the stamp to the entities that were written. It takes no memory.
+fn undo_writes(entities: &mut EntityVersions, stamp: u64, writes: &[Write])
+    requires { Each (BeginsBy stamp) entities.old }
+    ensures { entities.new ≡ all_undone stamp (map key_of writes.now) entities.old }
+{
+    for write in writes {
+        entities.undo(write.key(), stamp);
+    }
+}
+
+/// Takes out the versions that ended at or before the floor, of the keys that are due. It takes no memory.
+fn trim_due(entities: &mut EntityVersions, expiring: &mut Expiring, floor: u64)
+    ensures entities { trimmed floor entities.new ≡ trimmed floor entities.old }
+    ensures fewer { AreFewer entities.old entities.new }
+{
+    while let Some(key) = expiring.pop_due(floor) {
+        entities.trim(&key, floor);
     }
 }

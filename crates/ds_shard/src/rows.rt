@@ -24,8 +24,9 @@ pub(crate) fn close_rows(table: &mut Table, rows: &RowSet, stamp: u64)
     ensures same_least_undone { table.new.least_undone ≡ table.old.least_undone }
 {
     for i in 0..rows.len() {
-        if let Some(row) = rows.get(i) {
-            table.close(row, stamp);
+        match rows.get(i) {
+            Some(row) => table.close(row, stamp),
+            None => {}
         }
     }
 }
@@ -45,8 +46,9 @@ pub(crate) fn add_rows(table: &mut Table, rows: &RowSet, stamp: u64) -> Result<(
     ensures same_least_undone { table.new.least_undone ≡ table.old.least_undone }
 {
     for i in 0..rows.len() {
-        if let Some(row) = rows.get(i) {
-            table.add(row, stamp)?;
+        match rows.get(i) {
+            Some(row) => table.add(row, stamp)?,
+            None => {}
         }
     }
     Ok(())

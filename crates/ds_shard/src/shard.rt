@@ -4,6 +4,7 @@ ghost use Rattle.std.specs.Option.{option_copied};
 ghost use Rattle.ds_base.specs.Entities.{EntityParts};
 ghost use Rattle.ds_base.specs.KeyOrder.{same_key};
 ghost use Rattle.ds_rows.specs.Versions.{entities_at, AreTables};
+ghost use Rattle.ds_table.specs.Versions.{never};
 ghost use Rattle.ds_shard.specs.Contents.{HaveSame};
 ghost use Rattle.ds_shard.specs.Rows.{rows_of_versions};
 ghost use Rattle.ds_shard.specs.Shards.{floor_of, empty, absorbed, keeps};
@@ -103,10 +104,11 @@ impl Shard {
         ShardTables::new(self)
     }
 
-    /// The least row that is seen at the stamp, isn't below `at_least`, and is below `below` where that is given.
+    /// The table of rows at the stamp.
     pub(crate) fn view(&self, stamp: u64) -> TableView<'_>
         requires { IsTrue (keeps self.now stamp) }
         ensures stamp { result.stamp ≡ stamp }
+        ensures a_stamp { stamp < never }
         ensures rows { HaveSame result.versions (rows_of_versions self.now.definitions self.now.versions) }
         ensures tables { AreTables self.now.definitions stamp self.now.versions }
     {
