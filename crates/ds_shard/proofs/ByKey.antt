@@ -5,7 +5,7 @@ use Rattle.std.specs.List.{filter_map, AllByRecursion, cons_option}
 use Rattle.std.specs.List.Sorted.{IsStrictlySortedBy}
 use Rattle.std.specs.Map.{keys_of, lookup, set_value, remove_entry}
 use Rattle.std.specs.BTreeMap.{insert_entry, is_at}
-use Rattle.std.specs.Ordering.{is_eq, is_lt, ordering_reverse}
+use Rattle.std.specs.Ordering.{is_eq, is_lt, match_ordering, ordering_reverse}
 use Rattle.std.specs.declared.cmp.Ordering.{Ordering}
 use Rattle.std.specs.declared.cmp.Ordering.TheVariants.{Less, Equal, Greater}
 use Rattle.std.proofs.lemmas.List.{append-nil}
@@ -32,7 +32,7 @@ abbrev pub Ascend : List Entry → Type 0
 Ascend es = IsStrictlySortedBy key_cmp (keys_of es)
 
 -- every key is above this one
-abbrev Above : KeyParts → List Entry → Type 0
+abbrev pub Above : KeyParts → List Entry → Type 0
 Above k es = AllByRecursion (λ y. key_cmp k y ≡ Less) (keys_of es)
 
 -- ---- keys
@@ -276,25 +276,36 @@ pub own_begun : (v : Version) (es : List Entry) (vs : List Version) → AreOwn e
     → Each (Own v.entity.key) (vs ++ v ∷ [])
 own_begun v es vs o s = own-push v.entity.key vs v (found_own v.entity.key es vs o s) refl
 
--- ---- a key without versions
-
-pub joined_insert : (k : KeyParts) (es : List Entry) → at_key k es ≡ None → joined (insert_entry key_cmp es k []) ≡ joined es
-joined_insert k [] n = refl
-joined_insert k (e ∷ es) n = by (key_cmp k e.0) refl (joined_insert k es) where
-  by : (r : Ordering) → key_cmp k e.0 ≡ r → (at_key k es ≡ None → joined (insert_entry key_cmp es k []) ≡ joined es)
-      → joined (insert_entry key_cmp (e ∷ es) k []) ≡ joined (e ∷ es)
-  by Less c i = rw c refl
+pub begun_new : (v : Version) (es : List Entry) → AreOwn es → Ascend es → at_key v.entity.key es ≡ None
+    → with_version v (joined es) ≡ joined (insert_entry key_cmp es v.entity.key (v ∷ []))
+begun_new v [] o a n = refl
+begun_new v (e ∷ es) o a n = by (key_cmp v.entity.key e.0) refl (begun_new v es o.2 (ascend_tail e es a)) where
+  by : (r : Ordering) → key_cmp v.entity.key e.0 ≡ r
+      → (at_key v.entity.key es ≡ None → with_version v (joined es) ≡ joined (insert_entry key_cmp es v.entity.key (v ∷ [])))
+      → with_version v (joined (e ∷ es)) ≡ joined (insert_entry key_cmp (e ∷ es) v.entity.key (v ∷ []))
+  by Less c i =
+      stops v (e ∷ es) o (c, above-down v.entity.key e.0 es c (ascend_head e es a))
+      ∙ sym (ap (λ r. joined (match_ordering r ((v.entity.key, v ∷ []) ∷ e ∷ es) ((e.0, v ∷ []) ∷ es)
+      (e ∷ insert_entry key_cmp es v.entity.key (v ∷ [])))) c)
   by Equal c i = let f : Some e.1 ≡ None = rw c at n in cc
-  by Greater c i = rw c (ap (λ xs. e.1 ++ xs) (i (rw c at n)))
+  by Greater c i =
+      let rest : at_key v.entity.key es ≡ None = rw c at n in
+      passes v e.0 e.1 (joined es) (ap is_lt c) o.0
+      ∙ (ap (λ xs. e.1 ++ xs) (i rest)
+      ∙ sym (ap (λ r. joined (match_ordering r ((v.entity.key, v ∷ []) ∷ e ∷ es) ((e.0, v ∷ []) ∷ es)
+      (e ∷ insert_entry key_cmp es v.entity.key (v ∷ [])))) c))
 
-pub own_insert : (k : KeyParts) (es : List Entry) → at_key k es ≡ None → AreOwn es → AreOwn (insert_entry key_cmp es k [])
-own_insert k [] n o = (tt, tt, tt)
-own_insert k (e ∷ es) n o = by (key_cmp k e.0) refl (λ m. own_insert k es m o.2) where
-  by : (r : Ordering) → key_cmp k e.0 ≡ r → (at_key k es ≡ None → AreOwn (insert_entry key_cmp es k []))
-      → AreOwn (insert_entry key_cmp (e ∷ es) k [])
-  by Less c i = rw c (tt, tt, o)
+pub own_insert : (k : KeyParts) (es : List Entry) (ws : List Version) → at_key k es ≡ None → Each (Own k) ws → IsHistory ws → AreOwn es
+    → AreOwn (insert_entry key_cmp es k ws)
+own_insert k [] ws n own h o = (own, h, tt)
+own_insert k (e ∷ es) ws n own h o = by (key_cmp k e.0) refl (λ m. own_insert k es ws m own h o.2) where
+  by : (r : Ordering) → key_cmp k e.0 ≡ r → (at_key k es ≡ None → AreOwn (insert_entry key_cmp es k ws))
+      → AreOwn (insert_entry key_cmp (e ∷ es) k ws)
+  by Less c i = rw c (own, h, o)
   by Equal c i = let f : Some e.1 ≡ None = rw c at n in cc
   by Greater c i = rw c (o.0, o.1, i (rw c at n))
+
+-- ---- a key without versions
 
 pub joined_remove : (k : KeyParts) (es : List Entry) → at_key k es ≡ Some [] → joined (remove_entry (is_at (key_cmp k)) es) ≡ joined es
 joined_remove k [] s = cc

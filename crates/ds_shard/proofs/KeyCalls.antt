@@ -1,8 +1,8 @@
 -- What a call that reads or changes the versions of one key leaves of all.
 use Rattle.std.proofs.Common.{◌≡◌, ℕ, Bool, true, false, List, [], ◌∷◌, ◌++◌, Option, Some, None, Result, Ok, Err, refl, sym, ap, ◌∙◌, subst}
-use Rattle.std.specs.Prelude.{find, option_map, OnOk, OnErr, is_some, nat_eq}
+use Rattle.std.specs.Prelude.{find, option_map, OnOk, OnErr, nat_eq}
 use Rattle.std.specs.List.{filter_map}
-use Rattle.std.specs.Map.{set_value}
+use Rattle.std.specs.Map.{set_value, remove_entry}
 use Rattle.std.specs.BTreeMap.{insert_entry, is_at}
 use Rattle.std.specs.declared.cmp.Ordering.{Ordering}
 use Rattle.std.specs.declared.cmp.Ordering.TheVariants.{Less, Equal, Greater}
@@ -11,9 +11,10 @@ use Rattle.ds_base.specs.Keys.{KeyParts}
 use Rattle.ds_base.specs.KeyOrder.{key_cmp, same_key}
 use Rattle.ds_base.specs.Entities.{EntityParts}
 use Rattle.ds_rows.specs.Versions.{Version, is_seen, entities_at}
-use Rattle.ds_shard.specs.Histories.{Each, IsHistory, IsOver, IsOverAt, is_open, is_current, until_stamp, before_stamp, ends_at, outlives, with_version, joined, AreOwn, AreByKey}
+use Rattle.ds_shard.specs.Histories.{Each, EndsFrom, IsHistory, IsOver, IsOverAt, is_open, is_current, until_stamp, before_stamp, ends_at, outlives, with_version, joined, AreOwn, AreByKey, AreByKeyBut, IsFilled, AreFilled, AreFilledBut}
 use Rattle.ds_shard.proofs.HistoryLaws.{end_open}
-use Rattle.ds_shard.proofs.ByKey.{Entry, Own, Ascend, Keeps, at_key, listed, local, local_none, local_some, own_set, own_found, found_own, over_found, begun_joined, own_begun, joined_insert, own_insert, find_joined, seen_joined, outliving}
+use Rattle.ds_shard.proofs.ByKey.{Entry, Own, Ascend, Keeps, at_key, listed, local, local_none, local_some, own_set, own_found, found_own, over_found, begun_joined, own_begun, begun_new, own_insert, own_remove, find_joined, seen_joined, outliving}
+use Rattle.ds_shard.proofs.FilledKeys.{filled_set, filled_but_set, filled_but, filled_found, filled_insert, filled_remove, filled_kept, filled-push}
 
 -- ---- a change
 
@@ -31,18 +32,34 @@ module _ (g : Version → Option Version) (k : KeyParts) (es : List Entry) (by_k
   pub nothing_changed : (ns : List Entry) → None ≡ at_key k es → ns ≡ es → joined ns ≡ local g k (joined es)
   nothing_changed ns found is = ap joined is ∙ sym (local_none g k es by_key.own by_key.ascend (sym found))
 
+  pub nothing_but : (ns : List Entry) → ns ≡ es → AreByKeyBut k ns
+  nothing_but ns is =
+      subst (AreByKeyBut k) (sym is) (record { own = by_key.own; ascend = by_key.ascend; filled = filled_but k es by_key.filled })
+
   module _ (vs ws : List Version) (ns : List Entry) (found : Some vs ≡ at_key k es) (after : ws ≡ filter_map g vs)
       (is : ns ≡ set_value (is_at (key_cmp k)) es ws) where
     pub changed : joined ns ≡ local g k (joined es)
     changed =
         ap joined (is ∙ ap (set_value (is_at (key_cmp k)) es) after) ∙ sym (local_some g k es vs by_key.own by_key.ascend (sym found))
 
-    pub changed_by_key : Keeps g → IsHistory ws → Ascend ns → AreByKey ns
-    changed_by_key keeps h a = record {
-      own = subst AreOwn (sym is)
-          (own_set k es ws by_key.own
-          (subst (λ xs. Each (Own k) xs) (sym after) (own_found g keeps k es vs by_key.own (sym found))) h);
+    changed_own : Keeps g → IsHistory ws → AreOwn ns
+    changed_own keeps h =
+        subst AreOwn (sym is)
+        (own_set k es ws by_key.own
+        (subst (λ xs. Each (Own k) xs) (sym after) (own_found g keeps k es vs by_key.own (sym found))) h)
+
+    pub changed_by_key : Keeps g → IsHistory ws → Ascend ns → (IsFilled vs → IsFilled ws) → AreByKey ns
+    changed_by_key keeps h a stays = record {
+      own = changed_own keeps h;
       ascend = a;
+      filled = subst AreFilled (sym is) (filled_set k es ws by_key.filled (stays (filled_found k es vs by_key.filled (sym found))));
+    }
+
+    pub changed_but : Keeps g → IsHistory ws → Ascend ns → AreByKeyBut k ns
+    changed_but keeps h a = record {
+      own = changed_own keeps h;
+      ascend = a;
+      filled = subst (AreFilledBut k) (sym is) (filled_but_set k es ws by_key.filled);
     }
 
 pub over_there : (stamp : ℕ) (k j : KeyParts) (es : List Entry) (vs : List Version) → j ≡ k → AreByKey es
@@ -65,6 +82,7 @@ module _ (v : Version) (k : KeyParts) (key : k ≡ v.entity.key) (es ns : List E
         (own_set v.entity.key es ws by_key.own
         (subst (λ xs. Each (Own v.entity.key) xs) (sym b) (own_begun v es vs by_key.own found_there)) h);
     ascend = a;
+    filled = subst AreFilled (sym at_own) (filled_set v.entity.key es ws by_key.filled (subst IsFilled (sym b) (filled-push vs v)));
   }
   begun_by_key (Err e) b u h a = record {
     own = subst AreOwn (sym at_own)
@@ -72,6 +90,9 @@ module _ (v : Version) (k : KeyParts) (key : k ≡ v.entity.key) (es ns : List E
         (subst (λ xs. Each (Own v.entity.key) xs) (sym u) (found_own v.entity.key es vs by_key.own found_there))
         (subst IsHistory (sym u) (found_history v.entity.key es vs by_key.own found_there)));
     ascend = a;
+    filled = subst AreFilled (sym at_own)
+        (filled_set v.entity.key es ws by_key.filled
+        (subst IsFilled (sym u) (filled_found v.entity.key es vs by_key.filled found_there)));
   }
 
   pub begun_is : {A E : Type 0} (r : Result A E) → OnOk r (ws ≡ vs ++ v ∷ []) → OnOk r (joined ns ≡ with_version v (joined es))
@@ -86,20 +107,34 @@ module _ (v : Version) (k : KeyParts) (key : k ≡ v.entity.key) (es ns : List E
       ap joined (at_own ∙ (ap (set_value (is_at (key_cmp v.entity.key)) es) u
       ∙ set_value_same (is_at (key_cmp v.entity.key)) es vs found_there))
 
-pub absent : {X : Type 0} (o : Option X) (b : Bool) → b ≡ is_some o → b ≡ false → o ≡ None
-absent None b e f = refl
-absent (Some x) b e f = let t : true ≡ false = sym e ∙ f in cc
+-- a list is made for the first version of a key
+module _ (v : Version) (k : KeyParts) (key : k ≡ v.entity.key) (es ns : List Entry) (ws : List Version) (by_key : AreByKey es)
+    (none : at_key v.entity.key es ≡ None) (first : ws ≡ v ∷ []) (is : ns ≡ insert_entry key_cmp es k ws) where
+  inserted : ns ≡ insert_entry key_cmp es v.entity.key (v ∷ [])
+  inserted = is ∙ (ap (λ x. insert_entry key_cmp es x ws) key ∙ ap (insert_entry key_cmp es v.entity.key) first)
 
-module _ (k copy : KeyParts) (es ns : List Entry) (ws : List Version) (same : copy ≡ k) (empty : ws ≡ []) (by_key : AreByKey es)
-    (none : at_key k es ≡ None) (is : ns ≡ insert_entry key_cmp es copy ws) where
-  inserted : ns ≡ insert_entry key_cmp es k []
-  inserted = is ∙ (ap (λ x. insert_entry key_cmp es x ws) same ∙ ap (insert_entry key_cmp es k) empty)
+  pub made_is : joined ns ≡ with_version v (joined es)
+  made_is = ap joined inserted ∙ sym (begun_new v es by_key.own by_key.ascend none)
 
-  pub made_is : joined ns ≡ joined es
-  made_is = ap joined inserted ∙ joined_insert k es none
+  pub made_by_key : v.until ≡ None → Ascend ns → AreByKey ns
+  made_by_key u a = record {
+    own = subst AreOwn (sym inserted)
+        (own_insert v.entity.key es (v ∷ []) none (refl, tt) (subst (EndsFrom v.from) (sym u) tt, tt, tt) by_key.own);
+    ascend = a;
+    filled = subst AreFilled (sym inserted) (filled_insert v.entity.key es (v ∷ []) by_key.filled tt);
+  }
 
-  pub made_by_key : Ascend ns → AreByKey ns
-  made_by_key a = record { own = subst AreOwn (sym inserted) (own_insert k es none by_key.own); ascend = a }
+-- a key without a version is taken out, or else has one
+module _ (k : KeyParts) (es : List Entry) (by_key : AreByKeyBut k es) where
+  pub kept_by_key : (at_key k es ≡ Some [] → ⊥) → AreByKey es
+  kept_by_key has = record { own = by_key.own; ascend = by_key.ascend; filled = filled_kept k es by_key.ascend by_key.filled has }
+
+  pub removed_by_key : (ns : List Entry) → ns ≡ remove_entry (is_at (key_cmp k)) es → Ascend ns → AreByKey ns
+  removed_by_key ns is a = record {
+    own = subst AreOwn (sym is) (own_remove k es by_key.own);
+    ascend = a;
+    filled = subst AreFilled (sym is) (filled_remove k es by_key.ascend by_key.filled);
+  }
 
 module _ (k : KeyParts) (es : List Entry) (by_key : AreByKey es) (o : Option (List Version)) (found : o ≡ at_key k es) (all : List Version)
     (view : joined es ≡ all) where

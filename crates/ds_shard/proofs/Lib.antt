@@ -1,5 +1,6 @@
 mod ByKey
 mod Currents
+mod FilledKeys
 mod HistoryLaws
 mod KeyCalls
 mod Kept

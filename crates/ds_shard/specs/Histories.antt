@@ -134,7 +134,29 @@ abbrev pub AreOwn : List (KeyParts × List Version) → Type 0
 AreOwn [] = Unit {0}
 AreOwn (e ∷ es) = Each (λ (v : Version). v.entity.key ≡ e.0) e.1 × IsHistory e.1 × AreOwn es
 
--- and the keys ascend
+-- there is a version
+abbrev pub IsFilled : List Version → Type 0
+IsFilled [] = ⊥
+IsFilled (v ∷ vs) = Unit {0}
+
+-- each key has a version
+abbrev pub AreFilled : List (KeyParts × List Version) → Type 0
+AreFilled [] = Unit {0}
+AreFilled (e ∷ es) = IsFilled e.1 × AreFilled es
+
+-- each key has one, but maybe this key
+abbrev pub AreFilledBut : KeyParts → List (KeyParts × List Version) → Type 0
+AreFilledBut k [] = Unit {0}
+AreFilledBut k (e ∷ es) = (same_key k e.0 ≡ false → IsFilled e.1) × AreFilledBut k es
+
+-- the keys ascend, and each has versions, which are its own
 pub record AreByKey (es : List (KeyParts × List Version)) : Type 0 where
   pub own : AreOwn es
   pub ascend : IsStrictlySortedBy key_cmp (keys_of es)
+  pub filled : AreFilled es
+
+-- the same, but this key may have none
+pub record AreByKeyBut (k : KeyParts) (es : List (KeyParts × List Version)) : Type 0 where
+  pub own : AreOwn es
+  pub ascend : IsStrictlySortedBy key_cmp (keys_of es)
+  pub filled : AreFilledBut k es

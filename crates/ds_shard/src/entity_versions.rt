@@ -6,11 +6,11 @@ ghost use Rattle.std.specs.Option.{option_copied};
 ghost use Rattle.ds_base.specs.KeyOrder.{key_cmp, same_key};
 ghost use Rattle.ds_base.specs.Entities.{EntityParts};
 ghost use Rattle.ds_rows.specs.Versions.{Version, entities_at};
-ghost use Rattle.ds_shard.specs.Histories.{joined, is_current, ended, with_version, undone, trimmed_at, BeginsBy, IsOverAt, Each, AreByKey};
+ghost use Rattle.ds_shard.specs.Histories.{joined, is_current, ended, with_version, undone, trimmed_at, BeginsBy, IsOverAt, Each, AreByKey, AreByKeyBut};
 
 use crate::version_list::VersionList;
 use ds_base::{Entity, Key, NoMemory, TryCopy};
-use std::alloc::{AllocError, Global};
+use std::alloc::Global;
 use std::collections::BTreeMap;
 use std::marker::Model;
 
@@ -82,7 +82,6 @@ impl EntityVersions {
         ensures begun { OnOk result (self.new ≡ with_version (record { entity = entity.now; from = stamp; until = None }) self.old) }
         ensures unchanged { OnErr result (self.new ≡ self.old) }
     {
-        make_list(&mut self.by_key, alloc, entity.key())?;
         begin_in(&mut self.by_key, alloc, entity, stamp)
     }
 
@@ -116,20 +115,7 @@ fn end_in(map: &mut BTreeMap<Key, VersionList>, key: &Key, stamp: u64)
     }
 }
 
-/// Makes an empty list for the key where there is none; the versions stay.
-fn make_list(map: &mut BTreeMap<Key, VersionList>, alloc: Global, key: &Key) -> Result<(), NoMemory>
-    requires { AreByKey map.old.entries }
-    ensures by_key { AreByKey map.new.entries }
-    ensures same { joined map.new.entries ≡ joined map.old.entries }
-{
-    if !map.contains_key(key) {
-        let copy = key.copy(alloc)?;
-        map.insert(copy, VersionList::new(alloc))?;
-    }
-    Ok(())
-}
-
-/// Begins a version in the list of its key. Without such a list it counts as want of memory.
+/// Begins a version in the list of its key, which is made where there is none.
 fn begin_in(
     map: &mut BTreeMap<Key, VersionList>,
     alloc: Global,
@@ -145,15 +131,36 @@ fn begin_in(
 {
     match map.get_mut(entity.key()) {
         Some(list) => list.begin(alloc, entity, stamp),
-        None => Err(AllocError),
+        None => begin_list(map, alloc, entity, stamp),
     }
+}
+
+/// Makes the list of a key that has none, with its first version.
+fn begin_list(
+    map: &mut BTreeMap<Key, VersionList>,
+    alloc: Global,
+    entity: &Entity,
+    stamp: u64,
+) -> Result<(), NoMemory>
+    requires by_key { AreByKey map.old.entries }
+    requires none { lookup (is_at (key_cmp entity.now.key)) map.old.entries ≡ None }
+    ensures by_key { AreByKey map.new.entries }
+    ensures begun { OnOk result (joined map.new.entries
+        ≡ with_version (record { entity = entity.now; from = stamp; until = None }) (joined map.old.entries)) }
+    ensures unchanged { OnErr result (joined map.new.entries ≡ joined map.old.entries) }
+{
+    let mut list = VersionList::new(alloc);
+    list.begin(alloc, entity, stamp)?;
+    let key = entity.key().copy(alloc)?;
+    map.insert(key, list)?;
+    Ok(())
 }
 
 /// Takes back what was done to the entity of the key at the stamp.
 fn undo_in(map: &mut BTreeMap<Key, VersionList>, key: &Key, stamp: u64)
     requires by_key { AreByKey map.old.entries }
     requires begun { Each (BeginsBy stamp) (joined map.old.entries) }
-    ensures by_key { AreByKey map.new.entries }
+    ensures by_key { AreByKeyBut key.now map.new.entries }
     ensures undone { joined map.new.entries ≡ undone stamp key.now (joined map.old.entries) }
 {
     if let Some(list) = map.get_mut(key) {
@@ -164,7 +171,7 @@ fn undo_in(map: &mut BTreeMap<Key, VersionList>, key: &Key, stamp: u64)
 /// Takes out the versions of the key that ended at or before the floor.
 fn trim_in(map: &mut BTreeMap<Key, VersionList>, key: &Key, floor: u64)
     requires { AreByKey map.old.entries }
-    ensures by_key { AreByKey map.new.entries }
+    ensures by_key { AreByKeyBut key.now map.new.entries }
     ensures trimmed { joined map.new.entries ≡ trimmed_at floor key.now (joined map.old.entries) }
 {
     if let Some(list) = map.get_mut(key) {
@@ -174,7 +181,7 @@ fn trim_in(map: &mut BTreeMap<Key, VersionList>, key: &Key, floor: u64)
 
 /// Takes the key out where it has no version any more; the versions stay.
 fn drop_empty(map: &mut BTreeMap<Key, VersionList>, key: &Key)
-    requires { AreByKey map.old.entries }
+    requires { AreByKeyBut key.now map.old.entries }
     ensures by_key { AreByKey map.new.entries }
     ensures same { joined map.new.entries ≡ joined map.old.entries }
 {

@@ -1,7 +1,8 @@
-use Rattle.std.proofs.Common.{Some, sym, ap, ◌∙◌}
-use Rattle.ds_shard.specs.Histories.{BeginsBy, joined}
+use Rattle.std.proofs.Common.{Some, sym, ap, ◌∙◌, subst}
+use Rattle.ds_shard.specs.Histories.{BeginsBy, IsFilled, joined}
 use Rattle.ds_shard.proofs.HistoryLaws.{end_open, map_kept}
 use Rattle.ds_shard.proofs.ByKey.{each_found, ended_local}
+use Rattle.ds_shard.proofs.FilledKeys.{filled-map}
 use Rattle.ds_shard.proofs.KeyCalls.{nothing_changed, changed, changed_by_key, end_keeps}
 use Rattle.ds_shard.proofs.entity_versions.end_in.Goals as goal
 
@@ -16,6 +17,7 @@ returns-in-Some-clause-by_key c =
     changed_by_key (λ v. Some (end_open c.args.stamp v)) c.args.key.now c.args.map.now.entries c.requires.by_key c.in-Some.list.now w _
     c.in-Some.ensures.value (c.end.ensures.ended ∙ sym (map_kept (end_open c.args.stamp) c.in-Some.list.now)) (c.get_mut.follows.holds w).0
     (end_keeps c.args.stamp) c.end.ensures.history (c.get_mut.follows.holds w).4
+    (λ there. subst IsFilled (sym c.end.ensures.ended) (filled-map (end_open c.args.stamp) c.in-Some.list.now there))
 
 pub returns-in-Some-clause-ended : goal.returns-in-Some-clause-ended
 returns-in-Some-clause-ended c =
