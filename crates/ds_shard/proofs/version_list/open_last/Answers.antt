@@ -1,0 +1,9 @@
+use Rattle.std.proofs.Common.{arith}
+use Rattle.ds_shard.proofs.LastVersions.{opens_last}
+use Rattle.ds_shard.proofs.version_list.open_last.Goals as goal
+
+pub returns-in-Some : goal.returns-in-Some
+returns-in-Some c =
+    let items = c.args.items.now in
+    opens_last c.args.stamp items.len items.items c.in-Some.last.now c.reopen.new.self items.ok.0 c.requires.history c.requires.begun
+    c.requires.before (omega (arith, c.in-Some.ensures.item.3.0, items.ok.0)) c.in-Some.ensures.value c.reopen.ensures

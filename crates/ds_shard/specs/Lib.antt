@@ -1,0 +1,4 @@
+pub mod Rows
+pub mod Histories
+pub mod Contents
+pub mod Shards

@@ -1,0 +1,73 @@
+//! A shard as tables that queries are answered from.
+ghost use Rattle.std.specs.Prelude.{◌≡◌};
+
+use crate::shard::Shard;
+use ds_base::{Entity, Key};
+use ds_io::Steps;
+use ds_rows::Tables;
+use std::marker::{Model, PhantomData};
+use std::sync::ledger::Ledger;
+
+/// A shard whose seeks and look-ups count on one ledger. Contracts see the shard.
+#[derive(Drop)]
+pub struct ShardTables<'a, L> {
+    shard: &'a Shard,
+    counted_on: PhantomData<L>,
+}
+
+impl<'a, L> Model for ShardTables<'a, L> {
+    ghost use Rattle.ds_shard.specs.Shards.{ShardParts};
+
+    ghost Value = { ShardParts };
+
+    ghost view = { λ t. t.shard.now };
+}
+
+impl<'a, L> ShardTables<'a, L> {
+    pub(crate) fn new(shard: &'a Shard) -> ShardTables<'a, L>
+        ensures { result ≡ shard.now }
+    {
+        ShardTables {
+            shard,
+            counted_on: PhantomData,
+        }
+    }
+}
+
+impl<'a, L: Ledger> Tables for ShardTables<'a, L> {
+    ghost use Rattle.ds_shard.specs.Shards.{ShardParts, keeps};
+
+    ghost ledger = { L.name };
+
+    ghost definitions = { λ (s : ShardParts). s.definitions };
+
+    ghost keeps = { keeps };
+
+    ghost versions = { λ (s : ShardParts). s.versions };
+
+    fn seek<M: Ledger>(
+        &self,
+        at: u64,
+        at_least: &[u8],
+        below: Option<&[u8]>,
+        steps: &mut Steps<M>,
+    ) -> Option<&[u8]> {
+        self.shard.view(at).seek(at_least, below, steps)
+    }
+
+    fn seek_near<M: Ledger>(
+        &self,
+        at: u64,
+        at_least: &[u8],
+        below: Option<&[u8]>,
+        near: &mut u64,
+        steps: &mut Steps<M>,
+    ) -> Option<&[u8]> {
+        self.shard.view(at).seek_near(at_least, below, near, steps)
+    }
+
+    fn entity<M: Ledger>(&self, at: u64, key: &Key, steps: &mut Steps<M>) -> Option<&Entity> {
+        steps.tick();
+        self.shard.entity(at, key)
+    }
+}
