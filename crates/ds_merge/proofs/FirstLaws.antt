@@ -14,6 +14,7 @@ use Rattle.ds_base.specs.SortingLaws.{list_any-insert_key}
 use Rattle.ds_query.specs.declared.row.Row.{Row}
 use Rattle.ds_model.specs.Results.{first_of_each}
 use Rattle.ds_merge.specs.declared.marks.Mark.{Mark}
+use Rattle.ds_merge.specs.FirstRows.{AreMarks}
 use Rattle.ds_merge.specs.Marks.{mark_cmp, mark_cmp-total, mark_of, is_same}
 
 -- ---- one row more
@@ -56,6 +57,15 @@ module _ (slots : List (Option ℕ)) (keys : List Mark) (kept done : List Row) (
     marks = k.marks;
   }
 
+-- one mark more among those of the rows
+pub marks_more : (slots : List (Option ℕ)) (keys : List Mark) (rows : List Row) (row : Row) (mark : Mark) → mark ≡ mark_of slots row
+    → AreMarks slots keys rows → AreMarks slots (insert_key mark_cmp keys mark) (rows ++ row ∷ [])
+marks_more slots keys rows row mark is are = λ m.
+    list_any-insert_key mark_cmp (is_at (mark_cmp m)) (λ x y e. ap is_eq (alike_right mark_cmp-total x y m e)) keys mark
+    ∙ (λ i. is_eq (mark_cmp m (is i)) || are m i)
+    ∙ turned (is_eq (mark_cmp m (mark_of slots row))) (list_any (λ r. is_eq (mark_cmp m (mark_of slots r))) rows)
+    ∙ sym (list_any-append (λ r. is_eq (mark_cmp m (mark_of slots r))) rows (row ∷ []))
+
 not_false : (b : Bool) → not b ≡ true → b ≡ false
 not_false true e = absurd (cc e)
 not_false false e = refl
@@ -95,15 +105,15 @@ module _ {A B : Type 0} (f : A → B) (s : B → B → Bool) (t : A → A → Bo
   any x [] = refl
   any x (y ∷ ys) = λ i. alike x y i || any x ys i
 
-  one : (kept : List A) (x : A) → with_item s (map f kept) (f x) ≡ map f (with_item t kept x)
-  one kept x = ap (λ b. cond b (map f kept) (map f kept ++ f x ∷ [])) (any x kept) ∙ by (list_any (t x) kept) where
+  pub with_item-map : (kept : List A) (x : A) → with_item s (map f kept) (f x) ≡ map f (with_item t kept x)
+  with_item-map kept x = ap (λ b. cond b (map f kept) (map f kept ++ f x ∷ [])) (any x kept) ∙ by (list_any (t x) kept) where
     by : (b : Bool) → cond b (map f kept) (map f kept ++ f x ∷ []) ≡ map f (cond b kept (kept ++ x ∷ []))
     by true = refl
     by false = sym (map_push f kept x)
 
   each : (kept xs : List A) → fold (with_item s) (map f kept) (map f xs) ≡ map f (fold (with_item t) kept xs)
   each kept [] = refl
-  each kept (x ∷ xs) = ap (λ ks. fold (with_item s) ks (map f xs)) (one kept x) ∙ each (with_item t kept x) xs
+  each kept (x ∷ xs) = ap (λ ks. fold (with_item s) ks (map f xs)) (with_item-map kept x) ∙ each (with_item t kept x) xs
 
   pub first_of_each-map : (xs : List A) → first_of_each s (map f xs) ≡ map f (first_of_each t xs)
   first_of_each-map xs = each [] xs

@@ -77,7 +77,8 @@ module _ (columns : List Column) where
       (inserted ys x p (All-tail Lawful y ys all))
       ∙ ap (λ r. put r (place_of columns x) (place_of columns y) places later) (compares x y p (All-head Lawful y ys all))
 
-  folded : (done xs : List RowParts) → All Lawful done → All Lawful xs
+  -- putting in order and taking the places can change their turn
+  pub folded : (done xs : List RowParts) → All Lawful done → All Lawful xs
       → map (place_of columns) (fold (insert_by (compare_rows columns)) done xs)
       ≡ fold (insert_by bytes_cmp) (map (place_of columns) done) (map (place_of columns) xs)
   folded done [] d all = refl

@@ -1,3 +1,4 @@
+pub mod FirstRows
 pub mod Marks
 pub mod Merging
 pub mod Slots

@@ -5,6 +5,7 @@
 //! their places, and a page of them) and `Marks`.
 #![tactic(auto)]
 
+mod first_rows;
 mod firsts;
 mod mark_order;
 mod marks;
@@ -12,5 +13,6 @@ pub mod merged;
 pub mod merging;
 mod pages;
 
+pub use first_rows::FirstRows;
 pub use merged::Merged;
 pub use merging::{first_of_rows, merge};

@@ -117,7 +117,7 @@ paths_lawful (e ∷ es) all =
     (each_map (All IsElemOfBytes) (λ (path : List Elem). e ∷ path) (paths_to es) (λ k d below. All-cons IsElemOfBytes e _ here
     (others k d below)))
 
-ancestors_lawful : (k : KeyParts) → IsKeyOfBytes k → All IsKeyOfBytes (ancestors k)
+pub ancestors_lawful : (k : KeyParts) → IsKeyOfBytes k → All IsKeyOfBytes (ancestors k)
 ancestors_lawful k p =
     let paths = paths_lawful k.elems p.elems in
     each_map IsKeyOfBytes (λ (path : List Elem). record { namespace = k.namespace; elems = path }) (paths_to k.elems)

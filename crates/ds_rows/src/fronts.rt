@@ -1,6 +1,7 @@
 //! What the rows of an index begin with.
-ghost use Rattle.std.specs.Prelude.{◌≡◌, ◌∷◌, if◌then◌else◌, OnOk};
+ghost use Rattle.std.specs.Prelude.{◌≡◌, ◌∷◌, ◌++◌, if◌then◌else◌, OnOk};
 ghost use Rattle.ds_bytes.specs.Encoding.{escaped};
+ghost use Rattle.ds_bytes.specs.Lawful.{AreBytes};
 ghost use Rattle.ds_indexdef.specs.declared.IndexDef.{IndexDef};
 ghost use Rattle.ds_rows.specs.IndexedValues.{kind_of};
 ghost use Rattle.ds_rows.specs.Indexes.{AllByKey, KindByKey, ByProperty, Composite};
@@ -43,11 +44,19 @@ pub(crate) fn put_property_front(
     key: &Key,
     front: &mut Buffer,
 ) -> Result<(), NoMemory>
-    ensures { OnOk result (front.new.bytes ≡ index_front (ByProperty name.now descending) key.now.namespace (kind_of key.now)) }
+    ensures front { OnOk result (front.new.bytes ≡ index_front (ByProperty name.now descending) key.now.namespace (kind_of key.now)) }
+    ensures name { OnOk result (AreBytes name.now) }
 {
     begin(property_tag(descending), key, front)?;
     encode_text(kind_of(key), front)?;
-    encode_text(name.bytes(), front)
+    put_name(name.bytes(), front)
+}
+
+fn put_name(name: &[u8], front: &mut Buffer) -> Result<(), NoMemory>
+    ensures put { OnOk result (front.new.bytes ≡ front.old.bytes ++ escaped name.now) }
+    ensures name { OnOk result (AreBytes name.now) }
+{
+    encode_text(name, front)
 }
 
 /// Leaves in `front` what rows in the composite index of the definition at this place begin with.

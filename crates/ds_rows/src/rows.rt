@@ -1,7 +1,7 @@
 //! The rows of an entity.
 ghost use Rattle.std.specs.Prelude.{◌≡◌, [], ◌++◌, flat_map, map, All, IfOk, OnOk};
 ghost use Rattle.ds_bytes.specs.Encoding.{key_bytes};
-ghost use Rattle.ds_bytes.specs.Lawful.{IsLawfulValue};
+ghost use Rattle.ds_bytes.specs.Lawful.{AreBytes, IsLawfulValue};
 ghost use Rattle.ds_rows.specs.IndexedValues.{property_values, indexed_values};
 ghost use Rattle.ds_rows.specs.Indexes.{AllByKey, KindByKey, ByProperty, property_indexes};
 ghost use Rattle.ds_rows.specs.Rows.{rows_in, rows_of};
@@ -80,6 +80,7 @@ fn put_property_rows(
       begun = [];
     }) }
     ensures lawful { OnOk result (All (λ p. All IsLawfulValue (property_values p)) entity.now.properties) }
+    ensures names { OnOk result (All (λ p. AreBytes p.name) entity.now.properties) }
 {
     for (place, property) in entity.properties().as_slice().iter().enumerate() {
         put_both(entity, property, lists[place].as_slice(), key, front, rows)?;
@@ -105,6 +106,7 @@ fn put_both(
       begun = [];
     }) }
     ensures lawful { OnOk result (All IsLawfulValue values.now) }
+    ensures name { OnOk result (AreBytes property.now.name) }
 {
     put_property(entity, &property.name, false, values, key, front, rows)?;
     put_property(entity, &property.name, true, values, key, front, rows)
@@ -129,6 +131,7 @@ fn put_property(
       begun = [];
     }) }
     ensures lawful { OnOk result (All IsLawfulValue values.now) }
+    ensures name { OnOk result (AreBytes name.now) }
 {
     put_property_front(name, descending, entity.key(), front)?;
     put_rows(

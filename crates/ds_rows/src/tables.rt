@@ -76,6 +76,12 @@ pub trait Tables {
         self.seek(at, at_least, below, steps)
     }
 
+    /// Does nothing. It tells whoever seeks nothing yet what each seek tells too: that the definitions are distinct, that the
+    /// entities have an encoding, and that at the stamp there is one entity of each key.
+    fn stand(&self, at: u64)
+        requires kept { IsTrue (keeps self.now at) }
+        ensures { AreTables (definitions self.now) at (versions self.now) };
+
     /// The entity of this key that is seen at the stamp `at`; `None` exactly where there is none. It takes one step at most,
     /// and no memory.
     fn entity<L: Ledger>(&self, at: u64, key: &Key, steps: &mut Steps<L>) -> Option<&Entity>

@@ -35,6 +35,8 @@ impl<L: Ledger> Tables for NoTables<L> {
         None
     }
 
+    fn stand(&self, _at: u64) {}
+
     fn entity<M: Ledger>(&self, _at: u64, _key: &Key, steps: &mut Steps<M>) -> Option<&Entity> {
         steps.tick();
         None

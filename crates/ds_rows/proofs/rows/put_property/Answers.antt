@@ -17,7 +17,7 @@ returns-clause-put c =
     (rows_without c.args.entity.now (ByProperty c.args.name.now c.args.descending) c.bytes.result.now c.args.key.now
     (c.args.values.now ∷ [])
     (c.args.descending ∷ []) refl
-    (c.bytes.ensures ∙ c.in_ok-put_property_front.ensures
+    (c.bytes.ensures ∙ c.in_ok-put_property_front.ensures.front
     ∙ ap (λ (k : KeyParts). index_front (ByProperty c.args.name.now c.args.descending) k.namespace (kind_of k)) c.key.ensures.value)
     c.requires.encoded (ap (λ values. values ∷ []) c.requires.theirs) refl))
     c.put_rows.ensures.put

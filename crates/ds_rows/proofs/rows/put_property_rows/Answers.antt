@@ -3,7 +3,7 @@ use Rattle.std.specs.Prelude.{All}
 use Rattle.std.proofs.lemmas.List.{take_all}
 use Rattle.std.proofs.lemmas.List.Elements.{All-more}
 use Rattle.ds_base.specs.declared.entity.Property.{Property}
-use Rattle.ds_bytes.specs.Lawful.{IsLawfulValue}
+use Rattle.ds_bytes.specs.Lawful.{AreBytes, IsLawfulValue}
 use Rattle.ds_rows.specs.Spans.{Written}
 use Rattle.ds_rows.specs.IndexedValues.{property_values}
 use Rattle.ds_rows.specs.Indexes.{property_indexes}
@@ -40,6 +40,8 @@ loop-place-preserved c =
       lawful = All-more (λ (q : Property). All IsLawfulValue (property_values q)) ps i p here.0 c.loop-place.invariant.lawful
           (subst (λ (q : Property). All IsLawfulValue (property_values q)) here.1
           (subst (All IsLawfulValue) (c.as_slice.ensures ∙ values) c.in_ok-put_both.ensures.lawful));
+      names = All-more (λ (q : Property). AreBytes q.name) ps i p here.0 c.loop-place.invariant.names
+          (subst (λ (q : Property). AreBytes q.name) here.1 c.in_ok-put_both.ensures.name);
     }
 
 pub returns-clause-lawful : goal.returns-clause-lawful
@@ -49,3 +51,11 @@ returns-clause-lawful c =
     let all : length ps ≤ c.loop-place.place = subst (λ
     (qs : List Property). length qs ≤ c.loop-place.place) same c.loop-place-test.false in
     subst (All (λ (q : Property). All IsLawfulValue (property_values q))) (take_all c.loop-place.place ps all) c.loop-place.invariant.lawful
+
+pub returns-clause-names : goal.returns-clause-names
+returns-clause-names c =
+    let ps = c.args.entity.now.properties in
+    let same : c.as_slice-property-items.result.now ≡ ps = c.as_slice-property-items.ensures ∙ c.properties.ensures.value in
+    let all : length ps ≤ c.loop-place.place = subst (λ
+    (qs : List Property). length qs ≤ c.loop-place.place) same c.loop-place-test.false in
+    subst (All (λ (q : Property). AreBytes q.name)) (take_all c.loop-place.place ps all) c.loop-place.invariant.names

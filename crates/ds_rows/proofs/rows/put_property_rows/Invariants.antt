@@ -1,7 +1,7 @@
 -- The rows so far and those of the properties that are left are all.
 use Rattle.std.proofs.Common.{◌≡◌, ◌++◌, [], drop, take}
 use Rattle.std.specs.Prelude.{flat_map, All}
-use Rattle.ds_bytes.specs.Lawful.{IsLawfulValue}
+use Rattle.ds_bytes.specs.Lawful.{AreBytes, IsLawfulValue}
 use Rattle.ds_rows.specs.IndexedValues.{property_values}
 use Rattle.ds_rows.specs.Indexes.{property_indexes}
 use Rattle.ds_rows.specs.Rows.{rows_in}
@@ -13,4 +13,5 @@ invariant-loop-place l = record {
   so_far : l.rows.rows ++ flat_map (rows_in l.entity) (flat_map property_indexes (drop l.place l.entity.properties))
       ≡ l.initial.rows.rows ++ flat_map (rows_in l.entity) (flat_map property_indexes l.entity.properties);
   lawful : All (λ p. All IsLawfulValue (property_values p)) (take l.place l.entity.properties);
+  names : All (λ p. AreBytes p.name) (take l.place l.entity.properties);
 }

@@ -17,4 +17,6 @@ returns-clause-once c =
     subst IsOnce (sym is) (rows_once defs e c.in_ok-put_composite_rows.ensures.lawful (record {
       key = subst IsLawfulKey c.key.ensures.value c.in_ok-encode_key.ensures.lawful;
       values = c.in_ok-put_property_rows.ensures.lawful;
+      names = c.in_ok-put_property_rows.ensures.names;
+      ascend = c.properties.ensures.lawful.ascending;
     }) c.properties.ensures.lawful.ascending)

@@ -1,0 +1,16 @@
+pub mod AncestorPaths
+pub mod BoundLaws
+pub mod Collected
+pub mod Columns
+pub mod CommonRows
+pub mod EntityRows
+pub mod LowBytes
+pub mod Ranged
+pub mod Readings
+pub mod RowBytes
+pub mod ScanColumns
+pub mod ScanIndexes
+pub mod ScanRows
+pub mod StampedRows
+pub mod Walking
+pub mod Ways

@@ -1,0 +1,43 @@
+-- The scans of a plan, one after another.
+use Rattle.std.proofs.Common.{◌≡◌, ℕ, ◌+◌, ◌<◌, List, [], ◌∷◌, ◌++◌, length, map, take, get_or, refl, sym, ap, ◌∙◌, Option, Result, Ok, Err}
+use Rattle.std.specs.Prelude.{IfOk}
+use Rattle.std.proofs.lemmas.List.{take_more, map-append}
+use Rattle.ds_indexdef.specs.declared.IndexDef.{IndexDef}
+use Rattle.ds_query.specs.declared.branch.Branch.{Branch}
+use Rattle.ds_query.specs.declared.row.Place.{Place}
+use Rattle.ds_planner.specs.declared.planned.PlannedScan.{PlannedScan}
+use Rattle.ds_rows.specs.Versions.{Version}
+use Rattle.ds_scan.specs.Ranges.{Ranged, rests}
+use Rattle.ds_engine.specs.Ranging.{range_of, ranges_over}
+use Rattle.ds_engine.specs.ScanLaws.{plan_strings}
+use Rattle.ds_engine.specs.Stamped.{Stamped, rows_at}
+
+pub one_more_made : {A B : Type 0} (f : A → B) (xs : List A) (i : ℕ) (x : A) (items items' : List B) (y : B) → i < length xs → x ≡ get_or xs i x
+    → items ≡ map f (take i xs) → items' ≡ items ++ y ∷ [] → y ≡ f x → items' ≡ map f (take (i + 1) xs)
+one_more_made f xs i x items items' y below at_i made pushed is =
+    pushed ∙ (λ t. made t ++ (is ∙ ap f at_i) t ∷ []) ∙ sym (ap (map f) (take_more xs i x below) ∙ map-append f (take i xs) (get_or xs i x ∷ []))
+
+-- what the scans of a plan give, over tables whose rows these are
+pub strings_of_plan : {T : Type 0} (q : Branch) (defs : List IndexDef) (scans : List PlannedScan) (end : Option Place) (at_stamp : Stamped T)
+    (rows : Stamped T → List (List ℕ))
+    → map (λ (s : Ranged (Stamped T)). rests s.range (rows s.rows)) (ranges_over at_stamp q defs end scans)
+    ≡ map (λ s. rests (range_of q defs end s) (rows at_stamp)) scans
+strings_of_plan q defs [] end at_stamp rows = refl
+strings_of_plan q defs (s ∷ scans) end at_stamp rows =
+    ap (λ ls. rests (range_of q defs end s) (rows at_stamp) ∷ ls) (strings_of_plan q defs scans end at_stamp rows)
+
+-- the strings of the scans that were made are those of the plan
+pub plan_strings_are : {T : Type 0} (D : T → List IndexDef) (V : T → List Version) (q : Branch) (defs : List IndexDef) (scans : List PlannedScan)
+    (stamp : ℕ) (end : Option Place) (tables : T) (items : List (Ranged (Stamped T)))
+    → items ≡ ranges_over (record { tables = tables; stamp = stamp }) q defs end scans → defs ≡ D tables
+    → map (λ (s : Ranged (Stamped T)). rests s.range (rows_at (D s.rows.tables) s.rows.stamp (V s.rows.tables))) items
+    ≡ plan_strings q defs scans stamp (V tables) end
+plan_strings_are {T = T} D V q defs scans stamp end tables items made definitions =
+    let rows : Stamped T → List (List ℕ) = λ (s : Stamped T). rows_at (D s.tables) s.stamp (V s.tables) in
+    ap (map (λ (s : Ranged (Stamped T)). rests s.range (rows s.rows))) made
+    ∙ strings_of_plan q defs scans end (record { tables = tables; stamp = stamp }) rows
+    ∙ ap (λ (ds : List IndexDef). map (λ (s : PlannedScan). rests (range_of q defs end s) (rows_at ds stamp (V tables))) scans) (sym definitions)
+
+pub if_ok : {A E : Type 0} {P Q : A → Type 0} (r : Result A E) → IfOk r P → ((a : A) → P a → Q a) → IfOk r Q
+if_ok (Ok a) p f = f a p
+if_ok (Err e) p f = tt

@@ -1,0 +1,50 @@
+use Rattle.std.proofs.Common.{◌≡◌, ℕ, List, map, sym, subst, ◌∙◌, option_copied}
+use Rattle.ds_indexdef.specs.declared.IndexDef.{IndexDef}
+use Rattle.ds_zigzag.specs.CommonStrings.{IsCommon}
+use Rattle.ds_rows.specs.Versions.{AreTables, entities_at}
+use Rattle.ds_engine.specs.Common.{AreCommonRows}
+use Rattle.ds_engine.specs.Places.{bytes_of}
+use Rattle.ds_engine.specs.ScanLaws.{IsPlanned, rows_between}
+use Rattle.ds_engine.proofs.CommonRows.{of_branch, plans_tell}
+use Rattle.ds_engine.proofs.Ranged.{plan_strings_are, if_ok}
+use Rattle.ds_engine.proofs.answering.answer.Goals as goal
+
+pub first_common-requires-clause-rows : goal.first_common-requires-clause-rows
+first_common-requires-clause-rows g c = λ x common.
+    let q = c.args.branch.now in
+    let defs = c.args.defs.now in
+    let scans = c.args.plan.now.scans in
+    let end = option_copied c.args.end in
+    let versions = g.T.Tables.versions c.args.tables.now in
+    let planned : IsPlanned q defs scans c.args.at versions = record {
+      branch = c.requires.lawful;
+      suits = c.requires.suits;
+      tables = subst (λ (ds : List IndexDef). AreTables ds c.args.at versions) (sym c.requires.definitions) c.stand.ensures;
+      lawful = c.in_ok-scans.ensures.lawful;
+      ends = c.in_ok-scans.ensures.ends;
+    } in
+    let listed = plan_strings_are g.T.Tables.definitions g.T.Tables.versions q defs scans c.args.at end c.args.tables.now c.as_mut_slice.result.now
+    (c.as_mut_slice.ensures.value ∙ c.in_ok-scans.ensures.scans) c.requires.definitions in
+    (of_branch q defs scans c.args.at versions end planned x (subst (λ (ls : List (List (List ℕ))). IsCommon ls x) listed common)).decodes
+
+pub returns-clause-rows : goal.returns-clause-rows
+returns-clause-rows g c =
+    let q = c.args.branch.now in
+    let defs = c.args.defs.now in
+    let scans = c.args.plan.now.scans in
+    let start = option_copied c.args.start in
+    let end = option_copied c.args.end in
+    let versions = g.T.Tables.versions c.args.tables.now in
+    let planned : IsPlanned q defs scans c.args.at versions = record {
+      branch = c.requires.lawful;
+      suits = c.requires.suits;
+      tables = subst (λ (ds : List IndexDef). AreTables ds c.args.at versions) (sym c.requires.definitions) c.stand.ensures;
+      lawful = c.in_ok-scans.ensures.lawful;
+      ends = c.in_ok-scans.ensures.ends;
+    } in
+    let listed = plan_strings_are g.T.Tables.definitions g.T.Tables.versions q defs scans c.args.at end c.args.tables.now c.as_mut_slice.result.now
+    (c.as_mut_slice.ensures.value ∙ c.in_ok-scans.ensures.scans) c.requires.definitions in
+    let sorted = rows_between q start end (entities_at c.args.at versions) in
+    if_ok c.first_common.result c.first_common.ensures.rows (λ found rows. rows sorted
+    (subst (λ (ls : List (List (List ℕ))). AreCommonRows q.columns (bytes_of start) ls sorted) (sym listed)
+    (plans_tell q defs scans c.args.at versions start end planned)))

@@ -1,0 +1,92 @@
+use Rattle.std.proofs.Common.{◌≡◌, ℕ, ◌+◌, ◌≤◌, ◌<◌, List, [], length, map, get_or, refl, sym, ap, subst, ◌∙◌, true, false, arith, Some, None, Ok, option_copied}
+use Rattle.std.specs.Prelude.{IfOk, IfSome}
+use Rattle.std.proofs.lemmas.List.{length-map}
+use Rattle.ds_base.specs.declared.column.Column.{Column}
+use Rattle.ds_query.specs.Filters.{projected}
+use Rattle.ds_cursor.specs.RowsOfColumns.{IsRowOf}
+use Rattle.ds_zigzag.specs.Spans.{count_between}
+use Rattle.ds_zigzag.specs.CommonStrings.{IsCommon, IsNextCommon, HasNoNextCommon}
+use Rattle.ds_merge.specs.Merging.{IsPlaced}
+use Rattle.ds_merge.specs.Slots.{slot_of}
+use Rattle.ds_engine.specs.Places.{bytes_of, is_wanted}
+use Rattle.ds_engine.proofs.Collected.{AreCollected, begun, stepped, ended, full, fewer_left}
+use Rattle.ds_engine.proofs.collecting.first_common.Goals as goal
+
+pub answers-init : goal.answers-init
+answers-init g c = record {
+  strings = refl;
+  as_many = refl;
+  number = c.in_ok-walk.ensures.over;
+  collected = begun c.args.branch.now.columns (projected c.args.branch.now.select) (bytes_of (option_copied c.args.start))
+      (map g.S.Scan.strings c.args.scans.now) c.args.most c.in_ok-firsts.firsts.slots c.in_ok-walk.walk.last c.in_ok-firsts.firsts.rows
+      (c.in_ok-firsts.ensures.slots ∙ (λ i. map (slot_of (c.as_slice.ensures i)) ((c.as_slice-2.ensures ∙ c.projected-names.ensures) i)))
+      (c.in_ok-walk.ensures.stands ∙ c.bytes_of.ensures) c.in_ok-firsts.ensures.none;
+  counted = omega arith;
+}
+
+pub returns-in-None-clause-rows : goal.returns-in-None-clause-rows
+returns-in-None-clause-rows g c = λ sorted are.
+    let last = c.answers.walk.last in
+    let none : HasNoNextCommon last (map g.S.Scan.strings c.args.scans.now) =
+    subst (λ (ls : List (List (List ℕ))). HasNoNextCommon last ls) c.answers.invariant.strings (rw c.in-None.is at c.in_ok-found.ensures.none_is_left) in
+    c.finish.ensures
+    ∙ ended c.args.branch.now.columns (projected c.args.branch.now.select) (bytes_of (option_copied c.args.start))
+    (map g.S.Scan.strings c.args.scans.now) c.args.most c.answers.firsts.slots last c.answers.firsts.rows c.answers.invariant.collected none sorted are
+
+pub row_of-requires : goal.row_of-requires
+row_of-requires g c =
+    let place = c.in-Some.place.now in
+    let next : IsNextCommon c.answers.walk.last (map g.S.Scan.strings c.answers.scans) place = rw c.in-Some.is at c.in_ok-found.ensures.next_common in
+    subst (λ (cs : List Column). IsRowOf cs place) (sym c.as_slice-in-Some.ensures)
+    (c.requires.rows place (subst (λ (ls : List (List (List ℕ))). IsCommon ls place) c.answers.invariant.strings next.common))
+
+pub answers-smaller : goal.answers-smaller
+answers-smaller g c =
+    let place = c.in-Some.place.now in
+    let last = c.answers.walk.last in
+    let lists : List (List (List ℕ)) = map g.S.Scan.strings c.args.scans.now in
+    let here : IsNextCommon last (map g.S.Scan.strings c.answers.scans) place = rw c.in-Some.is at c.in_ok-found.ensures.next_common in
+    let next : IsNextCommon last lists place = subst (λ (ls : List (List (List ℕ))). IsNextCommon last ls place) c.answers.invariant.strings here in
+    let long = length-map c.args.scans.now g.S.Scan.strings in
+    let some : 0 < length lists = omega (arith, long, c.requires.some) in
+    let less = fewer_left last lists place some next in
+    let held = subst (λ r. IfOk r (λ f. IfSome f (λ a. c.next.follows.lender-at-none.last ≡ Some a.now))) c.in_ok-found.was c.next.follows.holds-at-none.1 in
+    let stands : c.next.follows.lender-at-none.last ≡ Some place = rw c.in-Some.is at held in
+    subst (λ o. count_between o None (get_or lists 0 []) < count_between last None (get_or lists 0 [])) (sym stands) (omega (arith, less))
+
+pub answers-preserved : goal.answers-preserved
+answers-preserved g c =
+    let place = c.in-Some.place.now in
+    let last = c.answers.walk.last in
+    let columns = c.args.branch.now.columns in
+    let names = projected c.args.branch.now.select in
+    let after = bytes_of (option_copied c.args.start) in
+    let lists : List (List (List ℕ)) = map g.S.Scan.strings c.args.scans.now in
+    let here : IsNextCommon last (map g.S.Scan.strings c.answers.scans) place = rw c.in-Some.is at c.in_ok-found.ensures.next_common in
+    let next : IsNextCommon last lists place = subst (λ (ls : List (List (List ℕ))). IsNextCommon last ls place) c.answers.invariant.strings here in
+    let held = subst (λ r. IfOk r (λ f. IfSome f (λ a. c.next.follows.lender-at-none.last ≡ Some a.now))) c.in_ok-found.was c.next.follows.holds-at-none.1 in
+    let stands : c.next.follows.lender-at-none.last ≡ Some place = rw c.in-Some.is at held in
+    let same : map g.S.Scan.strings c.next.new.scans ≡ map g.S.Scan.strings c.answers.scans = c.next.ensures.same_strings in
+    let strings : map g.S.Scan.strings c.next.new.scans ≡ lists = same ∙ c.answers.invariant.strings in
+    let placed : IsPlaced columns c.in_ok-row-in-Some.row = subst (λ (cs : List Column). IsPlaced cs c.in_ok-row-in-Some.row) c.as_slice-in-Some.ensures c.in_ok-row-in-Some.ensures.placed in
+    let wanted : is_wanted c.args.most (length c.answers.firsts.rows) ≡ true =
+    sym (c.is_wanted.ensures ∙ ap (is_wanted c.args.most) c.len.ensures) ∙ c.answers-test.true in
+    record {
+      strings = strings;
+      as_many = sym (length-map c.next.new.scans g.S.Scan.strings) ∙ ap length strings ∙ length-map c.args.scans.now g.S.Scan.strings;
+      number = c.next.follows.holds-at-none.0 ∙ c.answers.invariant.number ∙ sym (length-map c.answers.scans g.S.Scan.strings) ∙ ap length (sym same)
+          ∙ length-map c.next.new.scans g.S.Scan.strings;
+      collected = subst (λ o. AreCollected columns names after lists c.args.most c.put.new.self.slots o c.put.new.self.rows) (sym stands)
+          (stepped columns names after lists c.args.most c.answers.firsts.slots c.put.new.self.slots last c.answers.firsts.rows c.put.new.self.rows place
+          c.in_ok-row-in-Some.row c.answers.invariant.collected next placed c.in_ok-row-in-Some.ensures.place c.in_ok-put-in-Some.ensures.rows c.in_ok-put-in-Some.ensures.slots wanted);
+      counted = omega (arith, c.answers.invariant.counted, c.next.ensures.steps_stay_counted);
+    }
+
+pub returns-clause-rows : goal.returns-clause-rows
+returns-clause-rows g c = λ sorted are.
+    let enough : is_wanted c.args.most (length c.answers.firsts.rows) ≡ false =
+    sym (c.is_wanted.ensures ∙ ap (is_wanted c.args.most) c.len.ensures) ∙ c.answers-test.false in
+    c.finish-2.ensures
+    ∙ full c.args.branch.now.columns (projected c.args.branch.now.select) (bytes_of (option_copied c.args.start))
+    (map g.S.Scan.strings c.args.scans.now) c.args.most c.answers.firsts.slots c.answers.walk.last c.answers.firsts.rows c.answers.invariant.collected
+    enough sorted are

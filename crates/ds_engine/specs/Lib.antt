@@ -1,0 +1,9 @@
+pub mod Bounds
+pub mod Common
+pub mod Places
+pub mod Prefixes
+pub mod Ranging
+pub mod Reading
+pub mod ScanLaws
+pub mod Scans
+pub mod Stamped

@@ -1,0 +1,94 @@
+//! The rows of a branch.
+ghost use Rattle.std.specs.Prelude.{◌≡◌, ◌+◌, ◌≤◌, ◌≢◌, map, None, Some, IsTrue, IfOk, IfErr};
+ghost use Rattle.std.specs.Option.{option_copied};
+ghost use Rattle.ds_query.specs.Lawful.{IsLawfulBranch};
+ghost use Rattle.ds_planner.specs.Suits.{suits};
+ghost use Rattle.ds_planner.specs.Missing.{Missing, missing_of};
+ghost use Rattle.ds_rows.specs.Versions.{entities_at};
+ghost use Rattle.ds_model.specs.Bounds.{given};
+ghost use Rattle.ds_merge.specs.Merging.{placed};
+
+use crate::collecting::first_common;
+use crate::ranging::scans_of;
+use crate::refused::EngineRefused;
+use ds_base::NoMemory;
+use ds_indexdef::Defs;
+use ds_io::Steps;
+use ds_planner::{PlanRefused, ScanPlan, plan};
+use ds_query::{Branch, Place, RowList};
+use ds_rows::Tables;
+use std::alloc::Global;
+use std::sync::ledger::Ledger;
+
+/// The first `most` results of the branch at the stamp `at`, or all where there is no `most`: of its rows after the start and up to the
+/// end, in order, the first of each mark, each with its values, its key and its place.
+///
+/// It needs the definitions of the tables, a plan that suits the branch under them, and a stamp that the tables keep. Refused:
+/// want of memory.
+pub fn answer<T: Tables, L: Ledger>(
+    alloc: Global,
+    tables: &T,
+    at: u64,
+    branch: &Branch,
+    defs: &Defs,
+    plan: &ScanPlan,
+    start: Option<&Place>,
+    end: Option<&Place>,
+    most: Option<u64>,
+    steps: &mut Steps<L>,
+) -> Result<RowList, NoMemory>
+    requires its_ledger { L.name ≡ T.ledger }
+    requires kept { IsTrue (T.keeps tables.now at) }
+    requires definitions { defs.now ≡ T.definitions tables.now }
+    requires lawful { IsLawfulBranch branch.now }
+    requires suits { IsTrue (suits branch.now defs.now plan.now.scans) }
+    ensures rows { IfOk result (λ rows. rows ≡ map (placed branch.now.columns)
+        (given branch.now (option_copied start.entry) (option_copied end.entry) most (entities_at at (T.versions tables.now)))) }
+    ensures steps_stay_counted { steps.old ≤ steps.new }
+{
+    tables.stand(at);
+    let mut scans = scans_of(alloc, tables, at, branch, defs, plan, end)?;
+    first_common(alloc, scans.as_mut_slice(), branch, start, most, steps)
+}
+
+/// The same rows by a plan of its own. `MissingIndex` comes exactly where no set of scans suits the branch; it
+/// carries what no index serves, and the definition with which the branch would be served.
+pub fn branch_rows<T: Tables, L: Ledger>(
+    alloc: Global,
+    tables: &T,
+    at: u64,
+    branch: &Branch,
+    defs: &Defs,
+    start: Option<&Place>,
+    end: Option<&Place>,
+    most: Option<u64>,
+    steps: &mut Steps<L>,
+) -> Result<RowList, EngineRefused>
+    requires its_ledger { L.name ≡ T.ledger }
+    requires kept { IsTrue (T.keeps tables.now at) }
+    requires definitions { defs.now ≡ T.definitions tables.now }
+    requires lawful { IsLawfulBranch branch.now }
+    ensures rows { IfOk result (λ rows. rows ≡ map (placed branch.now.columns)
+        (given branch.now (option_copied start.entry) (option_copied end.entry) most (entities_at at (T.versions tables.now)))) }
+    ensures served { IfOk result (λ rows. missing_of branch.now defs.now ≡ None) }
+    ensures missing { IfErr result (λ e. e ≢ EngineRefused.NoMemory → (m : Missing)
+        × (missing_of branch.now defs.now ≡ Some m)
+        × (e ≡ EngineRefused.MissingIndex m.constraint m.suggestion)) }
+    ensures steps_stay_counted { steps.old ≤ steps.new }
+{
+    match plan(alloc, branch, defs) {
+        Ok(plan) => Ok(answer(
+            alloc, tables, at, branch, defs, &plan, start, end, most, steps,
+        )?),
+        Err(
+            PlanRefused::MissingIndex {
+                constraint,
+                suggestion,
+            },
+        ) => Err(EngineRefused::MissingIndex {
+            constraint,
+            suggestion,
+        }),
+        Err(PlanRefused::NoMemory) => Err(EngineRefused::NoMemory),
+    }
+}

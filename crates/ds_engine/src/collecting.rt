@@ -1,0 +1,87 @@
+//! The walk over the strings that the scans of a plan have in common.
+ghost use Rattle.std.specs.Prelude.{◌≡◌, ◌+◌, ◌<◌, ◌≤◌, [], List, ℕ, length, map, option_map, IfOk};
+ghost use Rattle.std.specs.Option.{option_copied};
+ghost use Rattle.ds_bytes.specs.Rows.{RowParts};
+ghost use Rattle.ds_query.specs.Filters.{projected};
+ghost use Rattle.ds_cursor.specs.RowsOfColumns.{IsRowOf};
+ghost use Rattle.ds_zigzag.specs.CommonStrings.{IsCommon};
+ghost use Rattle.ds_zigzag.specs.Walks.{steps_to_end};
+ghost use Rattle.ds_model.specs.Results.{at_most, first_of_each, same_mark};
+ghost use Rattle.ds_merge.specs.Merging.{placed};
+ghost use Rattle.ds_engine.specs.Common.{AreCommonRows};
+ghost use Rattle.ds_engine.specs.Places.{bytes_of, is_wanted};
+
+use crate::reading::row_of;
+use ds_base::{Names, NoMemory};
+use ds_io::Steps;
+use ds_merge::FirstRows;
+use ds_query::{Branch, Place, RowList, Select};
+use ds_zigzag::{Scan, Walk};
+use std::alloc::Global;
+use std::sync::ledger::Ledger;
+
+/// Of the rows whose places are the strings that all scans have after the start, in order, the first of each mark, at most so many.
+/// It looks at no string above the last row that it gives where so many are given. Refused: want of memory.
+pub(crate) fn first_common<S: Scan, L: Ledger>(
+    alloc: Global,
+    scans: &mut [S],
+    branch: &Branch,
+    start: Option<&Place>,
+    most: Option<u64>,
+    steps: &mut Steps<L>,
+) -> Result<RowList, NoMemory>
+    requires some { 0 < length scans.old }
+    requires its_ledger { L.name ≡ S.ledger }
+    requires rows { (x : List ℕ) → IsCommon (map S.strings scans.old) x → IsRowOf branch.now.columns x }
+    ensures rows { IfOk result (λ found. (sorted : List RowParts)
+        → AreCommonRows branch.now.columns (bytes_of (option_copied start.entry)) (map S.strings scans.old) sorted
+        → found ≡ map (placed branch.now.columns) (at_most most
+        (first_of_each (same_mark branch.now.columns (projected branch.now.select)) sorted))) }
+    ensures steps_stay_counted { steps.old ≤ steps.new }
+{
+    let mut walk = Walk::begin(alloc, scans.len(), bytes_of(start))?;
+    let none = Names::new(alloc);
+    let names = projected(&branch.select, &none);
+    let mut firsts = FirstRows::new(alloc, branch.columns.as_slice(), names.as_slice())?;
+    'answers: while is_wanted(most, firsts.len()) {
+        let found = walk.next(scans, steps)?;
+        match found {
+            None => return Ok(firsts.finish()),
+            Some(place) => {
+                let row = row_of(alloc, branch.columns.as_slice(), place)?;
+                firsts.put(row)?;
+            }
+        }
+    }
+    Ok(firsts.finish())
+}
+
+/// Whether more are wanted than these.
+fn is_wanted(most: Option<u64>, found: usize) -> bool
+    ensures { result ≡ is_wanted most found }
+{
+    match most {
+        Some(most) => (found as u64) < most,
+        None => true,
+    }
+}
+
+fn bytes_of(place: Option<&Place>) -> Option<&[u8]>
+    ensures { option_copied result ≡ bytes_of (option_copied place.entry) }
+{
+    match place {
+        Some(place) => Some(place.bytes.bytes()),
+        None => None,
+    }
+}
+
+/// The names of a projection; none otherwise.
+fn projected<'a>(select: &'a Select, none: &'a Names) -> &'a Names
+    requires { none.now ≡ [] }
+    ensures { result.now ≡ projected select.now }
+{
+    match select {
+        Select::Projection(names) => names,
+        _ => none,
+    }
+}

@@ -1,0 +1,19 @@
+//! What is claimed of planned scans: laws of the definitions. The functions do nothing.
+ghost use Rattle.ds_engine.specs.ScanLaws.{ScansTellRows, PlansTellRows, BoundsTellRows};
+
+/// The rows of an entity that begin with what a scan is bound to go on with the places of its rows under what the scan binds.
+pub fn scans_tell_rows()
+    ensures { ScansTellRows }
+{}
+
+/// A row stands between the bounds of the scans exactly where its first value is in the branch's range, its key is under the ancestor
+/// where the rows are in the order of keys, and its place is up to the end.
+pub fn bounds_tell_rows()
+    ensures { BoundsTellRows }
+{}
+
+/// The strings that the scans of a suiting plan have in common after the start are the places of the branch's rows between the start
+/// and the end.
+pub fn plans_tell_rows()
+    ensures { PlansTellRows }
+{}

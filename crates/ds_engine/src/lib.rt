@@ -1,0 +1,24 @@
+//! Answers of queries by index scans: the rows of a branch at a stamp, sought in tables and never walked.
+//!
+//! The Datastore answers a query from its indexes alone. The rows of an index that are bound to the values of equality filters, and
+//! perhaps to an ancestor, begin alike, and what stands behind that beginning is the row's columns and its key, in the order of the
+//! results. So each scan of a plan is a range of rows (`ds_scan`), the strings that all scans have are the branch's rows
+//! (`ds_zigzag` leaps from one to the next), and each is read back into values and a key (`ds_bytes`). Begin with `answering`,
+//! whose calls are `answer`, for a plan, and `branch_rows`, which plans itself. `prefixes` says what a scan's rows begin with,
+//! `bounds` from where to where the answer's rows stand, `stamped` is a table at one stamp, `ranging` makes the scans of a plan,
+//! `collecting` walks over them, and `reading` reads a row back. The definitions that the contracts cite are in `specs/`, what a
+//! query finds in those of `ds_model`.
+#![tactic(auto)]
+
+mod answering;
+mod bounds;
+mod collecting;
+pub mod laws;
+mod prefixes;
+mod ranging;
+mod reading;
+mod refused;
+mod stamped;
+
+pub use answering::{answer, branch_rows};
+pub use refused::EngineRefused;

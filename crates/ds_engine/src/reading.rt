@@ -1,0 +1,87 @@
+//! Rows read back from their places.
+ghost use Rattle.std.specs.Prelude.{◌≡◌, ◌++◌, ◌∷◌, ◌&&◌, [], List, ℕ, IfOk};
+ghost use Rattle.ds_base.specs.declared.index_value.IndexValue.{IndexValue};
+ghost use Rattle.ds_base.specs.Keys.{KeyParts};
+ghost use Rattle.ds_bytes.specs.Encoding.{encoding, key_encoding};
+ghost use Rattle.ds_bytes.specs.Lawful.{IsLawfulKey, IsLawfulValue};
+ghost use Rattle.ds_query.specs.Filters.{is_key_name};
+ghost use Rattle.ds_cursor.specs.RowsOfColumns.{IsRowOf, key_descends};
+ghost use Rattle.ds_merge.specs.Merging.{IsPlaced};
+ghost use Rattle.ds_engine.specs.Reading.{ValueStands, KeyStands};
+
+use ds_base::{ByteString, Column, IndexValue, IndexValues, Key, NoMemory, TextString};
+use ds_bytes::{decode, decode_key};
+use ds_query::{Place, Row};
+use std::alloc::Global;
+
+/// The row whose place it is: a value for each column other than `__key__`, and the key. Refused: want of memory.
+pub(crate) fn row_of(alloc: Global, columns: &[Column], place: &[u8]) -> Result<Row, NoMemory>
+    requires { IsRowOf columns.now place.now }
+    ensures placed { IfOk result (IsPlaced columns.now) }
+    ensures place { IfOk result (λ row. row.place.bytes ≡ place.now) }
+{
+    let mut values = Vec::with_capacity(alloc, columns.len())?;
+    let mut rest = place;
+    for column in columns {
+        if !is_key_name(&column.name) {
+            rest = put_value(alloc, rest, column.descending, &mut values)?;
+        }
+    }
+    let key = key_of(alloc, rest, key_descends(columns))?;
+    let bytes = ByteString::of(alloc, place)?;
+    Ok(Row {
+        key,
+        values: IndexValues::from(values),
+        place: Place { bytes },
+    })
+}
+
+/// Puts the value that stands at the front behind the others, and gives what stands behind it.
+fn put_value<'a>(
+    alloc: Global,
+    bytes: &'a [u8],
+    descending: bool,
+    values: &mut Vec<IndexValue>,
+) -> Result<&'a [u8], NoMemory>
+    requires { ValueStands descending bytes.now }
+    ensures { IfOk result (λ rest. (v : IndexValue) (more : List ℕ) → IsLawfulValue v → bytes.now ≡ encoding descending v ++ more
+        → (values.new.items ≡ values.old.items ++ v ∷ []) × (rest.now ≡ more)) }
+{
+    match decode(alloc, bytes, descending)? {
+        Some(found) => {
+            values.push(found.value)?;
+            Ok(bytes.split_at(found.rest).1)
+        }
+        None => unreachable!(),
+    }
+}
+
+/// The key that stands there.
+fn key_of(alloc: Global, bytes: &[u8], descending: bool) -> Result<Key, NoMemory>
+    requires { KeyStands descending bytes.now }
+    ensures { IfOk result (λ key. (k : KeyParts) → IsLawfulKey k → bytes.now ≡ key_encoding descending k → key ≡ k) }
+{
+    match decode_key(alloc, bytes, descending)? {
+        Some(found) => Ok(found.key),
+        None => unreachable!(),
+    }
+}
+
+fn is_key_name(name: &TextString) -> bool
+    ensures { result ≡ is_key_name name.now }
+{
+    name.text() == "__key__"
+}
+
+/// Whether a column `__key__` descends.
+fn key_descends(columns: &[Column]) -> bool
+    ensures { result ≡ key_descends columns.now }
+{
+    columns.iter().any(|column| descends_by_key(column))
+}
+
+fn descends_by_key(column: &Column) -> bool
+    ensures { result ≡ (is_key_name column.now.name && column.now.descending) }
+{
+    is_key_name(&column.name) && column.descending
+}

@@ -1,6 +1,0 @@
-use Rattle.std.proofs.Common.{◌≡◌}
-use Rattle.ds_locks_tests.proofs.draw_tests.draw_many.Given as goal
-
--- what was collected is what the seat drew
-abbrev pub invariant-loop : goal.invariant-loop
-invariant-loop g l = (l.seat.word ≡ l.word.name) × (l.seat.draws ≡ l.numbers.items)
