@@ -1,6 +1,6 @@
 -- What was collected on the way over the strings that scans have in common.
-use Rattle.std.proofs.Common.{◌≡◌, ℕ, ◌+◌, ◌≤◌, ◌<◌, List, [], ◌∷◌, ◌++◌, length, map, take, get_or, Bool, true, false, ◌&&◌, not, cond, refl, sym, ap, ◌∙◌, subst, Option, Some, None, arith, length-append}
-use Rattle.std.specs.Prelude.{All, Contains, IsTrue, nat_lt, count_by, zero, suc}
+use Rattle.std.proofs.Common.{◌≡◌, ◌⊎◌, inl, inr, ℕ, ◌+◌, ◌≤◌, ◌<◌, List, [], ◌∷◌, ◌++◌, length, map, take, get_or, Bool, true, false, ◌&&◌, not, cond, refl, sym, ap, ◌∙◌, subst, Option, Some, None, Result, Ok, Err, arith, length-append}
+use Rattle.std.specs.Prelude.{OnErr, All, Contains, IsTrue, nat_lt, count_by, zero, suc}
 use Rattle.std.specs.List.{list_any}
 use Rattle.std.proofs.lemmas.Bool.Decides.{nat_tests}
 use Rattle.std.proofs.lemmas.List.{length-map, take_all}
@@ -8,20 +8,22 @@ use Rattle.std.proofs.lemmas.List.Elements.{All-head}
 use Rattle.ds_base.specs.declared.column.Column.{Column}
 use Rattle.ds_bytes.specs.Rows.{RowParts}
 use Rattle.ds_query.specs.declared.row.Row.{Row}
+use Rattle.ds_query.specs.declared.row.Place.{Place}
+use Rattle.ds_zigzag.specs.Walks.{IsWalked, steps_to_end, steps_up_to}
 use Rattle.ds_zigzag.specs.Spans.{is_below, is_above, is_within, count_between}
 use Rattle.ds_zigzag.specs.CommonStrings.{IsCommon, IsNextCommon, HasNoNextCommon}
 use Rattle.ds_zigzag.proofs.Counts.{count_by-lt}
 use Rattle.ds_zigzag.proofs.Order.{below_below, not_below_itself}
 use Rattle.ds_model.specs.Results.{at_most, first_of_each, same_mark}
 use Rattle.ds_merge.specs.Marks.{is_same}
-use Rattle.ds_merge.specs.Merging.{IsPlaced, parts_of, placed}
+use Rattle.ds_merge.specs.Merging.{IsPlaced, parts_of, placed, last_of}
 use Rattle.ds_merge.specs.FirstRows.{with_row}
 use Rattle.ds_merge.specs.Slots.{slot_of}
 use Rattle.ds_merge.proofs.FirstLaws.{with_item, with_item-map}
 use Rattle.ds_merge.proofs.MarkLaws.{is_same-placed}
 use Rattle.ds_planner.proofs.Members.{both}
 use Rattle.ds_engine.specs.Common.{AreCommonRows}
-use Rattle.ds_engine.specs.Places.{is_wanted}
+use Rattle.ds_engine.specs.Places.{bytes_of, is_wanted, walk_steps}
 use Rattle.ds_engine.proofs.Walking.{kept_at, none_kept, next_kept, all_kept, enough_kept}
 
 -- no more were kept than are wanted
@@ -129,3 +131,76 @@ fewer_left last (list ∷ lists) a some next =
       by : (l : Option (List ℕ)) (x : List ℕ) → is_above l a ≡ true → is_below a x ≡ true → is_above l x ≡ true
       by None x above b = refl
       by (Some l) x above b = below_below l a x above b
+
+-- ---- steps
+
+-- where no more rows are wanted the walk stands at the last one, or it took no step
+abbrev pub IsAtLast : Option ℕ → List Row → Option (List ℕ) → ℕ → ℕ → Type 0
+IsAtLast most rows last begun now =
+    is_wanted most (length rows) ≡ false → ((rows ≡ []) × (now ≡ begun)) ⊎ (bytes_of (last_of None rows) ≡ last)
+
+last_pushed : (start : Option Place) (rows : List Row) (row : Row) → last_of start (rows ++ row ∷ []) ≡ Some row.place
+last_pushed start [] row = refl
+last_pushed start (x ∷ rows) row = last_pushed (Some x.place) rows row
+
+pub at_next : (most : Option ℕ) (slots : List (Option ℕ)) (rows rows' : List Row) (row : Row) (a : List ℕ) (begun now : ℕ)
+    → is_wanted most (length rows) ≡ true → rows' ≡ with_row slots rows row → row.place.bytes ≡ a → IsAtLast most rows' (Some a) begun now
+at_next most slots rows rows' row a begun now wanted put at_a enough = by (list_any (is_same slots row) rows) refl where
+  by : (b : Bool) → list_any (is_same slots row) rows ≡ b → ((rows' ≡ []) × (now ≡ begun)) ⊎ (bytes_of (last_of None rows') ≡ Some a)
+  by true e =
+      let same : rows' ≡ rows = put ∙ ap (λ b. cond b rows (rows ++ row ∷ [])) e in
+      absurd (cc (sym wanted ∙ sym (ap (λ rs. is_wanted most (length rs)) same) ∙ enough))
+  by false e =
+      let more : rows' ≡ rows ++ row ∷ [] = put ∙ ap (λ b. cond b rows (rows ++ row ∷ [])) e in
+      inr (ap (λ rs. bytes_of (last_of None rs)) more ∙ ap bytes_of (last_pushed None rows row) ∙ ap (λ bs. Some bs) at_a)
+
+module _ (start : Option (List ℕ)) (n n' : ℕ) (ss ss' ps ps' : List (List (List ℕ))) (begun : ℕ) (same_n : n ≡ n') (same_ss : ss ≡ ss') (same_ps : ps ≡ ps') where
+  moved : (last : Option (List ℕ)) (now : ℕ) → IsWalked n' start last ss' ps' begun now → IsWalked n start last ss ps begun now
+  moved last now w =
+      subst (λ m. IsWalked m start last ss ps begun now) (sym same_n)
+      (subst (λ ls. IsWalked n' start last ls ps begun now) (sym same_ss) (subst (λ ls. IsWalked n' start last ss' ls begun now) (sym same_ps) w))
+
+  moved_back : (last : Option (List ℕ)) (now : ℕ) → IsWalked n start last ss ps begun now → IsWalked n' start last ss' ps' begun now
+  moved_back last now w =
+      subst (λ m. IsWalked m start last ss' ps' begun now) same_n
+      (subst (λ ls. IsWalked n start last ls ps' begun now) same_ss (subst (λ ls. IsWalked n start last ss ls begun now) same_ps w))
+
+  -- the walk goes on
+  pub walked_on : (last next : Option (List ℕ)) (ss2 ps2 : List (List (List ℕ))) (now now2 : ℕ) → IsWalked n' start last ss' ps' begun now
+      → (IsWalked n start last ss ps begun now → IsWalked n start next ss2 ps2 begun now2) → ss2 ≡ ss → ps2 ≡ ps
+      → IsWalked n' start next ss' ps' begun now2
+  walked_on last next ss2 ps2 now now2 w on same_ss2 same_ps2 =
+      moved_back next now2
+      (subst (λ ls. IsWalked n start next ls ps begun now2) same_ss2
+      (subst (λ ls. IsWalked n start next ss2 ls begun now2) same_ps2 (on (moved last now w))))
+
+  -- and stays within its steps
+  pub walked_within : (last : Option (List ℕ)) (now now2 : ℕ) → IsWalked n' start last ss' ps' begun now
+      → (IsWalked n start last ss ps begun now → now2 ≤ begun + steps_to_end n start ss ps) → now2 ≤ begun + steps_to_end n' start ss' ps'
+  walked_within last now now2 w within =
+      subst (λ m. now2 ≤ begun + steps_to_end m start ss' ps') same_n
+      (subst (λ ls. now2 ≤ begun + steps_to_end n start ls ps') same_ss
+      (subst (λ ls. now2 ≤ begun + steps_to_end n start ss ls) same_ps (within (moved last now w))))
+
+pub steps_at_end : (most : Option ℕ) (found rows : List Row) (n : ℕ) (start last : Option (List ℕ)) (ss ps : List (List (List ℕ))) (begun now : ℕ)
+    → found ≡ rows → is_wanted most (length rows) ≡ true → now ≤ begun + steps_to_end n start ss ps
+    → now ≤ begun + walk_steps (is_wanted most (length found)) n start last ss ps
+steps_at_end most found rows n start last ss ps begun now same wanted within =
+    let e : is_wanted most (length found) ≡ true = ap (λ rs. is_wanted most (length rs)) same ∙ wanted in
+    subst (λ b. now ≤ begun + walk_steps b n start last ss ps) (sym e) within
+
+pub steps_when_full : (most : Option ℕ) (found rows : List Row) (n : ℕ) (start last : Option (List ℕ)) (ss ps : List (List (List ℕ))) (begun now : ℕ)
+    → found ≡ rows → is_wanted most (length rows) ≡ false → IsAtLast most rows last begun now → IsWalked n start last ss ps begun now
+    → now ≤ begun + walk_steps (is_wanted most (length found)) n start (bytes_of (last_of None found)) ss ps
+steps_when_full most found rows n start last ss ps begun now same enough at_last walked =
+    let e : is_wanted most (length found) ≡ false = ap (λ rs. is_wanted most (length rs)) same ∙ enough in
+    subst (λ b. now ≤ begun + walk_steps b n start (bytes_of (last_of None found)) ss ps) (sym e)
+    (subst (λ rs. now ≤ begun + steps_up_to n start (bytes_of (last_of None rs)) ss ps) (sym same) (by (at_last enough))) where
+      by : ((rows ≡ []) × (now ≡ begun)) ⊎ (bytes_of (last_of None rows) ≡ last) → now ≤ begun + steps_up_to n start (bytes_of (last_of None rows)) ss ps
+      by (inl none) =
+          subst (λ rs. now ≤ begun + steps_up_to n start (bytes_of (last_of None rs)) ss ps) (sym none.0) (omega (arith, none.1))
+      by (inr at_row) = subst (λ o. now ≤ begun + steps_up_to n start o ss ps) (sym at_row) walked.within
+
+pub always_err : {A E P : Type 0} (r : Result A E) → P → OnErr r P
+always_err (Ok a) p = tt
+always_err (Err e) p = p

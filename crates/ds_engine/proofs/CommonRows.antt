@@ -62,7 +62,7 @@ use Rattle.ds_engine.proofs.Ways.{taken_long, flat_map_member}
 
 -- ---- entities
 
-entity_indexable : (stamp : ℕ) (versions : List Version) → All (λ (v : Version). IsIndexable v.entity) versions
+pub entity_indexable : (stamp : ℕ) (versions : List Version) → All (λ (v : Version). IsIndexable v.entity) versions
     → (e : EntityParts) → Member e (entities_at stamp versions) → IsIndexable e
 entity_indexable stamp versions all e m =
     let w = map_member (λ (v : Version). v.entity) (filter (is_seen stamp) versions) e m in
@@ -103,7 +103,7 @@ row_lawful q e r p m =
       subst IsLawfulKey (sym row.0) p.key,
     )
 
-row_of_bytes : (q : Branch) (e : EntityParts) (r : RowParts) → IsIndexable e → Member r (entity_rows q.columns e) → IsRow (directions q.columns) r
+pub row_of_bytes : (q : Branch) (e : EntityParts) (r : RowParts) → IsIndexable e → Member r (entity_rows q.columns e) → IsRow (directions q.columns) r
 row_of_bytes q e r p m =
     let l = row_lawful q e r p m in
     record { long = l.0; values = λ k d below. value_of_bytes _ (l.1 k d below); key = key_of_bytes r.key l.2 }
@@ -112,10 +112,10 @@ row_of_bytes q e r p m =
 
 module _ (q : Branch) (defs : List IndexDef) (scans : List PlannedScan) (stamp : ℕ) (versions : List Version) (end : Option Place)
     (planned : IsPlanned q defs scans stamp versions) where
-  abbrev entities : List EntityParts
+  abbrev pub entities : List EntityParts
   entities = entities_at stamp versions
 
-  abbrev strings : PlannedScan → List (List ℕ)
+  abbrev pub strings : PlannedScan → List (List ℕ)
   strings s = rests (range_of q defs end s) (rows_at defs stamp versions)
 
   abbrev pub all_strings : List (List (List ℕ))
@@ -131,20 +131,20 @@ module _ (q : Branch) (defs : List IndexDef) (scans : List PlannedScan) (stamp :
   a_scan s m = each_member (is_scan q defs) scans s is_suited.are m
 
   -- a string of a scan is the place of a row of what the scan binds
-  record IsOfScan (s : PlannedScan) (x : List ℕ) : Type 0 where
-    entity : EntityParts
-    there : Member entity entities
-    row : RowParts
-    counts : is_found (scan_branch q s) entity ≡ true
-    is_row : Member row (entity_rows q.columns entity)
-    place : x ≡ place_of q.columns row
-    inside : in_range (low_of q) (high_of q end) x ≡ true
+  pub record IsOfScan (s : PlannedScan) (x : List ℕ) : Type 0 where
+    pub entity : EntityParts
+    pub there : Member entity entities
+    pub row : RowParts
+    pub counts : is_found (scan_branch q s) entity ≡ true
+    pub is_row : Member row (entity_rows q.columns entity)
+    pub place : x ≡ place_of q.columns row
+    pub inside : in_range (low_of q) (high_of q end) x ≡ true
 
   only : {A : Type 0} (x y : A) → Member x (y ∷ []) → x ≡ y
   only x y (inl e) = e
   only x y (inr m) = absurd m
 
-  of_scan : (s : PlannedScan) (x : List ℕ) → Member s scans → Contains (strings s) x → IsOfScan s x
+  pub of_scan : (s : PlannedScan) (x : List ℕ) → Member s scans → Contains (strings s) x → IsOfScan s x
   of_scan s x m c =
       let r = row_of_rest (range_of q defs end s) (rows_at defs stamp versions) x c in
       let seen = row_seen defs stamp versions (scan_prefix q defs s ++ x) r.0 in

@@ -1,12 +1,15 @@
 pub mod AncestorPaths
 pub mod BoundLaws
+pub mod Bounded
 pub mod Collected
 pub mod Columns
 pub mod CommonRows
+pub mod Counted
 pub mod EntityRows
 pub mod LowBytes
 pub mod Ranged
 pub mod Readings
+pub mod PartRows
 pub mod RowBytes
 pub mod ScanColumns
 pub mod ScanIndexes

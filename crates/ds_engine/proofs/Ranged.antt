@@ -1,7 +1,7 @@
 -- The scans of a plan, one after another.
 use Rattle.std.proofs.Common.{◌≡◌, ℕ, ◌+◌, ◌<◌, List, [], ◌∷◌, ◌++◌, length, map, take, get_or, refl, sym, ap, ◌∙◌, Option, Result, Ok, Err}
-use Rattle.std.specs.Prelude.{IfOk}
-use Rattle.std.proofs.lemmas.List.{take_more, map-append}
+use Rattle.std.specs.Prelude.{IfOk, OnErr}
+use Rattle.std.proofs.lemmas.List.{take_more, map-append, length-map}
 use Rattle.ds_indexdef.specs.declared.IndexDef.{IndexDef}
 use Rattle.ds_query.specs.declared.branch.Branch.{Branch}
 use Rattle.ds_query.specs.declared.row.Place.{Place}
@@ -9,8 +9,8 @@ use Rattle.ds_planner.specs.declared.planned.PlannedScan.{PlannedScan}
 use Rattle.ds_rows.specs.Versions.{Version}
 use Rattle.ds_scan.specs.Ranges.{Ranged, rests}
 use Rattle.ds_engine.specs.Ranging.{range_of, ranges_over}
-use Rattle.ds_engine.specs.ScanLaws.{plan_strings}
-use Rattle.ds_engine.specs.Stamped.{Stamped, rows_at}
+use Rattle.ds_engine.specs.ScanLaws.{plan_strings, plan_passed}
+use Rattle.ds_engine.specs.Stamped.{Stamped, rows_at, rows_not_at}
 
 pub one_more_made : {A B : Type 0} (f : A → B) (xs : List A) (i : ℕ) (x : A) (items items' : List B) (y : B) → i < length xs → x ≡ get_or xs i x
     → items ≡ map f (take i xs) → items' ≡ items ++ y ∷ [] → y ≡ f x → items' ≡ map f (take (i + 1) xs)
@@ -37,6 +37,31 @@ plan_strings_are {T = T} D V q defs scans stamp end tables items made definition
     ap (map (λ (s : Ranged (Stamped T)). rests s.range (rows s.rows))) made
     ∙ strings_of_plan q defs scans end (record { tables = tables; stamp = stamp }) rows
     ∙ ap (λ (ds : List IndexDef). map (λ (s : PlannedScan). rests (range_of q defs end s) (rows_at ds stamp (V tables))) scans) (sym definitions)
+
+-- and so are those that they pass
+pub plan_passed_are : {T : Type 0} (D : T → List IndexDef) (V : T → List Version) (q : Branch) (defs : List IndexDef) (scans : List PlannedScan)
+    (stamp : ℕ) (end : Option Place) (tables : T) (items : List (Ranged (Stamped T)))
+    → items ≡ ranges_over (record { tables = tables; stamp = stamp }) q defs end scans → defs ≡ D tables
+    → map (λ (s : Ranged (Stamped T)). rests s.range (rows_not_at (D s.rows.tables) s.rows.stamp (V s.rows.tables))) items
+    ≡ plan_passed q defs scans stamp (V tables) end
+plan_passed_are {T = T} D V q defs scans stamp end tables items made definitions =
+    let rows : Stamped T → List (List ℕ) = λ (s : Stamped T). rows_not_at (D s.tables) s.stamp (V s.tables) in
+    ap (map (λ (s : Ranged (Stamped T)). rests s.range (rows s.rows))) made
+    ∙ strings_of_plan q defs scans end (record { tables = tables; stamp = stamp }) rows
+    ∙ ap (λ (ds : List IndexDef). map (λ (s : PlannedScan). rests (range_of q defs end s) (rows_not_at ds stamp (V tables))) scans) (sym definitions)
+
+pub as_many_scans : {T : Type 0} (q : Branch) (defs : List IndexDef) (scans : List PlannedScan) (end : Option Place) (at_stamp : Stamped T)
+    (items : List (Ranged (Stamped T))) → items ≡ ranges_over at_stamp q defs end scans → length items ≡ length scans
+as_many_scans q defs scans end at_stamp items made =
+    ap length made ∙ length-map scans (λ (s : PlannedScan). record { rows = at_stamp; range = range_of q defs end s })
+
+pub if_both : {A E : Type 0} {P Q R : A → Type 0} (r : Result A E) → IfOk r P → IfOk r Q → ((a : A) → P a → Q a → R a) → IfOk r R
+if_both (Ok a) p q f = f a p q
+if_both (Err e) p q f = tt
+
+pub on_err : {A E P Q : Type 0} (r : Result A E) → OnErr r P → (P → Q) → OnErr r Q
+on_err (Ok a) p f = tt
+on_err (Err e) p f = f p
 
 pub if_ok : {A E : Type 0} {P Q : A → Type 0} (r : Result A E) → IfOk r P → ((a : A) → P a → Q a) → IfOk r Q
 if_ok (Ok a) p f = f a p

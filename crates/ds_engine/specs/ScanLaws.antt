@@ -1,5 +1,5 @@
 -- What is claimed of planned scans: that the strings behind what a scan's rows begin with are the rows of what it binds.
-use Rattle.std.specs.Prelude.{◌≡◌, ◌↔◌, ◌&&◌, ℕ, true, List, [], ◌∷◌, ◌++◌, All, Contains, IsTrue, Option, cond, filter, map}
+use Rattle.std.specs.Prelude.{◌≡◌, ◌≤◌, ◌↔◌, ◌&&◌, ℕ, length, true, List, [], ◌∷◌, ◌++◌, All, Contains, IsTrue, Option, cond, filter, map}
 use Rattle.ds_base.specs.Entities.{EntityParts}
 use Rattle.ds_base.specs.Sorting.{sorted_by}
 use Rattle.ds_bytes.specs.Rows.{RowParts, IsRow}
@@ -10,22 +10,26 @@ use Rattle.ds_query.specs.declared.row.Place.{Place}
 use Rattle.ds_query.specs.Lawful.{IsLawfulBranch}
 use Rattle.ds_planner.specs.declared.planned.PlannedScan.{PlannedScan}
 use Rattle.ds_planner.specs.Indexes.{is_by_key}
+use Rattle.ds_planner.specs.Lean.{IsLean}
+use Rattle.ds_planner.specs.Parts.{parts}
 use Rattle.ds_planner.specs.Suits.{is_scan, suits}
 use Rattle.ds_rows.specs.Indexable.{IsIndexable}
 use Rattle.ds_rows.specs.Rows.{rows_of}
 use Rattle.ds_rows.specs.Versions.{Version, entities_at, AreTables}
 use Rattle.ds_scan.specs.Ranges.{rests}
 use Rattle.ds_table.specs.Versions.{in_range}
+use Rattle.ds_zigzag.specs.CommonStrings.{least_count, total_count}
 use Rattle.ds_cursor.specs.RowsOfColumns.{directions}
 use Rattle.ds_model.specs.Rows.{rows, place_of, compare_rows, first_value, is_within, is_under}
 use Rattle.ds_model.specs.Results.{is_between, is_up_to}
+use Rattle.ds_model.specs.Bounds.{least_of, part_rows, old}
 use Rattle.ds_engine.specs.Bounds.{low_of, high_of}
 use Rattle.ds_engine.specs.Common.{AreCommonRows}
 use Rattle.ds_engine.specs.Places.{bytes_of}
 use Rattle.ds_engine.specs.Prefixes.{scan_prefix}
 use Rattle.ds_engine.specs.Ranging.{range_of}
 use Rattle.ds_engine.specs.Scans.{scan_branch, IsLawfulScan, IsLawfulEnds}
-use Rattle.ds_engine.specs.Stamped.{rows_at}
+use Rattle.ds_engine.specs.Stamped.{rows_at, rows_not_at}
 
 -- An entity has a row that begins with what a scan is bound to exactly where what follows is the place of one of its rows under
 -- the pairs and the ancestor that the scan binds.
@@ -66,3 +70,17 @@ PlansTellRows =
     → IsPlanned q defs scans stamp versions
     → AreCommonRows q.columns (bytes_of start) (plan_strings q defs scans stamp versions end)
     (rows_between q start end (entities_at stamp versions))
+
+-- the passed strings of the scans of a plan
+abbrev pub plan_passed : Branch → List IndexDef → List PlannedScan → ℕ → List Version → Option Place → List (List (List ℕ))
+plan_passed q defs scans stamp versions end = map (λ s. rests (range_of q defs end s) (rows_not_at defs stamp versions)) scans
+
+-- Between two places some scan has no more strings than any part has rows, and where each scan has a part of its own the scans pass no
+-- more strings than the parts have rows of versions that aren't seen.
+abbrev pub ScansHaveFewStrings : Type 0
+ScansHaveFewStrings =
+    (q : Branch) (defs : List IndexDef) (scans : List PlannedScan) (stamp : ℕ) (versions : List Version) (start end stop : Option Place)
+    → IsPlanned q defs scans stamp versions
+    → (least_count (bytes_of start) (bytes_of stop) (plan_strings q defs scans stamp versions end)
+    ≤ least_of (map (λ part. length (part_rows q start end stop (entities_at stamp versions) part)) (parts q)))
+    × (IsLean q defs scans → total_count (bytes_of start) (bytes_of stop) (plan_passed q defs scans stamp versions end) ≤ old q stamp versions)

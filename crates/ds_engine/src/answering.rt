@@ -1,11 +1,12 @@
 //! The rows of a branch.
-ghost use Rattle.std.specs.Prelude.{◌≡◌, ◌+◌, ◌≤◌, ◌≢◌, map, None, Some, IsTrue, IfOk, IfErr};
+ghost use Rattle.std.specs.Prelude.{◌≡◌, ◌+◌, ◌≤◌, ◌≢◌, map, None, Some, IsTrue, IfOk, IfErr, OnErr};
 ghost use Rattle.std.specs.Option.{option_copied};
 ghost use Rattle.ds_query.specs.Lawful.{IsLawfulBranch};
 ghost use Rattle.ds_planner.specs.Suits.{suits};
+ghost use Rattle.ds_planner.specs.Lean.{IsLean};
 ghost use Rattle.ds_planner.specs.Missing.{Missing, missing_of};
 ghost use Rattle.ds_rows.specs.Versions.{entities_at};
-ghost use Rattle.ds_model.specs.Bounds.{given};
+ghost use Rattle.ds_model.specs.Bounds.{bound, given};
 ghost use Rattle.ds_merge.specs.Merging.{placed};
 
 use crate::collecting::first_common;
@@ -23,8 +24,9 @@ use std::sync::ledger::Ledger;
 /// The first `most` results of the branch at the stamp `at`, or all where there is no `most`: of its rows after the start and up to the
 /// end, in order, the first of each mark, each with its values, its key and its place.
 ///
-/// It needs the definitions of the tables, a plan that suits the branch under them, and a stamp that the tables keep. Refused:
-/// want of memory.
+/// It needs the definitions of the tables, a plan that suits the branch under them, and a stamp that the tables keep. Where no scan of the
+/// plan is one too many it takes at most `bound` steps, which speaks of no row above the last one given where as many are given as were
+/// asked for. Refused: want of memory; it may then have looked at all rows up to the end.
 pub fn answer<T: Tables, L: Ledger>(
     alloc: Global,
     tables: &T,
@@ -44,6 +46,10 @@ pub fn answer<T: Tables, L: Ledger>(
     requires suits { IsTrue (suits branch.now defs.now plan.now.scans) }
     ensures rows { IfOk result (λ rows. rows ≡ map (placed branch.now.columns)
         (given branch.now (option_copied start.entry) (option_copied end.entry) most (entities_at at (T.versions tables.now)))) }
+    ensures steps_bounded { IsLean branch.now defs.now plan.now.scans → IfOk result (λ rows. steps.new
+        ≤ steps.old + bound branch.now (option_copied start.entry) (option_copied end.entry) most at (T.versions tables.now)) }
+    ensures steps_when_refused { IsLean branch.now defs.now plan.now.scans → OnErr result (steps.new
+        ≤ steps.old + bound branch.now (option_copied start.entry) (option_copied end.entry) None at (T.versions tables.now)) }
     ensures steps_stay_counted { steps.old ≤ steps.new }
 {
     tables.stand(at);
@@ -51,7 +57,7 @@ pub fn answer<T: Tables, L: Ledger>(
     first_common(alloc, scans.as_mut_slice(), branch, start, most, steps)
 }
 
-/// The same rows by a plan of its own. `MissingIndex` comes exactly where no set of scans suits the branch; it
+/// The same rows by a plan of its own, within the same bounds. `MissingIndex` comes exactly where no set of scans suits the branch; it
 /// carries what no index serves, and the definition with which the branch would be served.
 pub fn branch_rows<T: Tables, L: Ledger>(
     alloc: Global,
@@ -74,6 +80,10 @@ pub fn branch_rows<T: Tables, L: Ledger>(
     ensures missing { IfErr result (λ e. e ≢ EngineRefused.NoMemory → (m : Missing)
         × (missing_of branch.now defs.now ≡ Some m)
         × (e ≡ EngineRefused.MissingIndex m.constraint m.suggestion)) }
+    ensures steps_bounded { IfOk result (λ rows. steps.new
+        ≤ steps.old + bound branch.now (option_copied start.entry) (option_copied end.entry) most at (T.versions tables.now)) }
+    ensures steps_when_refused { OnErr result (steps.new
+        ≤ steps.old + bound branch.now (option_copied start.entry) (option_copied end.entry) None at (T.versions tables.now)) }
     ensures steps_stay_counted { steps.old ≤ steps.new }
 {
     match plan(alloc, branch, defs) {

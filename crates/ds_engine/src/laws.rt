@@ -1,5 +1,5 @@
 //! What is claimed of planned scans: laws of the definitions. The functions do nothing.
-ghost use Rattle.ds_engine.specs.ScanLaws.{ScansTellRows, PlansTellRows, BoundsTellRows};
+ghost use Rattle.ds_engine.specs.ScanLaws.{ScansTellRows, PlansTellRows, BoundsTellRows, ScansHaveFewStrings};
 
 /// The rows of an entity that begin with what a scan is bound to go on with the places of its rows under what the scan binds.
 pub fn scans_tell_rows()
@@ -16,4 +16,9 @@ pub fn bounds_tell_rows()
 /// and the end.
 pub fn plans_tell_rows()
     ensures { PlansTellRows }
+{}
+
+/// Between two places no scan has more strings than the parts that it binds have rows, nor do the scans pass more.
+pub fn scans_have_few_strings()
+    ensures { ScansHaveFewStrings }
 {}

@@ -1,4 +1,4 @@
-use Rattle.std.proofs.Common.{◌≡◌, ℕ, ◌+◌, ◌≤◌, ◌<◌, List, [], length, map, get_or, refl, sym, ap, subst, ◌∙◌, true, false, arith, Some, None, Ok, option_copied}
+use Rattle.std.proofs.Common.{◌≡◌, inl, inr, ℕ, ◌+◌, ◌≤◌, ◌<◌, List, [], length, map, get_or, refl, sym, ap, subst, ◌∙◌, true, false, arith, Some, None, Ok, option_copied}
 use Rattle.std.specs.Prelude.{IfOk, IfSome}
 use Rattle.std.proofs.lemmas.List.{length-map}
 use Rattle.ds_base.specs.declared.column.Column.{Column}
@@ -6,10 +6,11 @@ use Rattle.ds_query.specs.Filters.{projected}
 use Rattle.ds_cursor.specs.RowsOfColumns.{IsRowOf}
 use Rattle.ds_zigzag.specs.Spans.{count_between}
 use Rattle.ds_zigzag.specs.CommonStrings.{IsCommon, IsNextCommon, HasNoNextCommon}
-use Rattle.ds_merge.specs.Merging.{IsPlaced}
+use Rattle.ds_zigzag.specs.Walks.{IsWalked}
+use Rattle.ds_merge.specs.Merging.{IsPlaced, last_of}
 use Rattle.ds_merge.specs.Slots.{slot_of}
 use Rattle.ds_engine.specs.Places.{bytes_of, is_wanted}
-use Rattle.ds_engine.proofs.Collected.{AreCollected, begun, stepped, ended, full, fewer_left}
+use Rattle.ds_engine.proofs.Collected.{AreCollected, IsAtLast, begun, stepped, ended, full, fewer_left, at_next, walked_on, walked_within, steps_at_end, steps_when_full, always_err}
 use Rattle.ds_engine.proofs.collecting.first_common.Goals as goal
 
 pub answers-init : goal.answers-init
@@ -21,6 +22,15 @@ answers-init g c = record {
       (map g.S.Scan.strings c.args.scans.now) c.args.most c.in_ok-firsts.firsts.slots c.in_ok-walk.walk.last c.in_ok-firsts.firsts.rows
       (c.in_ok-firsts.ensures.slots ∙ (λ i. map (slot_of (c.as_slice.ensures i)) ((c.as_slice-2.ensures ∙ c.projected-names.ensures) i)))
       (c.in_ok-walk.ensures.stands ∙ c.bytes_of.ensures) c.in_ok-firsts.ensures.none;
+  passed = refl;
+  walked =
+      let after = bytes_of (option_copied c.args.start) in
+      let ss = map g.S.Scan.strings c.args.scans.now in
+      let ps = map g.S.Scan.passed c.args.scans.now in
+      let now = c.args.steps.now in
+      subst (λ o. IsWalked (length c.args.scans.now) after o ss ps now now) (sym (c.in_ok-walk.ensures.stands ∙ c.bytes_of.ensures))
+      (c.in_ok-walk.ensures.begins after ss ps now);
+  at_last = λ enough. inl (c.in_ok-firsts.ensures.none, refl);
   counted = omega arith;
 }
 
@@ -79,6 +89,18 @@ answers-preserved g c =
       collected = subst (λ o. AreCollected columns names after lists c.args.most c.put.new.self.slots o c.put.new.self.rows) (sym stands)
           (stepped columns names after lists c.args.most c.answers.firsts.slots c.put.new.self.slots last c.answers.firsts.rows c.put.new.self.rows place
           c.in_ok-row-in-Some.row c.answers.invariant.collected next placed c.in_ok-row-in-Some.ensures.place c.in_ok-put-in-Some.ensures.rows c.in_ok-put-in-Some.ensures.slots wanted);
+      passed = c.next.ensures.same_passed ∙ c.answers.invariant.passed;
+      walked =
+          let number : c.answers.walk.scans ≡ length c.args.scans.now = c.answers.invariant.number ∙ c.answers.invariant.as_many in
+          let on = rw c.in-Some.is at c.in_ok-found.ensures.walks_on in
+          subst (λ o. IsWalked (length c.args.scans.now) after o lists (map g.S.Scan.passed c.args.scans.now) c.args.steps.now c.next.new.steps) (sym stands)
+          (walked_on after c.answers.walk.scans (length c.args.scans.now) (map g.S.Scan.strings c.answers.scans) lists
+          (map g.S.Scan.passed c.answers.scans) (map g.S.Scan.passed c.args.scans.now) c.args.steps.now number c.answers.invariant.strings c.answers.invariant.passed
+          last (Some place) (map g.S.Scan.strings c.next.new.scans) (map g.S.Scan.passed c.next.new.scans) c.answers.steps c.next.new.steps
+          c.answers.invariant.walked (on after c.args.steps.now) same c.next.ensures.same_passed);
+      at_last = subst (λ o. IsAtLast c.args.most c.put.new.self.rows o c.args.steps.now c.next.new.steps) (sym stands)
+          (at_next c.args.most c.answers.firsts.slots c.answers.firsts.rows c.put.new.self.rows c.in_ok-row-in-Some.row place c.args.steps.now c.next.new.steps
+          wanted c.in_ok-put-in-Some.ensures.rows c.in_ok-row-in-Some.ensures.place);
       counted = omega (arith, c.answers.invariant.counted, c.next.ensures.steps_stay_counted);
     }
 
@@ -90,3 +112,51 @@ returns-clause-rows g c = λ sorted are.
     ∙ full c.args.branch.now.columns (projected c.args.branch.now.select) (bytes_of (option_copied c.args.start))
     (map g.S.Scan.strings c.args.scans.now) c.args.most c.answers.firsts.slots c.answers.walk.last c.answers.firsts.rows c.answers.invariant.collected
     enough sorted are
+
+pub returns-in-None-clause-steps_when_done : goal.returns-in-None-clause-steps_when_done
+returns-in-None-clause-steps_when_done g c =
+    let after = bytes_of (option_copied c.args.start) in
+    let number : c.answers.walk.scans ≡ length c.args.scans.now = c.answers.invariant.number ∙ c.answers.invariant.as_many in
+    let wanted : is_wanted c.args.most (length c.answers.firsts.rows) ≡ true =
+    sym (c.is_wanted.ensures ∙ ap (is_wanted c.args.most) c.len.ensures) ∙ c.answers-test.true in
+    steps_at_end c.args.most c.finish.result c.answers.firsts.rows (length c.args.scans.now) after (bytes_of (last_of None c.finish.result))
+    (map g.S.Scan.strings c.args.scans.now) (map g.S.Scan.passed c.args.scans.now) c.args.steps.now c.next.new.steps c.finish.ensures wanted
+    (walked_within after c.answers.walk.scans (length c.args.scans.now) (map g.S.Scan.strings c.answers.scans) (map g.S.Scan.strings c.args.scans.now)
+    (map g.S.Scan.passed c.answers.scans) (map g.S.Scan.passed c.args.scans.now) c.args.steps.now number c.answers.invariant.strings c.answers.invariant.passed
+    c.answers.walk.last c.answers.steps c.next.new.steps c.answers.invariant.walked (c.next.ensures.walk_within after c.args.steps.now))
+
+pub returns-clause-steps_when_done : goal.returns-clause-steps_when_done
+returns-clause-steps_when_done g c =
+    let after = bytes_of (option_copied c.args.start) in
+    let enough : is_wanted c.args.most (length c.answers.firsts.rows) ≡ false =
+    sym (c.is_wanted.ensures ∙ ap (is_wanted c.args.most) c.len.ensures) ∙ c.answers-test.false in
+    steps_when_full c.args.most c.finish-2.result c.answers.firsts.rows (length c.args.scans.now) after c.answers.walk.last
+    (map g.S.Scan.strings c.args.scans.now) (map g.S.Scan.passed c.args.scans.now) c.args.steps.now c.answers.steps c.finish-2.ensures enough
+    c.answers.invariant.at_last c.answers.invariant.walked
+
+pub returns-in_err-found-clause-steps_when_refused : goal.returns-in_err-found-clause-steps_when_refused
+returns-in_err-found-clause-steps_when_refused g c =
+    let after = bytes_of (option_copied c.args.start) in
+    let number : c.answers.walk.scans ≡ length c.args.scans.now = c.answers.invariant.number ∙ c.answers.invariant.as_many in
+    always_err c.from_residual-in_err-found.result
+    (walked_within after c.answers.walk.scans (length c.args.scans.now) (map g.S.Scan.strings c.answers.scans) (map g.S.Scan.strings c.args.scans.now)
+    (map g.S.Scan.passed c.answers.scans) (map g.S.Scan.passed c.args.scans.now) c.args.steps.now number c.answers.invariant.strings c.answers.invariant.passed
+    c.answers.walk.last c.answers.steps c.next.new.steps c.answers.invariant.walked (c.next.ensures.walk_within after c.args.steps.now))
+
+pub returns-in_err-row-in-Some-clause-steps_when_refused : goal.returns-in_err-row-in-Some-clause-steps_when_refused
+returns-in_err-row-in-Some-clause-steps_when_refused g c =
+    let after = bytes_of (option_copied c.args.start) in
+    let number : c.answers.walk.scans ≡ length c.args.scans.now = c.answers.invariant.number ∙ c.answers.invariant.as_many in
+    always_err c.from_residual-in_err-row-in-Some.result
+    (walked_within after c.answers.walk.scans (length c.args.scans.now) (map g.S.Scan.strings c.answers.scans) (map g.S.Scan.strings c.args.scans.now)
+    (map g.S.Scan.passed c.answers.scans) (map g.S.Scan.passed c.args.scans.now) c.args.steps.now number c.answers.invariant.strings c.answers.invariant.passed
+    c.answers.walk.last c.answers.steps c.next.new.steps c.answers.invariant.walked (c.next.ensures.walk_within after c.args.steps.now))
+
+pub returns-in_err-put-in-Some-clause-steps_when_refused : goal.returns-in_err-put-in-Some-clause-steps_when_refused
+returns-in_err-put-in-Some-clause-steps_when_refused g c =
+    let after = bytes_of (option_copied c.args.start) in
+    let number : c.answers.walk.scans ≡ length c.args.scans.now = c.answers.invariant.number ∙ c.answers.invariant.as_many in
+    always_err c.from_residual-in_err-put-in-Some.result
+    (walked_within after c.answers.walk.scans (length c.args.scans.now) (map g.S.Scan.strings c.answers.scans) (map g.S.Scan.strings c.args.scans.now)
+    (map g.S.Scan.passed c.answers.scans) (map g.S.Scan.passed c.args.scans.now) c.args.steps.now number c.answers.invariant.strings c.answers.invariant.passed
+    c.answers.walk.last c.answers.steps c.next.new.steps c.answers.invariant.walked (c.next.ensures.walk_within after c.args.steps.now))

@@ -5,7 +5,8 @@ use Rattle.std.specs.Option.{option_copied}
 use Rattle.ds_query.specs.Filters.{projected}
 use Rattle.ds_zigzag.specs.Spans.{count_between}
 use Rattle.ds_engine.specs.Places.{bytes_of}
-use Rattle.ds_engine.proofs.Collected.{AreCollected}
+use Rattle.ds_zigzag.specs.Walks.{IsWalked}
+use Rattle.ds_engine.proofs.Collected.{AreCollected, IsAtLast}
 use Rattle.ds_engine.proofs.collecting.first_common.Given as goal
 
 abbrev pub invariant-answers : goal.invariant-answers
@@ -15,6 +16,10 @@ invariant-answers g l = record {
   number : l.walk.scans ≡ length l.scans;
   collected : AreCollected l.branch.columns (projected l.branch.select) (bytes_of (option_copied l.start)) (map g.S.Scan.strings l.fn.scans) l.most
       l.firsts.slots l.walk.last l.firsts.rows;
+  passed : map g.S.Scan.passed l.scans ≡ map g.S.Scan.passed l.fn.scans;
+  walked : IsWalked (length l.fn.scans) (bytes_of (option_copied l.start)) l.walk.last (map g.S.Scan.strings l.fn.scans)
+      (map g.S.Scan.passed l.fn.scans) l.fn.steps l.steps;
+  at_last : IsAtLast l.most l.firsts.rows l.walk.last l.fn.steps l.steps;
   counted : l.fn.steps ≤ l.steps;
 }
 
