@@ -70,6 +70,7 @@ trimmed_at floor k = filter (λ v. if same_key v.entity.key k then outlives floo
 abbrev pub version_of : Kept → Version
 version_of k = record { entity = k.entity; from = k.from; until = k.until }
 
+-- there is an end, and it is by the stamp
 abbrev pub EndsBy : ℕ → Option ℕ → Type 0
 EndsBy stamp None = ⊥
 EndsBy stamp (Some until) = until ≤ stamp

@@ -66,6 +66,10 @@ impl<'a, L: Ledger> Tables for ShardTables<'a, L> {
         self.shard.view(at).seek_near(at_least, below, near, steps)
     }
 
+    fn stand(&self, at: u64) {
+        let _view = self.shard.view(at);
+    }
+
     fn entity<M: Ledger>(&self, at: u64, key: &Key, steps: &mut Steps<M>) -> Option<&Entity> {
         steps.tick();
         self.shard.entity(at, key)

@@ -1,32 +1,31 @@
 //! A history of two entities, seen at every stamp.
 ghost use Rattle.std.specs.Prelude.{◌≡◌, ◌+◌, ◌<◌, ◌≤◌, ◌^◌, IfOk, OnOk};
 
-use crate::look::stands;
-use crate::made::{delete, entry, put};
+use crate::look::{Want, stands};
+use crate::made::{first, fourth, second, third};
+use ds_base::NoMemory;
 use ds_indexdef::Defs;
 use ds_io::Steps;
-use ds_log::Write;
+use ds_log::Entry;
 use ds_shard::Shard;
 use std::alloc::Global;
 use std::marker::Brand;
 use std::sync::ledger::{Blank, Ledger};
 use std::test::Fail;
 
-/// Absorbs an entry with these writes, and where it is refused for want of memory, which changes nothing, once more.
-fn absorb(alloc: Global, shard: &mut Shard, commit: u64, writes: Vec<Write>) -> Result<(), Fail>
+/// Absorbs an entry, and where it is refused for want of memory, which changes nothing, once more.
+fn absorb(shard: &mut Shard, entry: &Entry) -> Result<(), NoMemory>
     requires { shard.old.count < 2 ^ 62 }
     ensures count { OnOk result (shard.new.count ≡ shard.old.count + 1) }
-    ensures window { OnOk result (shard.new.window ≡ shard.old.window) }
+    ensures window { shard.new.window ≡ shard.old.window }
 {
-    let entry = entry(alloc, commit, writes)?;
-    match shard.absorb(&entry) {
-        Ok(()) => Ok(()),
-        Err(_) => Ok(shard.absorb(&entry)?),
+    if shard.absorb(entry).is_ok() {
+        return Ok(());
     }
+    shard.absorb(entry)
 }
 
-/// A shard that absorbed four entries: `a` is put, replaced beside a put of `b`, `b` is deleted, and at last `a` is put once more
-/// and deleted, and `b` is put again.
+/// A shard that absorbed four entries.
 fn after_four(alloc: Global, window: u64) -> Result<Shard, Fail>
     requires least { 1 ≤ window }
     requires most { window ≤ 65536 }
@@ -34,30 +33,59 @@ fn after_four(alloc: Global, window: u64) -> Result<Shard, Fail>
     ensures window { IfOk result (λ s. s.window ≡ window) }
 {
     let mut shard = Shard::make(alloc, &Defs::new(alloc), window)?;
-    let one = put(alloc, "a", 1)?;
-    absorb(alloc, &mut shard, 11, vec![in alloc; one]?)?;
-    let five = put(alloc, "b", 5)?;
-    let two = put(alloc, "a", 2)?;
-    absorb(alloc, &mut shard, 12, vec![in alloc; five, two]?)?;
-    let gone = delete(alloc, "b")?;
-    absorb(alloc, &mut shard, 14, vec![in alloc; gone]?)?;
-    let three = put(alloc, "a", 3)?;
-    let gone = delete(alloc, "a")?;
-    let seven = put(alloc, "b", 7)?;
-    absorb(alloc, &mut shard, 17, vec![in alloc; three, gone, seven]?)?;
+    absorb(&mut shard, &first(alloc)?)?;
+    absorb(&mut shard, &second(alloc)?)?;
+    absorb(&mut shard, &third(alloc)?)?;
+    absorb(&mut shard, &fourth(alloc)?)?;
     Ok(shard)
 }
 
-/// Whether the last three stamps of four show what they should. An entity with one property has four rows.
-fn newest_stand<L: Ledger>(alloc: Global, shard: &Shard, steps: &mut Steps<L>) -> Result<bool, Fail>
-    requires count { shard.now.count ≡ 4 }
-    requires window { 3 ≤ shard.now.window }
+/// What stands at a stamp: an entity with one property has four rows.
+fn want_at(stamp: u64) -> Want {
+    match stamp {
+        1 => Want {
+            a: Some(1),
+            b: None,
+            rows: 4,
+        },
+        2 => Want {
+            a: Some(2),
+            b: Some(5),
+            rows: 8,
+        },
+        3 => Want {
+            a: Some(2),
+            b: None,
+            rows: 4,
+        },
+        4 => Want {
+            a: None,
+            b: Some(7),
+            rows: 4,
+        },
+        _ => Want {
+            a: None,
+            b: None,
+            rows: 0,
+        },
+    }
+}
+
+/// Whether the stamps from this one up to the shard's count show what they should.
+fn stand_from<L: Ledger>(
+    alloc: Global,
+    shard: &Shard,
+    from: u64,
+    steps: &mut Steps<L>,
+) -> Result<bool, Fail>
+    requires { shard.now.count + 1 ≤ from + shard.now.window }
 {
-    Ok(
-        stands(alloc, shard, 2, (Some(2), Some(5), 8), steps)?
-            && stands(alloc, shard, 3, (Some(2), None, 4), steps)?
-            && stands(alloc, shard, 4, (None, Some(7), 4), steps)?,
-    )
+    for at in from..5 {
+        if at <= shard.count() && !stands(alloc, shard, at, &want_at(at), steps)? {
+            return Ok(false);
+        }
+    }
+    Ok(true)
 }
 
 /// Whether all of them do, also that before the first entry.
@@ -65,15 +93,10 @@ fn all_stand<L: Ledger>(blank: Blank, alloc: Global, shard: &Shard) -> Result<bo
     requires name { blank.name ≡ L.name }
     requires parts { blank.parts ≡ L.parts }
     requires some { 0 < blank.parts }
-    requires count { shard.now.count ≡ 4 }
-    requires window { 5 ≤ shard.now.window }
+    requires window { shard.now.count + 1 ≤ shard.now.window }
 {
     let mut steps = Steps::<L>::new(blank);
-    Ok(
-        stands(alloc, shard, 0, (None, None, 0), &mut steps)?
-            && stands(alloc, shard, 1, (Some(1), None, 4), &mut steps)?
-            && newest_stand(alloc, shard, &mut steps)?,
-    )
+    stand_from(alloc, shard, 0, &mut steps)
 }
 
 /// The same where older stamps have left the window.
@@ -81,11 +104,10 @@ fn kept_stand<L: Ledger>(blank: Blank, alloc: Global, shard: &Shard) -> Result<b
     requires name { blank.name ≡ L.name }
     requires parts { blank.parts ≡ L.parts }
     requires some { 0 < blank.parts }
-    requires count { shard.now.count ≡ 4 }
-    requires window { shard.now.window ≡ 3 }
+    requires window { shard.now.count + 1 ≤ 2 + shard.now.window }
 {
     let mut steps = Steps::<L>::new(blank);
-    newest_stand(alloc, shard, &mut steps)
+    stand_from(alloc, shard, 2, &mut steps)
 }
 
 #[test]

@@ -11,6 +11,14 @@ use std::alloc::{AllocError, Global};
 use std::sync::ledger::Ledger;
 use std::test::Fail;
 
+/// The numbers of the entities `a` and `b`, none where there is no such entity, and how many rows there are.
+#[derive(Drop)]
+pub(crate) struct Want {
+    pub(crate) a: Option<i64>,
+    pub(crate) b: Option<i64>,
+    pub(crate) rows: u64,
+}
+
 /// How many rows it has, at most 20, each found by a seek from behind the one before.
 fn count_rows<L: Ledger>(
     alloc: Global,
@@ -32,12 +40,12 @@ fn count_rows<L: Ledger>(
     Ok(20)
 }
 
-/// Whether the entities `a` and `b` have these numbers, none where there is no such entity, and there are so many rows.
+/// Whether it shows what is wanted.
 fn has<L: Ledger>(
     alloc: Global,
     tables: &ShardTables<'_, L>,
     at: u64,
-    want: (Option<i64>, Option<i64>, u64),
+    want: &Want,
     steps: &mut Steps<L>,
 ) -> Result<bool, Fail>
     requires { IsTrue (keeps tables.now at) }
@@ -47,7 +55,7 @@ fn has<L: Ledger>(
     let first = number_of(tables.entity(at, &a, steps));
     let second = number_of(tables.entity(at, &b, steps));
     let rows = count_rows(alloc, tables, at, steps)?;
-    Ok(first == want.0 && second == want.1 && rows == want.2)
+    Ok(first == want.a && second == want.b && rows == want.rows)
 }
 
 /// The same of the shard, at a stamp of its window.
@@ -55,7 +63,7 @@ pub(crate) fn stands<L: Ledger>(
     alloc: Global,
     shard: &Shard,
     at: u64,
-    want: (Option<i64>, Option<i64>, u64),
+    want: &Want,
     steps: &mut Steps<L>,
 ) -> Result<bool, Fail>
     requires low { shard.now.count + 1 ≤ at + shard.now.window }

@@ -1,7 +1,5 @@
 //! Small entities, writes and entries for the tests.
-use ds_base::{
-    Elem, Elems, Entity, Ident, Key, Properties, Property, TextString, Value, Values,
-};
+use ds_base::{Elem, Elems, Entity, Ident, Key, Properties, Property, TextString, Value, Values};
 use ds_log::{Entry, Write, Writes};
 use std::alloc::Global;
 use std::test::Fail;
@@ -15,7 +13,7 @@ pub(crate) fn key(alloc: Global, name: &str) -> Result<Key, Fail> {
 }
 
 /// A put of the entity with this key and one property, a number.
-pub(crate) fn put(alloc: Global, name: &str, number: i64) -> Result<Write, Fail> {
+fn put(alloc: Global, name: &str, number: i64) -> Result<Write, Fail> {
     let property = Property {
         name: TextString::of(alloc, "n")?,
         indexed: true,
@@ -27,17 +25,48 @@ pub(crate) fn put(alloc: Global, name: &str, number: i64) -> Result<Write, Fail>
 }
 
 /// A delete of this key.
-pub(crate) fn delete(alloc: Global, name: &str) -> Result<Write, Fail> {
+fn delete(alloc: Global, name: &str) -> Result<Write, Fail> {
     Ok(Write::Delete(key(alloc, name)?))
 }
 
 /// What the commit of this number writes to a group.
-pub(crate) fn entry(alloc: Global, commit: u64, writes: Vec<Write>) -> Result<Entry, Fail> {
+fn entry(alloc: Global, commit: u64, writes: Vec<Write>) -> Result<Entry, Fail> {
     Ok(Entry {
         commit,
         group: key(alloc, "g")?,
         writes: Writes::from(writes),
     })
+}
+
+/// Commit 11 puts `a`.
+pub(crate) fn first(alloc: Global) -> Result<Entry, Fail> {
+    let mut writes = Vec::new(alloc);
+    writes.push(put(alloc, "a", 1)?)?;
+    entry(alloc, 11, writes)
+}
+
+/// Commit 12 puts `b` and replaces `a`.
+pub(crate) fn second(alloc: Global) -> Result<Entry, Fail> {
+    let mut writes = Vec::new(alloc);
+    writes.push(put(alloc, "b", 5)?)?;
+    writes.push(put(alloc, "a", 2)?)?;
+    entry(alloc, 12, writes)
+}
+
+/// Commit 14 deletes `b`.
+pub(crate) fn third(alloc: Global) -> Result<Entry, Fail> {
+    let mut writes = Vec::new(alloc);
+    writes.push(delete(alloc, "b")?)?;
+    entry(alloc, 14, writes)
+}
+
+/// Commit 17 replaces `a` and deletes it, and puts `b` again.
+pub(crate) fn fourth(alloc: Global) -> Result<Entry, Fail> {
+    let mut writes = Vec::new(alloc);
+    writes.push(put(alloc, "a", 3)?)?;
+    writes.push(delete(alloc, "a")?)?;
+    writes.push(put(alloc, "b", 7)?)?;
+    entry(alloc, 17, writes)
 }
 
 /// The number of such an entity; none where it isn't one.
