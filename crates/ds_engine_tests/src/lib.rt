@@ -1,16 +1,26 @@
-//! Tests of the public calls of the crates that decide commits: shard lists, transactions and the book of commits, as tables
-//! with values that were worked out by hand. There is no code but tests, so that the libraries are proved once.
+//! Tests of answers by index scans over a shard: what a branch gives at a stamp, as tables whose values were worked out by hand, and at
+//! every stamp of a history against the reference that filters and sorts the entities. There is no code but tests, so that the
+//! libraries are proved once.
 //!
-//! One module for each library, named for what it holds, over the small keys and writes of `made`; begin with `commits`.
+//! Begin with `worked`, the tables, and `history`. `written` reads writes and queries from the text of requests, `dice` and
+//! `generated` make up the history and the queries, `store` is a shard with its definitions, and `shown` writes rows as text.
 #![tactic(auto)]
 
 #[cfg(test)]
-mod commits;
+mod asked;
 #[cfg(test)]
-mod ids;
+mod dice;
 #[cfg(test)]
-mod made;
+mod generated;
 #[cfg(test)]
-mod shards;
+mod history;
 #[cfg(test)]
-mod transactions;
+mod reference;
+#[cfg(test)]
+mod shown;
+#[cfg(test)]
+mod store;
+#[cfg(test)]
+mod worked;
+#[cfg(test)]
+mod written;

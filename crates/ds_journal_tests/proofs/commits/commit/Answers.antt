@@ -2,7 +2,7 @@ use Rattle.std.proofs.Common.{◌≤◌, ◌∙◌, ap, subst, length, arith}
 use Rattle.std.specs.List.{All}
 use Rattle.ds_log.specs.declared.Commit.{Commit}
 use Rattle.ds_log.specs.JournalLaws.{AreIssued-rises}
-use Rattle.ds_engine_tests.proofs.commits.commit.Goals as goal
+use Rattle.ds_journal_tests.proofs.commits.commit.Goals as goal
 
 pub commit-requires-2-clause-touched_before : goal.commit-requires-2-clause-touched_before
 commit-requires-2-clause-touched_before c =
