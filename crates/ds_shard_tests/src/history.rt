@@ -81,8 +81,11 @@ fn stand_from<L: Ledger>(
     requires { shard.now.count + 1 ≤ from + shard.now.window }
 {
     for at in from..5 {
-        if at <= shard.count() && !stands(alloc, shard, at, &want_at(at), steps)? {
-            return Ok(false);
+        if at <= shard.count() {
+            let shown = stands(alloc, shard, at, &want_at(at), steps)?;
+            if !shown {
+                return Ok(false);
+            }
         }
     }
     Ok(true)
