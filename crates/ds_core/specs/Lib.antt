@@ -1,9 +1,5 @@
 pub mod Answered
-pub mod Effects
+pub mod Cores
+pub mod Machines
 pub mod Meetings
-pub mod Queries
-pub mod Reads
-pub mod Refused
-pub mod States
-pub mod Transactions
-pub mod WritePlans
+pub mod Rounds

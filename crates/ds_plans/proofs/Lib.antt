@@ -1,0 +1,11 @@
+pub mod Grown
+mod Growing
+mod Lifted
+mod Plans
+mod PutPlans
+mod QueryPlans
+mod Raises
+mod ReadPlans
+mod TransactionPlans
+mod TransactionRefusals
+mod WriteAnswers
