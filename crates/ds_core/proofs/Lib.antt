@@ -1,2 +1,3 @@
 mod Cores
+mod Legals
 mod Meetings

@@ -3,3 +3,4 @@ pub mod Cores
 pub mod Machines
 pub mod Meetings
 pub mod Rounds
+pub mod Steps

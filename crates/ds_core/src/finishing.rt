@@ -1,4 +1,9 @@
 //! The missing steps of the requests that are open after the last event.
+ghost use Rattle.std.specs.Prelude.{◌≡◌, ◌≤◌, ◌<◌, None, length, All, IfOk, IfSome, OnOk, IsTrue};
+ghost use Rattle.ds_base.specs.Limits.{greatest_client};
+ghost use Rattle.ds_request.specs.Lawful.{IsLawfulCall};
+ghost use Rattle.ds_core.specs.Machines.{IsLegal, IsSameRun};
+
 use crate::copying::copy_call;
 use crate::machine::Machine;
 use crate::opened::{Open, ids_asked};
@@ -12,15 +17,29 @@ use std::alloc::{AllocError, Global};
 
 impl Machine {
     /// Takes the missing steps, client by client.
-    pub(crate) fn finish(&mut self, alloc: Global) -> Result<(), NoMemory> {
+    pub(crate) fn finish(&mut self, alloc: Global) -> Result<(), NoMemory>
+        requires legal { IsLegal self.old }
+        ensures legal { OnOk result (IsLegal self.new) }
+        ensures same { OnOk result (IsSameRun self.old self.new) }
+        ensures closed { OnOk result (All (λ o. o ≡ None) self.new.opens) }
+    {
         for client in 0..MAX_CLIENT + 1 {
             self.finish_client(alloc, client)?;
+        }
+        // nothing is missing then
+        if !all_closed(self.opens.as_slice()) {
+            return Err(AllocError);
         }
         Ok(())
     }
 
     /// Takes the missing steps of one client.
-    fn finish_client(&mut self, alloc: Global, client: u32) -> Result<(), NoMemory> {
+    fn finish_client(&mut self, alloc: Global, client: u32) -> Result<(), NoMemory>
+        requires legal { IsLegal self.old }
+        requires client { client ≤ greatest_client }
+        ensures legal { OnOk result (IsLegal self.new) }
+        ensures same { OnOk result (IsSameRun self.old self.new) }
+    {
         self.take_missing(alloc, client, Step::Touch)?;
         let ids = ids_missing(&self.opens[client as usize]);
         if ids >= 1 {
@@ -29,15 +48,15 @@ impl Machine {
         for shard in 0..self.state.shards() {
             self.view_missing(alloc, client, shard)?;
         }
-        self.take_missing(alloc, client, Step::Commit)?;
-        // nothing is missing then
-        if self.has_open(client) {
-            return Err(AllocError);
-        }
-        Ok(())
+        self.take_missing(alloc, client, Step::Commit)
     }
 
-    fn take_missing(&mut self, alloc: Global, client: u32, step: Step) -> Result<(), NoMemory> {
+    fn take_missing(&mut self, alloc: Global, client: u32, step: Step) -> Result<(), NoMemory>
+        requires legal { IsLegal self.old }
+        requires client { client ≤ greatest_client }
+        ensures legal { OnOk result (IsLegal self.new) }
+        ensures same { OnOk result (IsSameRun self.old self.new) }
+    {
         if self.has_open(client) {
             self.take(alloc, client, step)?;
         }
@@ -45,7 +64,12 @@ impl Machine {
     }
 
     /// The View of a shard, and before it the Apply steps that it waits for.
-    fn view_missing(&mut self, alloc: Global, client: u32, shard: u32) -> Result<(), NoMemory> {
+    fn view_missing(&mut self, alloc: Global, client: u32, shard: u32) -> Result<(), NoMemory>
+        requires legal { IsLegal self.old }
+        requires client { client ≤ greatest_client }
+        ensures legal { OnOk result (IsLegal self.new) }
+        ensures same { OnOk result (IsSameRun self.old self.new) }
+    {
         let pending = self.pending(alloc, client, shard)?;
         for _entry in 0..pending {
             self.take_missing(alloc, client, Step::Apply { shard })?;
@@ -54,7 +78,12 @@ impl Machine {
     }
 
     /// How many entries a shard has to apply before the client's open request can view it. A refusal is want of memory.
-    fn pending(&mut self, alloc: Global, client: u32, shard: u32) -> Result<u64, NoMemory> {
+    fn pending(&mut self, alloc: Global, client: u32, shard: u32) -> Result<u64, NoMemory>
+        requires legal { IsLegal self.old }
+        requires client { client ≤ greatest_client }
+        ensures legal { OnOk result (IsLegal self.new) }
+        ensures same { OnOk result (IsSameRun self.old self.new) }
+    {
         let session = &self.sessions[client as usize];
         match place_covered(
             alloc,
@@ -67,6 +96,18 @@ impl Machine {
             None => Ok(0),
         }
     }
+}
+
+/// Whether no client has a request open.
+fn all_closed(opens: &[Option<Open>]) -> bool
+    ensures { IsTrue result → All (λ o. o ≡ None) opens.now }
+{
+    for open in opens {
+        if open.is_some() {
+            return false;
+        }
+    }
+    true
 }
 
 /// How many ids the open request, if there is one, still waits for.
@@ -85,7 +126,9 @@ fn place_covered(
     open: &Option<Open>,
     shard: u32,
     shards: u32,
-) -> Result<Option<u64>, NoMemory> {
+) -> Result<Option<u64>, NoMemory>
+    requires { IfSome open.now (λ o. IsLawfulCall o.request.call) }
+{
     let Some(open) = open else {
         return Ok(None);
     };
@@ -109,7 +152,9 @@ fn place_read(session: &Session, open: &Open, group: &Key) -> Option<u64> {
 }
 
 /// The group that a strong read reads. A refusal is want of memory.
-fn group_read(alloc: Global, call: &Call) -> Result<Option<Key>, NoMemory> {
+fn group_read(alloc: Global, call: &Call) -> Result<Option<Key>, NoMemory>
+    requires { IsLawfulCall call.now }
+{
     match call {
         Call::Get { key } => Ok(Some(key.root(alloc)?)),
         _ => match search_of(alloc, copy_call(alloc, call)?) {

@@ -1,14 +1,14 @@
 //! The machine of events: one store, and for each client what it has seen and its open request.
-ghost use Rattle.std.specs.Prelude.{◌≡◌, ◌≤◌, ◌<◌, [], None, IfOk, OnOk, IsTrue};
+ghost use Rattle.std.specs.Prelude.{◌≡◌, ◌≢◌, ◌≤◌, ◌<◌, [], false, None, Option, get_or, is_some, length, IfOk, OnOk, IsTrue};
 ghost use Rattle.ds_base.specs.Limits.{greatest_client, most_shards};
-ghost use Rattle.ds_request.specs.Lawful.{IsLawfulCall};
-ghost use Rattle.ds_model.specs.Asked.{has_shard};
-ghost use Rattle.ds_plans.specs.Due.{IsDue, ids_of};
-ghost use Rattle.ds_core.specs.Machines.{IsLegal, MachineParts, first_machine, had_open};
+ghost use Rattle.ds_model.specs.Sessions.{Session};
+ghost use Rattle.ds_plans.specs.Effects.{IsAllowed};
+ghost use Rattle.ds_core.specs.declared.opened.Open.{Open};
+ghost use Rattle.ds_core.specs.Machines.{IsDueTo, IsLawfulEvent, IsLawfulRequest, IsLegal, IsSameRun, noted, performed};
 
 use crate::event::{Event, Replies, Requests, Transcript};
 use crate::meeting::first_sessions;
-use crate::opened::{Open, no_open, none_open, open_request, plan_open, take_open};
+use crate::opened::{Open, none_open, open_request, plan_open, take_open};
 use ds_base::NoMemory;
 use ds_indexdef::Defs;
 use ds_plans::effect::Effect;
@@ -64,7 +64,12 @@ impl Machine {
     }
 
     /// Opens the event's request, if its client has none open, and takes its step.
-    pub(crate) fn event(&mut self, alloc: Global, event: Event) -> Result<(), NoMemory> {
+    pub(crate) fn event(&mut self, alloc: Global, event: Event) -> Result<(), NoMemory>
+        requires legal { IsLegal self.old }
+        requires lawful { IsLawfulEvent self.old.state.store.shards event }
+        ensures legal { OnOk result (IsLegal self.new) }
+        ensures same { OnOk result (IsSameRun self.old self.new) }
+    {
         let Event {
             step,
             client,
@@ -77,7 +82,13 @@ impl Machine {
     }
 
     /// Opens a request, if its client has none open, and replies where it needs no step.
-    fn begin(&mut self, alloc: Global, client: u32, request: Request) -> Result<(), NoMemory> {
+    fn begin(&mut self, alloc: Global, client: u32, request: Request) -> Result<(), NoMemory>
+        requires legal { IsLegal self.old }
+        requires client { client ≤ greatest_client }
+        requires lawful { IsLawfulRequest self.old.state.store.shards client request }
+        ensures legal { OnOk result (IsLegal self.new) }
+        ensures same { OnOk result (IsSameRun self.old self.new) }
+    {
         if self.has_open(client) {
             return Ok(());
         }
@@ -87,18 +98,31 @@ impl Machine {
     }
 
     /// Takes a step of a client, and replies where nothing is missing then.
-    pub(crate) fn take(&mut self, alloc: Global, client: u32, step: Step) -> Result<(), NoMemory> {
+    pub(crate) fn take(&mut self, alloc: Global, client: u32, step: Step) -> Result<(), NoMemory>
+        requires legal { IsLegal self.old }
+        requires client { client ≤ greatest_client }
+        ensures legal { OnOk result (IsLegal self.new) }
+        ensures same { OnOk result (IsSameRun self.old self.new) }
+    {
         self.gather(alloc, client, step)?;
         self.advance(alloc, client, step)
     }
 
     /// Whether the client has a request open.
-    pub(crate) fn has_open(&self, client: u32) -> bool {
+    pub(crate) fn has_open(&self, client: u32) -> bool
+        requires client { client < length self.now.opens }
+        ensures { (e : Option Open) → result ≡ is_some (get_or self.now.opens client e) }
+    {
         self.opens[client as usize].is_some()
     }
 
     /// Replies to the client's open request, where nothing is missing.
-    fn advance(&mut self, alloc: Global, client: u32, step: Step) -> Result<(), NoMemory> {
+    fn advance(&mut self, alloc: Global, client: u32, step: Step) -> Result<(), NoMemory>
+        requires legal { IsLegal self.old }
+        requires client { client ≤ greatest_client }
+        ensures legal { OnOk result (IsLegal self.new) }
+        ensures same { OnOk result (IsSameRun self.old self.new) }
+    {
         let session = &self.sessions[client as usize];
         let open = &self.opens[client as usize];
         match plan_open(alloc, &mut self.state, session, client, open, step)? {
@@ -108,25 +132,39 @@ impl Machine {
     }
 
     /// Says what is planned, and makes it so.
-    fn say(&mut self, alloc: Global, client: u32, plan: Plan) -> Result<(), NoMemory> {
+    fn say(&mut self, alloc: Global, client: u32, plan: Plan) -> Result<(), NoMemory>
+        requires legal { IsLegal self.old }
+        requires client { client ≤ greatest_client }
+        requires due { (d : Session) (e : Option Open) → IsDueTo self.old.state (get_or self.old.sessions client d) client
+            (get_or self.old.opens client e) plan.body plan.effect }
+        ensures legal { OnOk result (IsLegal self.new) }
+        ensures same { OnOk result (IsSameRun self.old self.new) }
+    {
         let Plan { body, effect } = plan;
         if is_no_memory(&body) {
             return Err(AllocError);
         }
         self.perform(alloc, client, effect)?;
         match take_open(&mut self.opens[client as usize]) {
-            Some(open) => self.record(client, open.request, body),
+            Some(open) => self.note(client, open.request, body),
             None => Ok(()),
         }
     }
 
-    fn perform(&mut self, alloc: Global, client: u32, effect: Effect) -> Result<(), NoMemory> {
+    /// Takes effect. A refusal is want of memory.
+    fn perform(&mut self, alloc: Global, client: u32, effect: Effect) -> Result<(), NoMemory>
+        requires client { client < length self.old.sessions }
+        requires allowed { (d : Session) → IsAllowed effect self.old.state (get_or self.old.sessions client d) }
+        ensures { OnOk result ((d : Session) → self.new ≡ performed effect client d self.old) }
+    {
         let session = &mut self.sessions[client as usize];
         self.state.take(alloc, session, effect)
     }
 
     /// Puts a request and its reply behind the others.
-    fn record(&mut self, client: u32, request: Request, body: Body) -> Result<(), NoMemory> {
+    fn note(&mut self, client: u32, request: Request, body: Body) -> Result<(), NoMemory>
+        ensures { OnOk result (self.new ≡ noted client request body self.old) }
+    {
         let line = self.replies.len() as u64 + 1;
         let reply = Reply { client, line, body };
         if self.requests.push(request).is_err() || self.replies.push(reply).is_err() {
@@ -136,7 +174,11 @@ impl Machine {
     }
 
     /// What was asked, said and committed.
-    pub(crate) fn end(self) -> Transcript {
+    pub(crate) fn end(self) -> Transcript
+        ensures requests { result.requests ≡ self.requests }
+        ensures replies { result.replies ≡ self.replies }
+        ensures journal { result.journal ≡ self.state.store.journal }
+    {
         let Machine {
             state,
             requests,
@@ -151,7 +193,9 @@ impl Machine {
     }
 }
 
-fn is_no_memory(body: &Body) -> bool {
+fn is_no_memory(body: &Body) -> bool
+    ensures { result ≡ false → body.now ≢ Body.NoMemory }
+{
     match body {
         Body::NoMemory => true,
         _ => false,

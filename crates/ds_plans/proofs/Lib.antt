@@ -1,3 +1,5 @@
+pub mod DuePlans
+pub mod Gatherings
 pub mod Grown
 mod Growing
 mod Lifted

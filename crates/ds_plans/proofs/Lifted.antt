@@ -28,7 +28,7 @@ use Rattle.ds_plans.specs.States.{StoreParts, StateParts, IsSession, Grows, worl
 use Rattle.ds_plans.proofs.Grown.{grows-after, grows-same, session-after}
 
 -- the lists of a longer journal begin with those of the journal
-lists-longer : (shards : ℕ) (journal more : List Commit) (numbers : List ℕ) →
+pub lists-longer : (shards : ℕ) (journal more : List Commit) (numbers : List ℕ) →
     AreLonger (map (λ shard. shard_list journal shard shards) numbers) (map (λ shard. shard_list (journal ++ more) shard shards) numbers)
 lists-longer shards journal more [] = tt
 lists-longer shards journal more (shard ∷ others) = (

@@ -238,7 +238,7 @@ no_entries zero = refl
 no_entries (suc n) = refl
 
 -- the last commit of one shard's entries isn't above that of all
-last_one : (lists : List (List Entry)) (counts : List ℕ) (shard : ℕ)
+pub last_one : (lists : List (List Entry)) (counts : List ℕ) (shard : ℕ)
     → last_commit (take (count_of counts shard) (list_of lists shard)) ≤ counted_place lists counts
 last_one [] counts shard = omega (arith, no_entries (count_of counts shard))
 last_one (es ∷ lists) [] shard = omega arith

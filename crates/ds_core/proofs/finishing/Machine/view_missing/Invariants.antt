@@ -1,0 +1,5 @@
+use Rattle.ds_core.specs.Machines.{IsLegal, IsSameRun}
+use Rattle.ds_core.proofs.finishing.Machine.view_missing.Given as goal
+
+abbrev pub invariant-loop-_entry : goal.invariant-loop-_entry
+invariant-loop-_entry l = record { legal : IsLegal l.self; same : IsSameRun l.fn.self l.self }

@@ -1,0 +1,285 @@
+-- What is said to an open request once nothing is missing is what the definitions answer.
+use Rattle.std.proofs.Common.{◌≡◌, ◌⊎◌, inl, inr, ℕ, zero, suc, ◌+◌, ◌-◌, ◌<◌, ◌≤◌, Bool, true, false, List, [], ◌∷◌, ◌++◌, length, take, map}
+use Rattle.std.proofs.Common.{refl, ap, sym, ◌∙◌, subst, arith, Option, Some, None}
+use Rattle.std.specs.Prelude.{All, max, replicate}
+use Rattle.std.specs.List.{range_with_len}
+use Rattle.std.proofs.lemmas.List.{append-nil}
+use Rattle.std.proofs.lemmas.List.Elements.{All-nil}
+use Rattle.ds_base.specs.declared.entity.Property.{Property}
+use Rattle.ds_base.specs.Keys.{KeyParts, renumbered, ends_in_id}
+use Rattle.ds_base.specs.Limits.{greatest_id}
+use Rattle.ds_log.specs.declared.Commit.{Commit}
+use Rattle.ds_log.specs.declared.Entry.{Entry}
+use Rattle.ds_log.specs.declared.Write.TheVariants.{Put}
+use Rattle.ds_log.specs.Ids.{first_unissued, unissued, unissued_id}
+use Rattle.ds_log.specs.Logs.{key_of, shard_list}
+use Rattle.ds_request.specs.declared.call.Call.{Call}
+use Rattle.ds_request.specs.declared.call.Call.TheVariants as call
+use Rattle.ds_reply.specs.declared.reply.Body.{Body}
+use Rattle.ds_reply.specs.declared.reply.Body.TheVariants as body
+use Rattle.ds_reply.specs.declared.reply.WriteAt.{WriteAt}
+use Rattle.ds_applied.specs.AppliedLists.{AreCounts, entries_by}
+use Rattle.ds_applied.proofs.PlaceLaws.{counted_place-within}
+use Rattle.ds_model.specs.Answers.{AppliedCount, CountsWithin}
+use Rattle.ds_model.specs.Groups.{IsSeenPlace}
+use Rattle.ds_model.specs.Legal.{acknowledged_in, accepted_in, printed_next_in, drawn_by_call, counter_ids}
+use Rattle.ds_model.specs.Refusals.{refusal_of, in_transaction}
+use Rattle.ds_model.specs.Sessions.{Session, count_of, counted_place, greater_counts, last_commit, list_of, raised_at}
+use Rattle.ds_model.specs.Worlds.{shard_lists}
+use Rattle.ds_plans.specs.declared.effect.CountSeen.{CountSeen}
+use Rattle.ds_plans.specs.declared.effect.CountsSeen.{CountsSeen}
+use Rattle.ds_plans.specs.declared.effect.Effect.{Effect}
+use Rattle.ds_plans.specs.declared.effect.Effect.TheVariants as effect
+use Rattle.ds_plans.specs.Answered.{IsPlan}
+use Rattle.ds_plans.specs.Due.{GatheredParts, IsDue, IsDuePlan, IsGathered, AreViewed, AreCovering, ids_of, ids_from}
+use Rattle.ds_plans.specs.Effects.{IsAllowed, store_after, session_after}
+use Rattle.ds_plans.specs.Reads.{IsPulled}
+use Rattle.ds_plans.specs.States.{StoreParts, StateParts, IsSession, IsState, AreUpTo, world}
+use Rattle.ds_plans.specs.WritePlans.{IsWritable, IsWritePlan, SaysWrite}
+use Rattle.ds_plans.proofs.Grown.{up_to-same, up_to-then}
+use Rattle.ds_plans.proofs.Plans.{unrefused, quiet-tells, no_ids}
+use Rattle.ds_plans.proofs.PutPlans.{last_id-completed}
+use Rattle.ds_plans.proofs.ReadPlans.{lists_are, list_is}
+use Rattle.ds_plans.proofs.WriteAnswers.{ids-below}
+
+-- ---- plans that draw no id
+
+none_drawn : (first n : ℕ) → range_with_len first n ≡ [] → n ≡ 0
+none_drawn first zero is = refl
+none_drawn first (suc n) is = cc
+
+module _ (st : StateParts) (s : Session) (client : ℕ) (c : Call) where
+  pub due_of : (b : Body) (e : Effect) → IsPlan st s client c b e → drawn_by_call c b ≡ [] → IsDue st s client c [] b e
+  due_of b e plan none =
+      let few : (store_after e st.store).next - st.store.next ≡ 0 =
+      none_drawn st.store.next ((store_after e st.store).next - st.store.next) (sym plan.told.draws ∙ none) in
+      let same : (store_after e st.store).next ≡ st.store.next = omega (arith, few, plan.told.rises) in record {
+        answers = plan.answers;
+        allowed = plan.allowed;
+        definitions = plan.told.definitions;
+        shards = plan.told.shards;
+        next = same;
+        added = plan.told.added;
+        journal = plan.told.journal;
+        acknowledges = plan.told.acknowledges;
+        draws = none;
+        accepts = subst (λ n. All (λ id. id < n) (accepted_in b)) same plan.told.accepts;
+        prints = subst (λ n. All (λ next. next ≤ n) (printed_next_in b)) same plan.told.prints;
+      }
+
+  -- a plan that leaves the store as it is
+  pub due_unchanged : (b : Body) (e : Effect) → store_after e st.store ≡ st.store → IsPlan st s client c b e → IsDue st s client c [] b e
+  due_unchanged b e same plan =
+      let next : (store_after e st.store).next ≡ st.store.next = ap (λ (x : StoreParts). x.next) same in
+      due_of b e plan (plan.told.draws ∙ sym (no_ids st.store.next ((store_after e st.store).next - st.store.next) (omega (arith, next))))
+
+-- ---- a put whose id was drawn before
+
+module _ (st : StateParts) (s : Session) (client : ℕ) (key : KeyParts) (properties : List Property) (id : ℕ) where
+  pub put_numbered : (b : Body) (e : Effect) → refusal_of st.store.definitions s (call.Put key true properties) ≡ None
+      → ends_in_id key.elems ≡ true → s.next_id ≤ id → id < greatest_id
+      → first_unissued st.store.next (renumbered key id).elems ≡ None
+      → SaysWrite body.Put st s client (Put (record { key = renumbered key id; properties = properties })) false b e
+      → IsDuePlan st s client (call.Put key true properties) (id ∷ []) b e
+  put_numbered b e none ends shown left issued (inl (is, nothing)) = inl is
+  put_numbered b e none ends shown left issued (inr (place, is, plan)) =
+      inr (subst (λ v. IsDue st s client (call.Put key true properties) (id ∷ []) v e) (sym is) (record {
+        answers = λ window.
+            unrefused (world (store_after e st.store) window) st.store.definitions client s (session_after e st.store s)
+            (call.Put key true properties) (body.Put (renumbered key id) place) plan.definitions none
+            (record { completed = (id, shown, left, refl); written = plan.answers window });
+        allowed = plan.allowed;
+        definitions = plan.definitions;
+        shards = plan.shards;
+        next = omega (arith, plan.next);
+        added = plan.added;
+        journal = plan.journal;
+        acknowledges = plan.acknowledges;
+        draws = last_id-completed key.elems id ends;
+        accepts = ids-below st.store.next (renumbered key id).elems issued;
+        prints = All-nil (λ next. next ≤ st.store.next);
+      }))
+
+-- ---- ids that were drawn before
+
+pub allocate_due : (st : StateParts) (s : Session) (client count first : ℕ) → s.next_id ≤ first → first + count ≤ st.store.next
+    → st.store.next ≤ greatest_id
+    → IsDue st s client (call.AllocateIds count) (range_with_len first count) (body.AllocateIds first count) (effect.SeeNext (first + count))
+allocate_due st s client count first shown drawn within = record {
+  answers = λ window. (refl, record { shown = shown; within = omega (arith, drawn, within); raised = refl });
+  allowed = drawn;
+  definitions = refl;
+  shards = refl;
+  next = refl;
+  added = [];
+  journal = sym (append-nil st.store.journal);
+  acknowledges = refl;
+  draws = refl;
+  accepts = All-nil (λ id. id < st.store.next);
+  prints = All-nil (λ next. next ≤ st.store.next);
+}
+
+-- ---- viewed counts
+
+pub viewed-counts : (seen counts applied : List ℕ) (views : List (Option ℕ)) → map (λ n. Some n) counts ≡ views
+    → AreViewed seen views applied → AreUpTo seen counts × AreUpTo counts applied
+viewed-counts seen counts applied views is viewed = by seen counts applied (subst (λ vs. AreViewed seen vs applied) (sym is) viewed) where
+  by : (cs ns as : List ℕ) → AreViewed cs (map (λ n. Some n) ns) as → AreUpTo cs ns × AreUpTo ns as
+  by [] [] [] v = (tt, tt)
+  by [] [] (a ∷ as) v = absurd v
+  by [] (n ∷ ns) as v = absurd v
+  by (c ∷ cs) [] as v = absurd v
+  by (c ∷ cs) (n ∷ ns) [] v = absurd v
+  by (c ∷ cs) (n ∷ ns) (a ∷ as) v = let rest = by cs ns as v.2 in ((v.0, rest.0), (v.1, rest.1))
+
+pub counts-listed : (lists : List (List Entry)) (counts applied : List ℕ) → AreUpTo counts applied → AreCounts lists applied
+    → AreCounts lists counts
+counts-listed [] [] [] up are = tt
+counts-listed [] [] (a ∷ as) up are = absurd up
+counts-listed [] (n ∷ ns) [] up are = absurd up
+counts-listed [] (n ∷ ns) (a ∷ as) up are = absurd are
+counts-listed (es ∷ lists) counts [] up are = absurd are
+counts-listed (es ∷ lists) [] (a ∷ as) up are = absurd up
+counts-listed (es ∷ lists) (n ∷ ns) (a ∷ as) up are = (omega (arith, up.0, are.0), counts-listed lists ns as up.1 are.1)
+
+-- ---- a settle
+
+covered : (journal : List Commit) (shards first n m : ℕ) (others counts : List ℕ) → AreUpTo others counts
+    → AreCounts (map (λ shard. shard_list journal shard shards) (range_with_len first n)) counts
+    → ((k : ℕ) → k < n → length (shard_list (take m journal) (first + k) shards) ≤ count_of counts k)
+    → CountsWithin (λ shard. length (shard_list (take m journal) shard shards)) first others
+    (map (λ shard. shard_list journal shard shards) (range_with_len first n)) counts
+covered journal shards first zero m [] [] up are each = tt
+covered journal shards first zero m (c ∷ others) [] up are each = absurd up
+covered journal shards first zero m others (n ∷ counts) up are each = absurd are
+covered journal shards first (suc n) m others [] up are each = absurd are
+covered journal shards first (suc n) m [] (count ∷ counts) up are each = absurd up
+covered journal shards first (suc n) m (c ∷ others) (count ∷ counts) up are each = (
+  up.0,
+  subst (λ k. length (shard_list (take m journal) k shards) ≤ count) (let e : first + 0 ≡ first = omega arith in e) (each zero (omega arith)),
+  are.0,
+  covered journal shards (first + 1) n m others counts up.1 are.1
+      (λ k below. subst (λ j. length (shard_list (take m journal) j shards) ≤ count_of counts k)
+      (let e : first + suc k ≡ first + 1 + k = omega arith in e)
+      (each (suc k) (omega (arith, below)))),
+)
+
+module _ (st : StateParts) (s : Session) (client : ℕ) (is : IsState st) (pulled : IsPulled st) where
+  pub settle_due : s.transaction ≡ None → (place : ℕ) (applied : List ℕ) (c : CountsSeen) → IsSeenPlace st.store.journal s place
+      → AreUpTo s.counts applied → AreUpTo applied st.applied.counts → AreCounts st.applied.lists applied → AreCovering st place applied
+      → c.counts ≡ applied → c.commit ≡ counted_place st.applied.lists applied
+      → IsDue st s client call.Settle [] (body.Settle place applied) (effect.Settle place c)
+  settle_due outside place applied c stands seen within are covering counts commit = due_of st s client call.Settle
+      (body.Settle place applied) (effect.Settle place c) (record {
+        answers = λ window. unrefused (world st.store window) st.store.definitions client s (session_after (effect.Settle place c) st.store s)
+            call.Settle (body.Settle place applied) refl (ap in_transaction outside)
+            (record {
+              place = stands;
+              applied = covered st.store.journal st.store.shards 0 st.store.shards place s.counts applied seen
+                  (subst (λ lists. AreCounts lists applied) (lists_are st is pulled) are)
+                  (λ k below. subst (λ j. length (shard_list (take place st.store.journal) j st.store.shards) ≤ count_of applied k)
+                  (let e : k ≡ 0 + k = omega arith in e) (covering k (omega (arith, below, is.shards))));
+              seen = λ i. record {
+                place = max (max s.place place) (commit_is i);
+                counts = greater_counts s.counts (counts i);
+                next_id = s.next_id;
+                transaction = s.transaction;
+              };
+            });
+        told = quiet-tells st.store call.Settle (body.Settle place applied) refl;
+        allowed = (stands.within, record {
+          commit = omega (arith, commit, counted_place-within st.store.journal st.applied applied is.follows);
+          counts = subst (λ cs. AreUpTo cs st.applied.counts) (sym counts) within;
+        });
+      }) refl
+    where
+      commit_is : c.commit ≡ counted_place (shard_lists st.store.shards st.store.journal) applied
+      commit_is = commit ∙ ap (λ lists. counted_place lists applied) (lists_are st is pulled)
+
+-- ---- an entry
+
+-- a count of one shard alone
+abbrev only_at : ℕ → ℕ → List ℕ
+only_at zero n = n ∷ []
+only_at (suc shard) n = 0 ∷ only_at shard n
+
+only_is : (shard n : ℕ) → count_of (only_at shard n) shard ≡ n
+only_is zero n = refl
+only_is (suc shard) n = only_is shard n
+
+module _ (st : StateParts) (s : Session) (client : ℕ) (is : IsState st) (pulled : IsPulled st) where
+  last_within : (shard count : ℕ) → last_commit (take count (list_of st.applied.lists shard)) ≤ length st.store.journal
+  last_within shard count =
+      let low = last_one st.applied.lists (only_at shard count) shard in
+      let high = counted_place-within st.store.journal st.applied (only_at shard count) is.follows in
+      subst (λ n. last_commit (take n (list_of st.applied.lists shard)) ≤ length st.store.journal) (only_is shard count)
+      (omega (arith, low, high))
+
+  pub apply_due : s.transaction ≡ None → (applied : Bool) (count place shard : ℕ) (c : CountSeen) → IsSeenPlace st.store.journal s place
+      → c.shard ≡ shard → c.place ≡ place → c.count ≡ count → c.commit ≡ last_commit (take count (list_of st.applied.lists shard))
+      → shard < st.applied.shards → count ≤ length (list_of st.applied.lists shard) → count ≤ count_of st.applied.counts shard
+      → AppliedCount applied (count_of s.counts shard) (entries_by st.store.journal st.store.shards shard place) count
+      → IsDue st s client (call.Apply shard) [] (body.Apply applied count place shard) (effect.SeeCount c)
+  apply_due outside applied count place shard c stands c_shard c_place c_count commit below listed within told = due_of st s client
+      (call.Apply shard) (body.Apply applied count place shard) (effect.SeeCount c) (record {
+        answers = λ window. unrefused (world st.store window) st.store.definitions client s (session_after (effect.SeeCount c) st.store s)
+            (call.Apply shard) (body.Apply applied count place shard) refl (ap in_transaction outside) (
+              refl,
+              record {
+                place = stands;
+                counted = told;
+                within = subst (λ (entries : List Entry). count ≤ length entries) own_list listed;
+                seen = λ i. record {
+                  place = max (max s.place (c_place i)) (commit_is i);
+                  counts = raised_at (c_shard i) (c_count i) s.counts;
+                  next_id = s.next_id;
+                  transaction = s.transaction;
+                };
+              },
+            );
+        told = quiet-tells st.store (call.Apply shard) (body.Apply applied count place shard) refl;
+        allowed = record {
+          place = omega (arith, stands.within, c_place);
+          commit = (let last = last_within shard count in omega (arith, commit, last));
+          count = subst (λ k. c.count ≤ count_of st.applied.counts k) (sym c_shard) (omega (arith, within, c_count));
+        };
+      }) refl
+    where
+      own_list : list_of st.applied.lists shard ≡ list_of (shard_lists st.store.shards st.store.journal) shard
+      own_list = ap (λ lists. list_of lists shard) (lists_are st is pulled)
+
+      commit_is : c.commit ≡ last_commit (take count (list_of (shard_lists st.store.shards st.store.journal) shard))
+      commit_is = commit ∙ ap (λ (entries : List Entry). last_commit (take count entries)) own_list
+
+-- ---- a search at counts that were viewed before
+
+abbrev pub at_counts : StateParts → List ℕ → StateParts
+at_counts st counts = record st { applied = record (st.applied) { counts = counts } }
+
+module _ (st : StateParts) (s : Session) (client : ℕ) (c : Call) (counts : List ℕ) where
+  pub state_at : IsState st → IsState (at_counts st counts)
+  state_at is = record {
+    follows = record { within = is.follows.within; lists = is.follows.lists };
+    shards = is.shards;
+    least = is.least;
+    most = is.most;
+  }
+
+  pub session_at : IsSession st s → AreUpTo s.counts counts → IsSession (at_counts st counts) s
+  session_at is seen = record {
+    place_within = is.place_within;
+    counts_within = seen;
+    next_within = is.next_within;
+    transaction_within = is.transaction_within;
+  }
+
+  pub plan_from : (b : Body) (sees : CountsSeen) → AreUpTo counts st.applied.counts
+      → IsPlan (at_counts st counts) s client c b (effect.SeeCounts sees) → IsPlan st s client c b (effect.SeeCounts sees)
+  plan_from b sees within plan = record {
+    answers = plan.answers;
+    told = plan.told;
+    allowed = record {
+      commit = plan.allowed.commit;
+      counts = up_to-then sees.counts counts st.applied.counts plan.allowed.counts within;
+    };
+  }
