@@ -1,5 +1,5 @@
 -- What a machine has said stays one legal round, whatever its steps are.
-use Rattle.std.proofs.Common.{◌≡◌, ◌≢◌, ℕ, zero, suc, ◌+◌, ◌-◌, ◌<◌, ◌≤◌, List, [], ◌∷◌, ◌++◌, length, refl, ap, sym, ◌∙◌, subst, arith}
+use Rattle.std.proofs.Common.{◌≡◌, ◌≢◌, ◌⊎◌, inl, inr, ℕ, zero, suc, ◌+◌, ◌-◌, ◌<◌, ◌≤◌, List, [], ◌∷◌, ◌++◌, length, refl, ap, sym, ◌∙◌, subst, arith}
 use Rattle.std.proofs.Common.{Option, Some, None, get_or, append_assoc, length-append}
 use Rattle.std.specs.Prelude.{Ok, All, IsTrue, replicate, slice_get, slice_set, flat_map, IsPermutation}
 use Rattle.std.specs.List.{range_with_len}
@@ -23,19 +23,20 @@ use Rattle.ds_model.specs.Legal.{acknowledged, acknowledged_in, accepted, accept
 use Rattle.ds_model.specs.Sessions.{Session, first_id, first_session, first_sessions}
 use Rattle.ds_model.specs.Worlds.{World}
 use Rattle.ds_plans.specs.declared.effect.Effect.{Effect}
-use Rattle.ds_plans.specs.Due.{IsDue, IsGathered, ids_of}
-use Rattle.ds_plans.specs.Effects.{store_after, session_after}
+use Rattle.ds_plans.specs.Due.{IsDue, IsDuePlan, IsGathered, ids_of}
+use Rattle.ds_plans.specs.Effects.{IsAllowed, store_after, session_after}
 use Rattle.ds_plans.specs.States.{StoreParts, StateParts, IsSession, Grows, AreUpTo, world}
 use Rattle.ds_plans.proofs.Gatherings.{due-said, gathered-grown}
 use Rattle.ds_plans.proofs.Grown.{session-grown, grows-after, session-after}
 use Rattle.ds_core.specs.declared.opened.Open.{Open}
-use Rattle.ds_core.specs.Machines.{MachineParts, IsLegal, IsOpen, AreOpen, held, held_by}
-use Rattle.ds_core.specs.Rounds.{AreAnswered, AreNumbered, drawn_ids}
-use Rattle.ds_core.proofs.Cores.{had-at, length-set}
+use Rattle.ds_core.specs.declared.event.Transcript.{Transcript}
+use Rattle.ds_core.specs.Machines.{MachineParts, IsDueTo, IsLegal, IsOpen, IsSameRun, AreOpen, held, held_by, noted, performed}
+use Rattle.ds_core.specs.Rounds.{AreAnswered, AreNumbered, IsLegalRound, drawn_ids}
+use Rattle.ds_core.proofs.Cores.{first-is, had-at, length-set}
 
 -- ---- open requests
 
-open-grown : (old new : StateParts) (client : ℕ) (s : Session) (o : Option Open) → Grows old new → new.store.shards ≡ old.store.shards
+pub open-grown : (old new : StateParts) (client : ℕ) (s : Session) (o : Option Open) → Grows old new → new.store.shards ≡ old.store.shards
     → IsOpen old client s o → IsOpen new client s o
 open-grown old new client s None grows same is = tt
 open-grown old new client s (Some o) grows same is = (
@@ -160,6 +161,47 @@ numbers-append first (suc m) n =
     let whole : suc (m + n) ≡ suc m + n = omega arith in
     ap (λ ns. first ∷ ns) (ap (λ k. range_with_len (first + 1) m ++ range_with_len k n) behind ∙ numbers-append (first + 1) m n)
     ∙ ap (range_with_len first) whole
+
+-- ---- nothing was said
+
+all_first : (st : StateParts) (shards n first : ℕ) → IsSession st (first_session shards)
+    → AreOpen st first (replicate n (first_session shards)) (replicate n None)
+all_first st shards zero first is = tt
+all_first st shards (suc n) first is = (is, tt, all_first st shards n (first + 1) is)
+
+none_held : (n : ℕ) → held (replicate n None) ≡ []
+none_held zero = refl
+none_held (suc n) = none_held n
+
+pub made-legal : (st : StateParts) (definitions : List IndexDef) (shards : ℕ) (sessions : List Session) (opens : List (Option Open))
+    → st.store ≡ record { definitions = definitions; shards = shards; journal = []; next = first_drawn_id }
+    → st.applied.counts ≡ replicate shards 0 → sessions ≡ first_sessions shards → opens ≡ replicate (greatest_client + 1) None
+    → (requests : List Request) (replies : List Reply) → requests ≡ [] → replies ≡ []
+    → IsLegal (record { state = st; sessions = sessions; opens = opens; requests = requests; replies = replies })
+made-legal st definitions shards sessions opens store counts firsts closed requests replies no_request no_reply =
+    subst IsLegal (λ i. record {
+      state = st;
+      sessions = sessions;
+      opens = opens;
+      requests = sym no_request i;
+      replies = sym no_reply i;
+    }) (
+    let next : st.store.next ≡ first_drawn_id = ap (λ (x : StoreParts). x.next) store in record {
+      clients = ap (λ (ss : List Session). length ss) firsts;
+      opens = subst (λ ss. AreOpen st 0 ss opens) (sym firsts)
+          (subst (λ os. AreOpen st 0 (first_sessions shards) os) (sym closed)
+          (all_first st shards (greatest_client + 1) 0 (first-is st shards counts (omega (arith, next)))));
+      answered = λ window more. firsts ∙ ap (λ (x : StoreParts). first_sessions x.shards) (sym store);
+      numbered = tt;
+      acknowledges = ap (λ (x : StoreParts). range_with_len 1 (length x.journal)) (sym store);
+      from_first = omega (arith, next);
+      draws = subst (λ ids. IsPermutation ids (range_with_len first_id (st.store.next - first_id)))
+          (sym (ap held closed ∙ none_held (greatest_client + 1)))
+          (subst (λ n. IsPermutation [] (range_with_len first_id n)) (let e : 0 ≡ st.store.next - first_id = omega (arith, next) in e)
+          (IsPermutation-refl []));
+      accepts = All-nil (λ id. id < st.store.next);
+      prints = All-nil (λ next. next ≤ st.store.next);
+    })
 
 -- ---- one reply more
 
@@ -314,6 +356,33 @@ module _ (m : MachineParts) (legal : IsLegal m) (client : ℕ) (d : Session) (no
         (all_both (λ next. next ≤ st.store.next) _ _ legal.prints due.prints));
   }
 
+due_told : (st : StateParts) (s : Session) (client : ℕ) (c : Call) (ids : List ℕ) (b : Body) (e : Effect) → b ≢ body.NoMemory
+    → IsDuePlan st s client c ids b e → IsDue st s client c ids b e
+due_told st s client c ids b e told (inl is) = absurd (told is)
+due_told st s client c ids b e told (inr due) = due
+
+pub due_to : (st : StateParts) (s : Session) (client : ℕ) (p : Option Open) (o : Open) (b : Body) (e : Effect) → b ≢ body.NoMemory
+    → p ≡ Some o → IsDueTo st s client p b e → IsDue st s client o.request.call (ids_of o.request.call o.gathered) b e
+due_to st s client p o b e told has due =
+    due_told st s client o.request.call (ids_of o.request.call o.gathered) b e told (subst (λ q. IsDueTo st s client q b e) has due)
+
+-- what is due may take effect
+pub due_allowed : (st : StateParts) (s : Session) (client : ℕ) (p : Option Open) (b : Body) (e : Effect) → b ≢ body.NoMemory
+    → IsDueTo st s client p b e → IsAllowed e st s
+due_allowed st s client None b e told due = absurd due
+due_allowed st s client (Some o) b e told due =
+    (due_told st s client o.request.call (ids_of o.request.call o.gathered) b e told due).allowed
+
+pub say-legal : (m new : MachineParts) (client : ℕ) (d : Session) (none : Option Open) (o : Open) (b : Body) (e : Effect) → IsLegal m
+    → client < length m.sessions → get_or m.opens client none ≡ Some o → b ≢ body.NoMemory
+    → IsDueTo m.state (get_or m.sessions client d) client (get_or m.opens client none) b e
+    → new ≡ noted client o.request b (record (performed e client d m) { opens = slice_set m.opens client None })
+    → IsLegal new × IsSameRun m new
+say-legal m new client d none o b e legal below has told due is =
+    let now = due_to m.state (get_or m.sessions client d) client (get_or m.opens client none) o b e told has due in
+    subst (λ n. IsLegal n × IsSameRun m n) (sym is)
+    (said-legal m legal client d none o b e below has told now, (now.definitions, now.shards))
+
 -- ---- a step, by which the state grows and a request gathers something
 
 module _ (m : MachineParts) (legal : IsLegal m) (new : StateParts) (client : ℕ) (d : Session) (none o : Option Open)
@@ -387,3 +456,41 @@ module _ (m : MachineParts) (legal : IsLegal m) (new : StateParts) (client : ℕ
         (subst (IsPermutation (first_ids ++ held (slice_set m.opens client o))) (sym (append_assoc first_ids (held m.opens) more_ids))
         (IsPermutation-append_right first_ids _ _ moved))
         (IsPermutation-append_left more_ids _ _ legal.draws))
+
+-- ---- a run
+
+pub same-run : (m n o : MachineParts) → IsSameRun m n → IsSameRun n o → IsSameRun m o
+same-run m n o first second = (second.0 ∙ first.0, second.1 ∙ first.1)
+
+none-open : (opens : List (Option Open)) → All (λ o. o ≡ None) opens → held opens ≡ []
+none-open [] all = refl
+none-open (o ∷ os) all =
+    let here : o ≡ None = all zero o (omega arith) in
+    ap (λ p. held_by p ++ held os) here ∙ none-open os (λ k d below. all (suc k) d (omega arith))
+
+pub legal-round : (m : MachineParts) (t : Transcript) (definitions : List IndexDef) (shards : ℕ) → IsLegal m
+    → All (λ o. o ≡ None) m.opens → m.state.store.definitions ≡ definitions → m.state.store.shards ≡ shards
+    → t.requests ≡ m.requests → t.replies ≡ m.replies → t.journal ≡ m.state.store.journal → IsLegalRound definitions shards t
+legal-round m t definitions shards legal closed same_definitions same_shards requests replies journal =
+    subst (IsLegalRound definitions shards)
+    (λ i. record { requests = sym requests i; replies = sym replies i; journal = sym journal i })
+    (record {
+      after = m.sessions;
+      answered = subst (λ (x : StoreParts). AreAnswered (world x None) (first_sessions x.shards) m.requests m.replies m.sessions)
+          (λ i. record {
+            definitions = same_definitions i;
+            shards = same_shards i;
+            journal = append-nil m.state.store.journal i;
+            next = m.state.store.next;
+          })
+          (legal.answered None []);
+      numbered = legal.numbered;
+      acknowledges = legal.acknowledges;
+      bound = m.state.store.next;
+      from_first = legal.from_first;
+      each_once = subst (λ ids. IsPermutation ids (range_with_len first_id (m.state.store.next - first_id)))
+          (ap (λ ids. drawn_ids m.requests m.replies ++ ids) (none-open m.opens closed) ∙ append-nil (drawn_ids m.requests m.replies))
+          legal.draws;
+      accepted_below = legal.accepts;
+      printed_within = legal.prints;
+    })

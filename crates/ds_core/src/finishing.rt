@@ -2,6 +2,7 @@
 ghost use Rattle.std.specs.Prelude.{◌≡◌, ◌≤◌, ◌<◌, None, length, All, IfOk, IfSome, OnOk, IsTrue};
 ghost use Rattle.ds_base.specs.Limits.{greatest_client};
 ghost use Rattle.ds_request.specs.Lawful.{IsLawfulCall};
+ghost use Rattle.ds_core.specs.Happenings.{GoesOn, IsSilent};
 ghost use Rattle.ds_core.specs.Machines.{IsLegal, IsSameRun};
 
 use crate::copying::copy_call;
@@ -22,6 +23,7 @@ impl Machine {
         ensures legal { OnOk result (IsLegal self.new) }
         ensures same { OnOk result (IsSameRun self.old self.new) }
         ensures closed { OnOk result (All (λ o. o ≡ None) self.new.opens) }
+        ensures goes { OnOk result (GoesOn self.old self.new) }
     {
         for client in 0..MAX_CLIENT + 1 {
             self.finish_client(alloc, client)?;
@@ -39,6 +41,7 @@ impl Machine {
         requires client { client ≤ greatest_client }
         ensures legal { OnOk result (IsLegal self.new) }
         ensures same { OnOk result (IsSameRun self.old self.new) }
+        ensures goes { OnOk result (GoesOn self.old self.new) }
     {
         self.take_missing(alloc, client, Step::Touch)?;
         let ids = ids_missing(&self.opens[client as usize]);
@@ -56,6 +59,7 @@ impl Machine {
         requires client { client ≤ greatest_client }
         ensures legal { OnOk result (IsLegal self.new) }
         ensures same { OnOk result (IsSameRun self.old self.new) }
+        ensures goes { OnOk result (GoesOn self.old self.new) }
     {
         if self.has_open(client) {
             self.take(alloc, client, step)?;
@@ -69,6 +73,7 @@ impl Machine {
         requires client { client ≤ greatest_client }
         ensures legal { OnOk result (IsLegal self.new) }
         ensures same { OnOk result (IsSameRun self.old self.new) }
+        ensures goes { OnOk result (GoesOn self.old self.new) }
     {
         let pending = self.pending(alloc, client, shard)?;
         for _entry in 0..pending {
@@ -83,6 +88,7 @@ impl Machine {
         requires client { client ≤ greatest_client }
         ensures legal { OnOk result (IsLegal self.new) }
         ensures same { OnOk result (IsSameRun self.old self.new) }
+        ensures silent { OnOk result (IsSilent self.old self.new) }
     {
         let session = &self.sessions[client as usize];
         match place_covered(

@@ -3,6 +3,7 @@ ghost use Rattle.std.specs.Prelude.{◌≡◌, ◌≤◌, ◌<◌, length, IfOk,
 ghost use Rattle.ds_base.specs.Limits.{greatest_client};
 ghost use Rattle.ds_request.specs.declared.call.Call.{Call};
 ghost use Rattle.ds_model.specs.Sessions.{count_of};
+ghost use Rattle.ds_core.specs.Happenings.{IsSilent};
 ghost use Rattle.ds_core.specs.Machines.{IsLegal, IsSameRun};
 ghost use Rattle.ds_core.specs.Steps.{AppliedTo, DrawnTo, ViewedTo, touched};
 
@@ -20,6 +21,7 @@ impl Machine {
         requires client { client ≤ greatest_client }
         ensures legal { OnOk result (IsLegal self.new) }
         ensures same { OnOk result (IsSameRun self.old self.new) }
+        ensures silent { OnOk result (IsSilent self.old self.new) }
     {
         match step {
             Step::Commit => Ok(()),
@@ -41,6 +43,7 @@ impl Machine {
         requires client { client ≤ greatest_client }
         ensures legal { IsLegal self.new }
         ensures same { IsSameRun self.old self.new }
+        ensures silent { IsSilent self.old self.new }
     {
         let length = self.state.length();
         touch_open(&mut self.opens[client as usize], length);
@@ -51,6 +54,7 @@ impl Machine {
         requires client { client ≤ greatest_client }
         ensures legal { OnOk result (IsLegal self.new) }
         ensures same { OnOk result (IsSameRun self.old self.new) }
+        ensures silent { OnOk result (IsSilent self.old self.new) }
     {
         if shard >= self.state.shards() {
             return Ok(());
@@ -69,6 +73,7 @@ impl Machine {
         requires client { client ≤ greatest_client }
         ensures legal { OnOk result (IsLegal self.new) }
         ensures same { OnOk result (IsSameRun self.old self.new) }
+        ensures silent { OnOk result (IsSilent self.old self.new) }
     {
         if shard >= self.state.shards() {
             return Ok(());
@@ -85,6 +90,7 @@ impl Machine {
         requires client { client ≤ greatest_client }
         ensures legal { IsLegal self.new }
         ensures same { IsSameRun self.old self.new }
+        ensures silent { IsSilent self.old self.new }
     {
         draw_open(&mut self.state, &mut self.opens[client as usize], count);
     }

@@ -1,9 +1,10 @@
 //! The machine of events: one store, and for each client what it has seen and its open request.
-ghost use Rattle.std.specs.Prelude.{◌≡◌, ◌≢◌, ◌≤◌, ◌<◌, [], false, None, Option, get_or, is_some, length, IfOk, OnOk, IsTrue};
+ghost use Rattle.std.specs.Prelude.{◌≡◌, ◌≢◌, ◌≤◌, ◌<◌, [], false, None, Some, Option, get_or, is_some, length, slice_set, IfOk, OnOk, IsTrue};
 ghost use Rattle.ds_base.specs.Limits.{greatest_client, most_shards};
 ghost use Rattle.ds_model.specs.Sessions.{Session};
 ghost use Rattle.ds_plans.specs.Effects.{IsAllowed};
 ghost use Rattle.ds_core.specs.declared.opened.Open.{Open};
+ghost use Rattle.ds_core.specs.Happenings.{IsPast, Turn};
 ghost use Rattle.ds_core.specs.Machines.{IsDueTo, IsLawfulEvent, IsLawfulRequest, IsLegal, IsSameRun, noted, performed};
 
 use crate::event::{Event, Replies, Requests, Transcript};
@@ -29,6 +30,7 @@ pub(crate) struct Machine {
 }
 
 impl Model for Machine {
+    ghost use Rattle.ds_core.specs.Happenings.{IsPast, Turn};
     ghost use Rattle.ds_core.specs.Machines.{MachineParts};
 
     ghost Value = { MachineParts };
@@ -50,6 +52,7 @@ impl Machine {
         ensures legal { IfOk result IsLegal }
         ensures definitions { IfOk result (λ m. m.state.store.definitions ≡ defs) }
         ensures shards { IfOk result (λ m. m.state.store.shards ≡ shards) }
+        ensures past { IfOk result (λ m. IsPast m []) }
     {
         let state = State::make(alloc, shards, defs)?;
         let sessions = first_sessions(alloc, shards)?;
@@ -69,6 +72,7 @@ impl Machine {
         requires lawful { IsLawfulEvent self.old.state.store.shards event }
         ensures legal { OnOk result (IsLegal self.new) }
         ensures same { OnOk result (IsSameRun self.old self.new) }
+        ensures turn { OnOk result (Turn self.old self.new event.client event.begins) }
     {
         let Event {
             step,
@@ -88,6 +92,7 @@ impl Machine {
         requires lawful { IsLawfulRequest self.old.state.store.shards client request }
         ensures legal { OnOk result (IsLegal self.new) }
         ensures same { OnOk result (IsSameRun self.old self.new) }
+        ensures turn { OnOk result (Turn self.old self.new client (Some request)) }
     {
         if self.has_open(client) {
             return Ok(());
@@ -103,6 +108,7 @@ impl Machine {
         requires client { client ≤ greatest_client }
         ensures legal { OnOk result (IsLegal self.new) }
         ensures same { OnOk result (IsSameRun self.old self.new) }
+        ensures turn { OnOk result (Turn self.old self.new client None) }
     {
         self.gather(alloc, client, step)?;
         self.advance(alloc, client, step)
@@ -122,6 +128,7 @@ impl Machine {
         requires client { client ≤ greatest_client }
         ensures legal { OnOk result (IsLegal self.new) }
         ensures same { OnOk result (IsSameRun self.old self.new) }
+        ensures turn { OnOk result (Turn self.old self.new client None) }
     {
         let session = &self.sessions[client as usize];
         let open = &self.opens[client as usize];
@@ -139,16 +146,26 @@ impl Machine {
             (get_or self.old.opens client e) plan.body plan.effect }
         ensures legal { OnOk result (IsLegal self.new) }
         ensures same { OnOk result (IsSameRun self.old self.new) }
+        ensures turn { OnOk result (Turn self.old self.new client None) }
     {
         let Plan { body, effect } = plan;
         if is_no_memory(&body) {
             return Err(AllocError);
         }
         self.perform(alloc, client, effect)?;
-        match take_open(&mut self.opens[client as usize]) {
+        match self.close(client) {
             Some(open) => self.note(client, open.request, body),
             None => Ok(()),
         }
+    }
+
+    /// Closes the client's open request, if there is one.
+    fn close(&mut self, client: u32) -> Option<Open>
+        requires { client < length self.old.opens }
+        ensures was { (d : Option Open) → result ≡ get_or self.old.opens client d }
+        ensures closed { self.new ≡ record self.old { opens = slice_set self.old.opens client None } }
+    {
+        take_open(&mut self.opens[client as usize])
     }
 
     /// Takes effect. A refusal is want of memory.

@@ -1,6 +1,7 @@
 //! A run of the machine over single events.
 ghost use Rattle.std.specs.Prelude.{◌≤◌, All, IfOk};
 ghost use Rattle.ds_base.specs.Limits.{most_shards};
+ghost use Rattle.ds_core.specs.Happenings.{HasHappened};
 ghost use Rattle.ds_core.specs.Machines.{IsLawfulEvent};
 ghost use Rattle.ds_core.specs.Rounds.{IsLegalRound};
 
@@ -17,6 +18,7 @@ pub fn run(alloc: Global, events: Events, shards: u32, defs: Defs) -> Result<Tra
     requires most { shards ≤ most_shards }
     requires lawful { All (IsLawfulEvent shards) events }
     ensures legal { IfOk result (IsLegalRound defs shards) }
+    ensures happened { IfOk result (HasHappened events) }
 {
     let mut machine = Machine::make(alloc, shards, defs)?;
     for event in events.into_vec() {

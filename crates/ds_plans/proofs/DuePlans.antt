@@ -1,46 +1,62 @@
 -- What is said to an open request once nothing is missing is what the definitions answer.
 use Rattle.std.proofs.Common.{◌≡◌, ◌⊎◌, inl, inr, ℕ, zero, suc, ◌+◌, ◌-◌, ◌<◌, ◌≤◌, Bool, true, false, List, [], ◌∷◌, ◌++◌, length, take, map}
 use Rattle.std.proofs.Common.{refl, ap, sym, ◌∙◌, subst, arith, Option, Some, None}
-use Rattle.std.specs.Prelude.{All, max, replicate}
+use Rattle.std.specs.Prelude.{All, Err, IfSome, Ok, Result, cond, max, nat_le, replicate, ◌&&◌}
+use Rattle.std.specs.Option.{option_or}
+use Rattle.std.proofs.lemmas.Bool.{leb-true}
 use Rattle.std.specs.List.{range_with_len}
 use Rattle.std.proofs.lemmas.List.{append-nil}
 use Rattle.std.proofs.lemmas.List.Elements.{All-nil}
 use Rattle.ds_base.specs.declared.entity.Property.{Property}
-use Rattle.ds_base.specs.Keys.{KeyParts, renumbered, ends_in_id}
-use Rattle.ds_base.specs.Limits.{greatest_id}
+use Rattle.ds_base.specs.declared.key.Elem.{Elem}
+use Rattle.ds_base.specs.Entities.{EntityParts, entity_refusal}
+use Rattle.ds_base.specs.Keys.{KeyParts, renumbered, ends_in_id, with_last_id}
+use Rattle.ds_base.specs.Limits.{first_drawn_id, greatest_id}
 use Rattle.ds_log.specs.declared.Commit.{Commit}
 use Rattle.ds_log.specs.declared.Entry.{Entry}
 use Rattle.ds_log.specs.declared.Write.TheVariants.{Put}
 use Rattle.ds_log.specs.Ids.{first_unissued, unissued, unissued_id}
+use Rattle.ds_log.specs.JournalLaws.{first_unissued-rises}
 use Rattle.ds_log.specs.Logs.{key_of, shard_list}
 use Rattle.ds_request.specs.declared.call.Call.{Call}
 use Rattle.ds_request.specs.declared.call.Call.TheVariants as call
 use Rattle.ds_reply.specs.declared.reply.Body.{Body}
 use Rattle.ds_reply.specs.declared.reply.Body.TheVariants as body
 use Rattle.ds_reply.specs.declared.reply.WriteAt.{WriteAt}
-use Rattle.ds_applied.specs.AppliedLists.{AreCounts, entries_by}
+use Rattle.ds_applied.specs.AppliedLists.{AreCounts, entries_by, shard_views}
 use Rattle.ds_applied.proofs.PlaceLaws.{counted_place-within}
 use Rattle.ds_model.specs.Answers.{AppliedCount, CountsWithin}
-use Rattle.ds_model.specs.Groups.{IsSeenPlace}
+use Rattle.ds_model.specs.Asked
+use Rattle.ds_model.specs.Asked.{search_of}
+use Rattle.ds_model.specs.Groups.{IsSeenPlace, group_refusal, write_refusal}
 use Rattle.ds_model.specs.Legal.{acknowledged_in, accepted_in, printed_next_in, drawn_by_call, counter_ids}
-use Rattle.ds_model.specs.Refusals.{refusal_of, in_transaction}
+use Rattle.ds_model.specs.Refusals.{refusal_of, in_transaction, entity_body, group_asked, row_refusal}
 use Rattle.ds_model.specs.Sessions.{Session, count_of, counted_place, greater_counts, last_commit, list_of, raised_at}
 use Rattle.ds_model.specs.Worlds.{shard_lists}
 use Rattle.ds_plans.specs.declared.effect.CountSeen.{CountSeen}
 use Rattle.ds_plans.specs.declared.effect.CountsSeen.{CountsSeen}
 use Rattle.ds_plans.specs.declared.effect.Effect.{Effect}
 use Rattle.ds_plans.specs.declared.effect.Effect.TheVariants as effect
+use Rattle.ds_plans.specs.declared.effect.Plan.{Plan}
+use Rattle.ds_base.specs.declared.results.Seen.TheVariants as seen
+use Rattle.ds_applied.specs.ByKey.{sorted_by_key}
+use Rattle.ds_protocol.specs.declared.preparing.Ready.{Ready}
+use Rattle.ds_protocol.specs.declared.searching.Search.{Search}
+use Rattle.ds_protocol.specs.Quiet.{IsQuiet}
+use Rattle.ds_protocol.specs.Searches.{IsSearchOf, search_parts}
 use Rattle.ds_plans.specs.Answered.{IsPlan}
+use Rattle.ds_plans.specs.Queries.{IsPrepared, told_over}
 use Rattle.ds_plans.specs.Due.{GatheredParts, IsDue, IsDuePlan, IsGathered, AreViewed, AreCovering, ids_of, ids_from}
 use Rattle.ds_plans.specs.Effects.{IsAllowed, store_after, session_after}
 use Rattle.ds_plans.specs.Reads.{IsPulled}
 use Rattle.ds_plans.specs.States.{StoreParts, StateParts, IsSession, IsState, AreUpTo, world}
-use Rattle.ds_plans.specs.WritePlans.{IsWritable, IsWritePlan, SaysWrite}
+use Rattle.ds_plans.specs.WritePlans.{IsChecked, IsWritable, IsWritePlan, SaysWrite}
 use Rattle.ds_plans.proofs.Grown.{up_to-same, up_to-then}
 use Rattle.ds_plans.proofs.Plans.{unrefused, quiet-tells, no_ids}
-use Rattle.ds_plans.proofs.PutPlans.{last_id-completed}
-use Rattle.ds_plans.proofs.ReadPlans.{lists_are, list_is}
-use Rattle.ds_plans.proofs.WriteAnswers.{ids-below}
+use Rattle.ds_plans.proofs.PutPlans.{group_completed, last_id-completed, put_complete, refusals-none}
+use Rattle.ds_plans.proofs.QueryPlans.{all_found, unread_plan}
+use Rattle.ds_plans.proofs.ReadPlans.{last_one, lists_are, list_is}
+use Rattle.ds_plans.proofs.WriteAnswers.{first_none, ids-below}
 
 -- ---- plans that draw no id
 
@@ -73,9 +89,76 @@ module _ (st : StateParts) (s : Session) (client : ℕ) (c : Call) where
       let next : (store_after e st.store).next ≡ st.store.next = ap (λ (x : StoreParts). x.next) same in
       due_of b e plan (plan.told.draws ∙ sym (no_ids st.store.next ((store_after e st.store).next - st.store.next) (omega (arith, next))))
 
+-- no id is asked for where none was drawn
+pub ids_none : (c : Call) (g : GatheredParts) → g.first ≡ None → ids_of c g ≡ []
+ids_none (call.Put key true properties) g none = ap (ids_from 1) none
+ids_none (call.AllocateIds count) g none = ap (ids_from count) none
+ids_none (call.Put key false properties) g none = refl
+ids_none _ g none = refl
+
+-- nor for a search
+pub search_ids : (c : Call) (g : GatheredParts) (o : Result Asked.Search Body) → search_of c ≡ Some o → ids_of c g ≡ []
+search_ids (call.Query namespace kind ancestor filters orders select offset limit start end cursor) g o is = refl
+search_ids (call.Gql namespace text args names start end cursor) g o is = refl
+search_ids (call.Put key true properties) g o is = cc
+search_ids (call.AllocateIds count) g o is = cc
+search_ids (call.Put key false properties) g o is = refl
+search_ids _ g o is = refl
+
+search_draws : (c : Call) (b : Body) (o : Result Asked.Search Body) → search_of c ≡ Some o → drawn_by_call c b ≡ []
+search_draws (call.Query namespace kind ancestor filters orders select offset limit start end cursor) b o is = refl
+search_draws (call.Gql namespace text args names start end cursor) b o is = refl
+search_draws _ b o is = cc
+
+pub due_search : (st : StateParts) (s : Session) (client : ℕ) (c : Call) (g : GatheredParts) (o : Result Asked.Search Body) (b : Body)
+    (e : Effect) → search_of c ≡ Some o → IsPlan st s client c b e → IsDuePlan st s client c (ids_of c g) b e
+due_search st s client c g o b e is plan =
+    subst (λ ids. IsDuePlan st s client c ids b e) (sym (search_ids c g o is)) (inr (due_of st s client c b e plan (search_draws c b o is)))
+
+-- a refusal where no id was drawn
+pub due_refused : (st : StateParts) (s : Session) (client : ℕ) (c : Call) (g : GatheredParts) (b : Body) (e : Effect) → g.first ≡ None
+    → store_after e st.store ≡ st.store → IsPlan st s client c b e → IsDuePlan st s client c (ids_of c g) b e
+due_refused st s client c g b e none same plan =
+    subst (λ ids. IsDuePlan st s client c ids b e) (sym (ids_none c g none)) (inr (due_unchanged st s client c b e same plan))
+
 -- ---- a put whose id was drawn before
 
+below_issued : (next id : ℕ) → id < next → unissued_id next id ≡ None
+below_issued next id low = by (nat_le first_drawn_id id) (nat_le next id) refl where
+  by : (a b : Bool) → nat_le next id ≡ b → cond (a && b) (Some id) None ≡ None
+  by true true is = let high : next ≤ id = leb-true next id is in absurd (omega arith)
+  by true false is = refl
+  by false b is = refl
+
+-- the drawn id is issued, and the others are
+numbered-issued : (next id : ℕ) (es : List Elem) → id < next → first_unissued next es ≡ None
+    → first_unissued next (with_last_id es id) ≡ None
+numbered-issued next id [] low none = refl
+numbered-issued next id (e ∷ []) low none = ap (λ o. option_or o None) (below_issued next id low)
+numbered-issued next id (e ∷ f ∷ es) low none =
+    let both = first_none (unissued next e.ident) (first_unissued next (f ∷ es)) none in
+    ap (λ o. option_or o (first_unissued next (with_last_id (f ∷ es) id))) both.0 ∙ numbered-issued next id (f ∷ es) low both.1
+
 module _ (st : StateParts) (s : Session) (client : ℕ) (key : KeyParts) (properties : List Property) (id : ℕ) where
+  pub numbered_issued : id < st.store.next → first_unissued st.store.next key.elems ≡ None
+      → first_unissued st.store.next (renumbered key id).elems ≡ None
+  numbered_issued low issued = numbered-issued st.store.next id key.elems low issued
+
+  pub numbered_writable : st.store.next ≤ greatest_id → refusal_of st.store.definitions s (call.Put key true properties) ≡ None
+      → id < st.store.next → first_unissued st.store.next key.elems ≡ None
+      → IsWritable st s (Put (record { key = renumbered key id; properties = properties })) false
+  numbered_writable left none low issued =
+      let a = refusals-none (entity_body (entity_refusal key properties)) _ none in
+      let b = refusals-none (row_refusal st.store.definitions (record { key = key; properties = properties })) _ a.1 in
+      let c = refusals-none (group_refusal s.transaction (group_asked true key)) _ b.1 in
+      let d = refusals-none (write_refusal s.transaction) [] c.1 in
+      record {
+        group = group_completed s.transaction key id c.0;
+        few = d.0;
+        left = omega arith;
+        issued = first_unissued-rises st.store.next (st.store.next + 0) (renumbered key id).elems (omega arith) (numbered_issued low issued);
+      }
+
   pub put_numbered : (b : Body) (e : Effect) → refusal_of st.store.definitions s (call.Put key true properties) ≡ None
       → ends_in_id key.elems ≡ true → s.next_id ≤ id → id < greatest_id
       → first_unissued st.store.next (renumbered key id).elems ≡ None
@@ -124,23 +207,23 @@ allocate_due st s client count first shown drawn within = record {
 pub viewed-counts : (seen counts applied : List ℕ) (views : List (Option ℕ)) → map (λ n. Some n) counts ≡ views
     → AreViewed seen views applied → AreUpTo seen counts × AreUpTo counts applied
 viewed-counts seen counts applied views is viewed = by seen counts applied (subst (λ vs. AreViewed seen vs applied) (sym is) viewed) where
-  by : (cs ns as : List ℕ) → AreViewed cs (map (λ n. Some n) ns) as → AreUpTo cs ns × AreUpTo ns as
+  by : (cs ns ms : List ℕ) → AreViewed cs (map (λ n. Some n) ns) ms → AreUpTo cs ns × AreUpTo ns ms
   by [] [] [] v = (tt, tt)
-  by [] [] (a ∷ as) v = absurd v
-  by [] (n ∷ ns) as v = absurd v
-  by (c ∷ cs) [] as v = absurd v
+  by [] [] (a ∷ ms) v = absurd v
+  by [] (n ∷ ns) ms v = absurd v
+  by (c ∷ cs) [] ms v = absurd v
   by (c ∷ cs) (n ∷ ns) [] v = absurd v
-  by (c ∷ cs) (n ∷ ns) (a ∷ as) v = let rest = by cs ns as v.2 in ((v.0, rest.0), (v.1, rest.1))
+  by (c ∷ cs) (n ∷ ns) (a ∷ ms) v = let rest = by cs ns ms v.2 in ((v.0, rest.0), (v.1, rest.1))
 
 pub counts-listed : (lists : List (List Entry)) (counts applied : List ℕ) → AreUpTo counts applied → AreCounts lists applied
     → AreCounts lists counts
 counts-listed [] [] [] up are = tt
-counts-listed [] [] (a ∷ as) up are = absurd up
+counts-listed [] [] (a ∷ ms) up are = absurd up
 counts-listed [] (n ∷ ns) [] up are = absurd up
-counts-listed [] (n ∷ ns) (a ∷ as) up are = absurd are
+counts-listed [] (n ∷ ns) (a ∷ ms) up are = absurd are
 counts-listed (es ∷ lists) counts [] up are = absurd are
-counts-listed (es ∷ lists) [] (a ∷ as) up are = absurd up
-counts-listed (es ∷ lists) (n ∷ ns) (a ∷ as) up are = (omega (arith, up.0, are.0), counts-listed lists ns as up.1 are.1)
+counts-listed (es ∷ lists) [] (a ∷ ms) up are = absurd up
+counts-listed (es ∷ lists) (n ∷ ns) (a ∷ ms) up are = (omega (arith, up.0, are.0), counts-listed lists ns ms up.1 are.1)
 
 -- ---- a settle
 
@@ -187,10 +270,13 @@ module _ (st : StateParts) (s : Session) (client : ℕ) (is : IsState st) (pulle
               };
             });
         told = quiet-tells st.store call.Settle (body.Settle place applied) refl;
-        allowed = (stands.within, record {
-          commit = omega (arith, commit, counted_place-within st.store.journal st.applied applied is.follows);
-          counts = subst (λ cs. AreUpTo cs st.applied.counts) (sym counts) within;
-        });
+        allowed = (
+          stands.within,
+          record {
+            commit = omega (arith, commit, counted_place-within st.store.journal st.applied applied is.follows);
+            counts = subst (λ cs. AreUpTo cs st.applied.counts) (sym counts) within;
+          },
+        );
       }) refl
     where
       commit_is : c.commit ≡ counted_place (shard_lists st.store.shards st.store.journal) applied
@@ -283,3 +369,71 @@ module _ (st : StateParts) (s : Session) (client : ℕ) (c : Call) (counts : Lis
       counts = up_to-then sees.counts counts st.applied.counts plan.allowed.counts within;
     };
   }
+
+-- ---- writes that nothing refuses
+
+pub complete_due : (st : StateParts) (s : Session) (client : ℕ) (e : EntityParts) (b : Body) (change : Effect)
+    → IsChecked st s e.key false e.properties e → SaysWrite body.Put st s client (Put e) false b change
+    → IsDuePlan st s client (call.Put e.key false e.properties) [] b change
+complete_due st s client e b change checked says =
+    inr (due_of st s client (call.Put e.key false e.properties) b change
+    (put_complete st s client e b change checked.unrefused
+    (subst (λ n. first_unissued n e.key.elems ≡ None) (let same : st.store.next ≡ st.store.next + 0 = omega arith in same) checked.issued)
+    says) refl)
+
+module _ (st : StateParts) (s : Session) (client : ℕ) (e : EntityParts) (id : ℕ) (g : GatheredParts)
+    (checked : IsChecked st s e.key true e.properties e) (drawn : g.first ≡ Some id)
+    (gathered : IsGathered st s (call.Put e.key true e.properties) g) where
+  abbrev pub numbered : EntityParts
+  numbered = record { key = renumbered e.key id; properties = e.properties }
+
+  pub id_first : (first_drawn_id ≤ id) × (s.next_id ≤ id) × (id + 1 ≤ st.store.next)
+  id_first = subst (λ o. IfSome o (λ first. (first_drawn_id ≤ first) × (s.next_id ≤ first) × (first + 1 ≤ st.store.next))) drawn
+      gathered.first
+
+  pub id_writable : IsWritable st s (Put numbered) false
+  id_writable = numbered_writable st s client e.key e.properties id checked.left checked.unrefused (omega (arith, id_first.2)) checked.issued
+
+  pub id_due : (b : Body) (change : Effect) → ends_in_id e.key.elems ≡ true → SaysWrite body.Put st s client (Put numbered) false b change
+      → IsDuePlan st s client (call.Put e.key true e.properties) (ids_from 1 g.first) b change
+  id_due b change ends says =
+      subst (λ o. IsDuePlan st s client (call.Put e.key true e.properties) (ids_from 1 o) b change) (sym drawn)
+      (put_numbered st s client e.key e.properties id b change checked.unrefused ends id_first.1 (omega (arith, id_first.2, checked.left))
+      (numbered_issued st s client e.key e.properties id (omega (arith, id_first.2)) checked.issued) says)
+
+-- ---- searches
+
+pub all_found_at : (st : StateParts) (s : Session) (client : ℕ) (c : Call) (r : Search) → IsSearchOf c r → (ready : Ready)
+    → IsPrepared st s r ready → IsState st → IsPulled st → r.query.ancestor ≡ None → IsSession st s → (counts told : List ℕ) (commit : ℕ)
+    → AreUpTo s.counts counts → AreUpTo counts st.applied.counts → AreCounts st.applied.lists counts → told ≡ counts
+    → commit ≡ counted_place st.applied.lists counts → (b : Body)
+    → b ≡ told_over r ready.normal ready.window (sorted_by_key (shard_views st.applied.lists told)) (seen.Counts told)
+    → IsPlan st s client c b (effect.SeeCounts (record { commit = commit; counts = counts }))
+all_found_at st s client c r of ready prepared is pulled none session counts told commit shown within listed same commit_is b found =
+    let sees : CountsSeen = record { commit = commit; counts = counts } in
+    plan_from st s client c counts b sees within
+    (all_found (at_counts st counts) s client c r of ready (record { form = prepared.form; lawful = prepared.lawful })
+    (state_at st s client c counts is) pulled none
+    (session_at st s client c counts session shown) sees (record { counts = refl; listed = listed; commit = commit_is }) b
+    (found ∙ ap (λ ns. told_over r ready.normal ready.window (sorted_by_key (shard_views st.applied.lists ns)) (seen.Counts ns)) same))
+
+pub due_found : (st : StateParts) (s : Session) (client : ℕ) (c : Call) (g : GatheredParts) (r : Search) (o : Option Plan) → IsSearchOf c r
+    → IfSome o (λ p. (x : Call) → IsSearchOf x r → IsPlan st s client x p.body p.effect)
+    → IfSome o (λ p. IsDuePlan st s client c (ids_of c g) p.body p.effect)
+due_found st s client c g r None of plan = tt
+due_found st s client c g r (Some p) of plan = due_search st s client c g (Ok (search_parts r)) p.body p.effect of.exact (plan c of)
+
+pub due_unread : (st : StateParts) (s : Session) (client : ℕ) (c : Call) (g : GatheredParts) (v b : Body) (e : Effect) → v ≡ b
+    → e ≡ effect.Nothing → (b ≡ body.NoMemory) ⊎ (search_of c ≡ Some (Err b)) → IsQuiet b → IsDuePlan st s client c (ids_of c g) v e
+due_unread st s client c g v b e told same (inl is) quiet = inl (told ∙ is)
+due_unread st s client c g v b e told same (inr is) quiet =
+    due_search st s client c g (Err b) v e is (unread_plan st s client c v b e told same (inr is) quiet)
+
+-- ---- what was gathered of views
+
+pub gathered_counts : (st : StateParts) (s : Session) (c : Call) (g : GatheredParts) (o : Option (List ℕ)) (counts : List ℕ)
+    → IsGathered st s c g → o ≡ Some counts → IfSome o (λ ns. map (λ n. Some n) ns ≡ g.views)
+    → AreUpTo s.counts counts × AreUpTo counts st.applied.counts
+gathered_counts st s c g o counts gathered is viewed =
+    viewed-counts s.counts counts st.applied.counts g.views
+    (subst (λ p. IfSome p (λ ns. map (λ n. Some n) ns ≡ g.views)) is viewed) gathered.views

@@ -2,6 +2,7 @@
 use Rattle.std.proofs.Common.{◌≡◌, ℕ, zero, suc, ◌+◌, ◌<◌, ◌≤◌, List, [], ◌∷◌, ◌++◌, length, refl, ap, sym, arith, Option, Some, None, length-append}
 use Rattle.std.specs.Prelude.{Ok, IfSome, replicate, slice_set}
 use Rattle.std.specs.List.{range_with_len}
+use Rattle.ds_base.specs.Limits.{first_drawn_id}
 use Rattle.ds_log.specs.declared.Commit.{Commit}
 use Rattle.ds_request.specs.declared.call.Call.{Call}
 use Rattle.ds_request.specs.declared.call.Call.TheVariants as call
@@ -30,17 +31,17 @@ due-said st s client c ids b e due window more =
 
 -- ---- growing
 
-viewed-grown : (cs : List ℕ) (views : List (Option ℕ)) (as bs : List ℕ) → AreUpTo as bs → AreViewed cs views as → AreViewed cs views bs
+viewed-grown : (cs : List ℕ) (views : List (Option ℕ)) (ms bs : List ℕ) → AreUpTo ms bs → AreViewed cs views ms → AreViewed cs views bs
 viewed-grown [] [] [] [] up v = tt
 viewed-grown [] [] [] (b ∷ bs) up v = absurd up
-viewed-grown [] [] (a ∷ as) bs up v = absurd v
-viewed-grown [] (o ∷ views) as bs up v = absurd v
-viewed-grown (c ∷ cs) [] as bs up v = absurd v
+viewed-grown [] [] (a ∷ ms) bs up v = absurd v
+viewed-grown [] (o ∷ views) ms bs up v = absurd v
+viewed-grown (c ∷ cs) [] ms bs up v = absurd v
 viewed-grown (c ∷ cs) (None ∷ views) [] bs up v = absurd v
 viewed-grown (c ∷ cs) (Some n ∷ views) [] bs up v = absurd v
-viewed-grown (c ∷ cs) (o ∷ views) (a ∷ as) [] up v = absurd up
-viewed-grown (c ∷ cs) (None ∷ views) (a ∷ as) (b ∷ bs) up v = viewed-grown cs views as bs up.1 v
-viewed-grown (c ∷ cs) (Some n ∷ views) (a ∷ as) (b ∷ bs) up v = (v.0, omega (arith, v.1, up.0), viewed-grown cs views as bs up.1 v.2)
+viewed-grown (c ∷ cs) (o ∷ views) (a ∷ ms) [] up v = absurd up
+viewed-grown (c ∷ cs) (None ∷ views) (a ∷ ms) (b ∷ bs) up v = viewed-grown cs views ms bs up.1 v
+viewed-grown (c ∷ cs) (Some n ∷ views) (a ∷ ms) (b ∷ bs) up v = (v.0, omega (arith, v.1, up.0), viewed-grown cs views ms bs up.1 v.2)
 
 module _ (old new : StateParts) (grows : Grows old new) (s : Session) where
   longer : length old.store.journal ≤ length new.store.journal
@@ -50,10 +51,10 @@ module _ (old new : StateParts) (grows : Grows old new) (s : Session) where
   place-grown None is = tt
   place-grown (Some m) is = let more = longer in record { seen = is.seen; within = omega (arith, is.within, more) }
 
-  first-grown : (n : ℕ) (o : Option ℕ) → IfSome o (λ first. (s.next_id ≤ first) × (first + n ≤ old.store.next))
-      → IfSome o (λ first. (s.next_id ≤ first) × (first + n ≤ new.store.next))
+  first-grown : (n : ℕ) (o : Option ℕ) → IfSome o (λ first. (first_drawn_id ≤ first) × (s.next_id ≤ first) × (first + n ≤ old.store.next))
+      → IfSome o (λ first. (first_drawn_id ≤ first) × (s.next_id ≤ first) × (first + n ≤ new.store.next))
   first-grown n None is = tt
-  first-grown n (Some first) is = (is.0, omega (arith, is.1, grows.next))
+  first-grown n (Some first) is = (is.0, is.1, omega (arith, is.2, grows.next))
 
   applied-grown : (c : Call) (o : Option ℕ) → AppliedWithin old s c o → AppliedWithin new s c o
   applied-grown c None is = tt
@@ -71,13 +72,13 @@ module _ (old new : StateParts) (grows : Grows old new) (s : Session) where
 
 -- ---- gathering
 
-none-viewed : (cs as : List ℕ) (n : ℕ) → length as ≡ n → AreUpTo cs as → AreViewed cs (replicate n None) as
+none-viewed : (cs ms : List ℕ) (n : ℕ) → length ms ≡ n → AreUpTo cs ms → AreViewed cs (replicate n None) ms
 none-viewed [] [] zero same up = tt
 none-viewed [] [] (suc n) same up = absurd (omega (arith, same))
-none-viewed [] (a ∷ as) n same up = absurd up
+none-viewed [] (a ∷ ms) n same up = absurd up
 none-viewed (c ∷ cs) [] n same up = absurd up
-none-viewed (c ∷ cs) (a ∷ as) zero same up = absurd (omega (arith, same))
-none-viewed (c ∷ cs) (a ∷ as) (suc n) same up = none-viewed cs as n (omega (arith, same)) up.1
+none-viewed (c ∷ cs) (a ∷ ms) zero same up = absurd (omega (arith, same))
+none-viewed (c ∷ cs) (a ∷ ms) (suc n) same up = none-viewed cs ms n (omega (arith, same)) up.1
 
 pub gathered-nothing : (st : StateParts) (s : Session) (c : Call) (n : ℕ) → length st.applied.counts ≡ n
     → AreUpTo s.counts st.applied.counts
@@ -89,17 +90,17 @@ gathered-nothing st s c n same up = record {
   views = none-viewed s.counts st.applied.counts n same up;
 }
 
-view-set : (cs : List ℕ) (views : List (Option ℕ)) (as : List ℕ) (shard : ℕ) → AreViewed cs views as → AreUpTo cs as
-    → AreViewed cs (slice_set views shard (Some (count_of as shard))) as
+view-set : (cs : List ℕ) (views : List (Option ℕ)) (ms : List ℕ) (shard : ℕ) → AreViewed cs views ms → AreUpTo cs ms
+    → AreViewed cs (slice_set views shard (Some (count_of ms shard))) ms
 view-set [] [] [] shard v up = tt
-view-set [] [] (a ∷ as) shard v up = absurd v
-view-set [] (o ∷ views) as shard v up = absurd v
-view-set (c ∷ cs) [] as shard v up = absurd v
+view-set [] [] (a ∷ ms) shard v up = absurd v
+view-set [] (o ∷ views) ms shard v up = absurd v
+view-set (c ∷ cs) [] ms shard v up = absurd v
 view-set (c ∷ cs) (o ∷ views) [] shard v up = absurd up
-view-set (c ∷ cs) (None ∷ views) (a ∷ as) zero v up = (up.0, omega arith, v)
-view-set (c ∷ cs) (Some n ∷ views) (a ∷ as) zero v up = (up.0, omega arith, v.2)
-view-set (c ∷ cs) (None ∷ views) (a ∷ as) (suc shard) v up = view-set cs views as shard v up.1
-view-set (c ∷ cs) (Some n ∷ views) (a ∷ as) (suc shard) v up = (v.0, v.1, view-set cs views as shard v.2 up.1)
+view-set (c ∷ cs) (None ∷ views) (a ∷ ms) zero v up = (up.0, omega arith, v)
+view-set (c ∷ cs) (Some n ∷ views) (a ∷ ms) zero v up = (up.0, omega arith, v.2)
+view-set (c ∷ cs) (None ∷ views) (a ∷ ms) (suc shard) v up = view-set cs views ms shard v up.1
+view-set (c ∷ cs) (Some n ∷ views) (a ∷ ms) (suc shard) v up = (v.0, v.1, view-set cs views ms shard v.2 up.1)
 
 module _ (st : StateParts) (s : Session) (c : Call) (g : GatheredParts) (is : IsGathered st s c g) where
   pub gathered-place : (m : ℕ) → s.place ≤ m → m ≤ length st.store.journal → IsGathered st s c (record g { place = Some m })
@@ -122,6 +123,6 @@ module _ (st : StateParts) (s : Session) (c : Call) (g : GatheredParts) (is : Is
   pub gathered-applied : (n : ℕ) → AppliedWithin st s c (Some n) → IsGathered st s c (record g { applied = Some n })
   gathered-applied n applied = record { place = is.place; first = is.first; applied = applied; views = is.views }
 
-  pub gathered-first : (first : ℕ) → s.next_id ≤ first → first + ids_asked c ≤ st.store.next
+  pub gathered-first : (first : ℕ) → first_drawn_id ≤ first → s.next_id ≤ first → first + ids_asked c ≤ st.store.next
       → IsGathered st s c (record g { first = Some first })
-  gathered-first first shown drawn = record { place = is.place; first = (shown, drawn); applied = is.applied; views = is.views }
+  gathered-first first low shown drawn = record { place = is.place; first = (low, shown, drawn); applied = is.applied; views = is.views }

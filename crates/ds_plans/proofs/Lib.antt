@@ -1,7 +1,7 @@
 pub mod DuePlans
 pub mod Gatherings
 pub mod Grown
-mod Growing
+pub mod Growing
 mod Lifted
 mod Plans
 mod PutPlans

@@ -94,12 +94,10 @@ view_by_key xs lists shard count is = by_key xs (after (entry_writes (take count
 
 -- the entities of all shards by key
 pub all_by_key : (journal : List Commit) (a : AppliedParts) (counts : List ℕ) (visible items : List EntityParts) → Follows journal a
-    → counts ≡ a.counts
     → visible ≡ shard_views a.lists counts → (KeysDiffer visible → items ≡ sorted_by_key visible)
-    → items ≡ sorted_by_key (shard_views a.lists a.counts)
-all_by_key journal a counts visible items follows same views is =
-    let all : visible ≡ shard_views a.lists a.counts = views ∙ ap (shard_views a.lists) same in
-    is (subst KeysDiffer (sym all) (global_differ journal a a.counts follows)) ∙ ap sorted_by_key all
+    → items ≡ sorted_by_key (shard_views a.lists counts)
+all_by_key journal a counts visible items follows views is =
+    is (subst KeysDiffer (sym views) (global_differ journal a counts follows)) ∙ ap sorted_by_key views
 
 -- ---- what is found
 

@@ -15,7 +15,7 @@ use Rattle.ds_model.specs.Legal.{acknowledged_in, accepted_in, printed_next_in, 
 use Rattle.ds_model.specs.Sessions.{Session}
 use Rattle.ds_plans.specs.declared.effect.Effect.{Effect}
 use Rattle.ds_plans.specs.Effects.{IsAllowed, store_after, session_after}
-use Rattle.ds_plans.specs.States.{StoreParts, StateParts, CoreParts, store_of, world}
+use Rattle.ds_plans.specs.States.{StoreParts, StateParts, world}
 
 -- What the store gained, and what the reply tells of it: the new commits are acknowledged, the drawn ids told, each accepted id of
 -- 2^52 or more is below the counter, and no printed counter is above it.

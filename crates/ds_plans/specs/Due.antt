@@ -1,7 +1,7 @@
 -- What an open request has gathered by the steps of its client, and what its reply is once nothing is missing.
 use Rattle.std.specs.Prelude.{◌≡◌, ◌⊎◌, ℕ, ◌+◌, ◌≤◌, ◌<◌, Bool, true, List, [], ◌∷◌, ◌++◌, Option, Some, None, Ok, IfSome, length, All, ⊤, cond, nat_lt}
 use Rattle.std.specs.List.{range_with_len}
-use Rattle.ds_base.specs.Keys.{KeyParts}
+use Rattle.ds_base.specs.Limits.{first_drawn_id}
 use Rattle.ds_log.specs.declared.Commit.{Commit}
 use Rattle.ds_log.specs.Logs.{shard_list}
 use Rattle.ds_request.specs.declared.call.Call.{Call}
@@ -57,7 +57,7 @@ AppliedWithin st s c (Some count) = ⊤
 -- what was gathered is there, and isn't below what the client has seen
 pub record IsGathered (st : StateParts) (s : Session) (c : Call) (g : GatheredParts) : Type 0 where
   pub place : IfSome g.place (IsSeenPlace st.store.journal s)
-  pub first : IfSome g.first (λ first. (s.next_id ≤ first) × (first + ids_asked c ≤ st.store.next))
+  pub first : IfSome g.first (λ first. (first_drawn_id ≤ first) × (s.next_id ≤ first) × (first + ids_asked c ≤ st.store.next))
   pub applied : AppliedWithin st s c g.applied
   pub views : AreViewed s.counts g.views st.applied.counts
 

@@ -61,8 +61,7 @@ SaysWrite says st s client write drawn said change =
 -- the entity of a put that nothing but the want of further ids refuses: it is the one that was asked for, and the ids of its key are issued
 pub record IsChecked (st : StateParts) (s : Session) (key : KeyParts) (incomplete : Bool) (properties : List Property) (e : EntityParts)
     : Type 0 where
-  pub key_is : e.key ≡ key
-  pub properties_are : e.properties ≡ properties
+  pub entity_is : e ≡ record { key = key; properties = properties }
   pub unrefused : refusal_of st.store.definitions s (call.Put key incomplete properties) ≡ None
   pub issued : first_unissued st.store.next key.elems ≡ None
   pub left : st.store.next ≤ greatest_id

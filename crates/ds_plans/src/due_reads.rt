@@ -212,7 +212,7 @@ impl State {
     }
 
     /// What a search without an ancestor finds is told, at these counts, where each commit of the journal was looked at.
-    fn find_in_all_at(
+    pub(crate) fn find_in_all_at(
         &self,
         alloc: Global,
         session: &Session,

@@ -173,6 +173,8 @@ impl State {
         ensures { IfSome result (λ p. IsDuePlan self.now session.now client (Call.Put entity.key true entity.properties)
             (ids_of (Call.Put entity.key true entity.properties) gathered.now) p.body p.effect) }
     {
+        // for the proof alone: it tells what the counter is at most
+        let _next = self.book.next();
         let mut entity = entity;
         entity.renumber(id);
         if !self.write_due(alloc, session, entity.key(), gathered, step) {

@@ -60,7 +60,12 @@ impl State {
     }
 
     /// Takes effect. A refusal is want of memory and changes nothing.
-    pub fn take(&mut self, alloc: Global, session: &mut Session, effect: Effect) -> Result<(), NoMemory>
+    pub fn take(
+        &mut self,
+        alloc: Global,
+        session: &mut Session,
+        effect: Effect,
+    ) -> Result<(), NoMemory>
         requires { IsAllowed effect self.old session.old }
         ensures ok { OnOk result (self.new ≡ record self.old { store = store_after effect self.old.store }) }
         ensures seen { OnOk result (session.new ≡ session_after effect self.old.store session.old) }

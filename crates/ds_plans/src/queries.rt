@@ -18,7 +18,7 @@ ghost use Rattle.ds_plans.specs.States.{AreUpTo, IsSession};
 use crate::effect::{Effect, GroupRead, Plan};
 use crate::session::Session;
 use crate::state::State;
-use ds_base::{Counts, Entity, Key, NoMemory, Seen, TryCopy};
+use ds_base::{Counts, Entity, Key, NoMemory, Seen};
 use ds_plain::answer_of;
 use ds_protocol::{Ready, Search, finish, group_of, prepare, search_of};
 use ds_reply::Body;
@@ -154,21 +154,10 @@ impl State {
         requires pulled { IsPulled self.now }
         ensures { (call : Call) → IsSearchOf call search → IsPlan self.now session.now client call result.body result.effect }
     {
-        // the state's invariant ties the lists to the journal
-        let _ = &self.shards;
-        let Ok(seen) = self.counts_seen(alloc) else {
+        let Ok(counts) = self.applied.counts(alloc) else {
             return Plan::no_memory();
         };
-        let Ok(counts) = seen.counts.copy(alloc) else {
-            return Plan::no_memory();
-        };
-        match self.find_at_counts(alloc, search, &ready, counts) {
-            Ok(body) => Plan {
-                body,
-                effect: Effect::SeeCounts(seen),
-            },
-            Err(_) => Plan::no_memory(),
-        }
+        self.find_in_all_at(alloc, session, client, search, ready, counts)
     }
 
     /// What the reply says of the results among the entities of all shards at these counts. A refusal is want of memory.

@@ -1,5 +1,5 @@
 //! What one client has seen, and its transaction.
-ghost use Rattle.std.specs.Prelude.{◌≡◌, ◌<◌, ◌≤◌, None, Some, length, IfOk, OnOk, OnErr};
+ghost use Rattle.std.specs.Prelude.{◌≡◌, ◌<◌, ◌≤◌, None, Some, length, replicate, IfOk, OnOk, OnErr};
 ghost use Rattle.ds_base.specs.Limits.{most_writes};
 ghost use Rattle.ds_model.specs.Answers.{begun};
 ghost use Rattle.ds_model.specs.Groups.{place_in, touching, touching_if, writing, with_transaction};

@@ -1,6 +1,6 @@
 //! What a step reads of the store, and what it changes of it.
 ghost use Rattle.std.specs.Prelude.{◌≡◌, ◌+◌, ◌≤◌, ◌<◌, None, length, IfOk, IfSome, IsTrue, OnOk};
-ghost use Rattle.ds_base.specs.Limits.{greatest_id};
+ghost use Rattle.ds_base.specs.Limits.{first_drawn_id, greatest_id};
 ghost use Rattle.ds_applied.specs.AppliedLists.{entries_by};
 ghost use Rattle.ds_model.specs.Sessions.{count_of};
 ghost use Rattle.ds_plans.specs.Due.{counts_applied, is_pending};
@@ -43,12 +43,7 @@ impl State {
     }
 
     /// How many entries up to a place a shard has not applied. A refusal is want of memory.
-    pub fn entries_left(
-        &mut self,
-        alloc: Global,
-        shard: u32,
-        place: u64,
-    ) -> Result<u64, NoMemory>
+    pub fn entries_left(&mut self, alloc: Global, shard: u32, place: u64) -> Result<u64, NoMemory>
         requires shard { shard < self.old.store.shards }
         requires place { place ≤ length self.old.store.journal }
         ensures store { self.new.store ≡ self.old.store }
@@ -57,17 +52,24 @@ impl State {
         // the state's invariant bounds the shards
         let _ = &self.shards;
         self.pull(alloc)?;
-        Ok(self.applied.entries_up_to(shard, place).saturating_sub(self.applied.count(shard)))
+        Ok(
+            self.applied
+                .entries_up_to(shard, place)
+                .saturating_sub(self.applied.count(shard)),
+        )
     }
 
     /// Draws so many ids and gives the first one; `None` where so many are not left.
     pub fn draw_ids(&mut self, count: u64) -> Option<u64>
         requires { 1 ≤ count }
         ensures first { IfSome result (λ first. first ≡ self.old.store.next) }
+        ensures drawn_id { IfSome result (λ first. first_drawn_id ≤ first) }
         ensures left { IfSome result (λ first. first + count ≤ greatest_id) }
         ensures drawn { IfSome result (λ first. self.new ≡ record self.old { store = record self.old.store { next = self.old.store.next + count } }) }
         ensures none { result ≡ None → self.new ≡ self.old }
     {
+        // for the proof alone: it tells what the counter is at least
+        let _next = self.book.next();
         match self.book.issue(count) {
             Ok(first) => Some(first),
             Err(_) => None,

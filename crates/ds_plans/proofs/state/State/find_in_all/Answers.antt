@@ -1,19 +1,19 @@
-use Rattle.std.proofs.Common.{subst}
-use Rattle.ds_plans.specs.States.{IsState}
+use Rattle.std.proofs.Common.{◌∙◌, ap, sym, subst}
+use Rattle.ds_plans.specs.States.{StateParts, AreUpTo}
+use Rattle.ds_plans.proofs.Grown.{up_to-same}
 use Rattle.ds_plans.proofs.Plans.{memory_as}
-use Rattle.ds_plans.proofs.QueryPlans.{all_found}
 use Rattle.ds_plans.proofs.state.State.find_in_all.Goals as goal
 
 pub returns-in_default : goal.returns-in_default
 returns-in_default c = λ call of. memory_as c.args.self.now c.args.session.now c.args.client call c.no_memory.result.body
     c.no_memory.result.effect c.no_memory.ensures.body c.no_memory.ensures.effect
 
-pub returns-in-Ok-find_at_counts : goal.returns-in-Ok-find_at_counts
-returns-in-Ok-find_at_counts c = λ call of.
-    all_found c.args.self.now c.args.session.now c.args.client call c.args.search of c.args.ready c.requires.prepared
-    (subst IsState c.self.view_is c.self.invariant) c.requires.pulled c.requires.group c.requires.seen
-    c.in-Ok.seen c.in-Ok.ensures c.in-Ok-find_at_counts.body c.in-Ok-find_at_counts.ensures.found
+pub find_in_all_at-requires-clause-shown : goal.find_in_all_at-requires-clause-shown
+find_in_all_at-requires-clause-shown c =
+    subst (AreUpTo c.args.session.now.counts) (sym (c.in-Ok.ensures.value ∙ ap (λ (st : StateParts). st.applied.counts) c.self.view_is))
+    c.requires.seen.counts_within
 
-pub returns : goal.returns
-returns c = λ call of. memory_as c.args.self.now c.args.session.now c.args.client call c.no_memory-in-Err.result.body
-    c.no_memory-in-Err.result.effect c.no_memory-in-Err.ensures.body c.no_memory-in-Err.ensures.effect
+pub find_in_all_at-requires-clause-within : goal.find_in_all_at-requires-clause-within
+find_in_all_at-requires-clause-within c =
+    subst (λ ns. AreUpTo ns c.args.self.now.applied.counts)
+    (sym (c.in-Ok.ensures.value ∙ ap (λ (st : StateParts). st.applied.counts) c.self.view_is)) (up_to-same c.args.self.now.applied.counts)
