@@ -1,5 +1,2 @@
 mod Cores
-mod Gathers
-mod Legals
 mod Meetings
-mod Turns
