@@ -1,9 +1,9 @@
 -- What is said to an open request once nothing is missing is what the definitions answer.
 use Rattle.std.proofs.Common.{◌≡◌, ◌⊎◌, inl, inr, ℕ, zero, suc, ◌+◌, ◌-◌, ◌<◌, ◌≤◌, Bool, true, false, List, [], ◌∷◌, ◌++◌, length, take, map}
 use Rattle.std.proofs.Common.{refl, ap, sym, ◌∙◌, subst, arith, Option, Some, None}
-use Rattle.std.specs.Prelude.{All, Err, IfSome, Ok, Result, cond, max, nat_le, replicate, ◌&&◌}
+use Rattle.std.specs.Prelude.{All, Err, IfSome, Ok, Result, cond, max, nat_le, nat_lt, replicate, ◌&&◌}
 use Rattle.std.specs.Option.{option_or}
-use Rattle.std.proofs.lemmas.Bool.{leb-true}
+use Rattle.std.proofs.lemmas.Bool.{leb-true, lt-ltb, ltb-true}
 use Rattle.std.specs.List.{range_with_len}
 use Rattle.std.proofs.lemmas.List.{append-nil}
 use Rattle.std.proofs.lemmas.List.Elements.{All-nil}
@@ -46,7 +46,7 @@ use Rattle.ds_protocol.specs.Quiet.{IsQuiet}
 use Rattle.ds_protocol.specs.Searches.{IsSearchOf, search_parts}
 use Rattle.ds_plans.specs.Answered.{IsPlan}
 use Rattle.ds_plans.specs.Queries.{IsPrepared, told_over}
-use Rattle.ds_plans.specs.Due.{GatheredParts, IsDue, IsDuePlan, IsGathered, AreViewed, AreCovering, ids_of, ids_from}
+use Rattle.ds_plans.specs.Due.{GatheredParts, IsDue, IsDuePlan, IsGathered, AreViewed, AreCovering, counts_applied, ids_of, ids_from, is_pending}
 use Rattle.ds_plans.specs.Effects.{IsAllowed, store_after, session_after}
 use Rattle.ds_plans.specs.Reads.{IsPulled}
 use Rattle.ds_plans.specs.States.{StoreParts, StateParts, IsSession, IsState, AreUpTo, world}
@@ -437,3 +437,44 @@ pub gathered_counts : (st : StateParts) (s : Session) (c : Call) (g : GatheredPa
 gathered_counts st s c g o counts gathered is viewed =
     viewed-counts s.counts counts st.applied.counts g.views
     (subst (λ p. IfSome p (λ ns. map (λ n. Some n) ns ≡ g.views)) is viewed) gathered.views
+
+-- ---- the next entry of a shard
+
+not_lt : (m n : ℕ) → n ≤ m → nat_lt m n ≡ false
+not_lt m n low = by (nat_lt m n) refl where
+  by : (b : Bool) → nat_lt m n ≡ b → nat_lt m n ≡ false
+  by true is = let below : m < n = ltb-true m n is in absurd (omega arith)
+  by false is = is
+
+-- whether a shard that has looked at each commit has an entry left
+pending_is : (old st : StateParts) (shard count entries : ℕ) → IsState st → IsPulled st → shard < old.store.shards → st.store ≡ old.store
+    → st.applied.counts ≡ old.applied.counts → count ≡ count_of st.applied.counts shard → entries ≡ length (list_of st.applied.lists shard)
+    → is_pending old shard ≡ nat_lt count entries
+pending_is old st shard count entries is pulled below store counts counted listed =
+    ap (λ (x : StoreParts). nat_lt (count_of old.applied.counts shard) (length (shard_list x.journal shard x.shards))) (sym store)
+    ∙ ap (λ cs. nat_lt (count_of cs shard) (length (shard_list st.store.journal shard st.store.shards))) (sym counts)
+    ∙ ap (λ (es : List Entry). nat_lt (count_of st.applied.counts shard) (length es))
+    (sym (list_is st is pulled shard (let so_many : st.store.shards ≡ old.store.shards = ap (λ (x : StoreParts). x.shards) store in
+    omega (arith, below, so_many, is.shards))))
+    ∙ ap (λ n. nat_lt n (length (list_of st.applied.lists shard))) (sym counted)
+    ∙ ap (nat_lt count) (sym listed)
+
+module _ (old st : StateParts) (shard count entries : ℕ) (is : IsState st) (pulled : IsPulled st) (below : shard < old.store.shards)
+    (store : st.store ≡ old.store) (counts : st.applied.counts ≡ old.applied.counts) (counted : count ≡ count_of st.applied.counts shard)
+    (listed : entries ≡ length (list_of st.applied.lists shard)) where
+  pub none_pending : entries ≤ count → is_pending old shard ≡ false
+  none_pending low = pending_is old st shard count entries is pulled below store counts counted listed ∙ not_lt count entries low
+
+  pub some_pending : count < entries → is_pending old shard ≡ true
+  some_pending left = pending_is old st shard count entries is pulled below store counts counted listed ∙ lt-ltb count entries left
+
+  pub none_applied : entries ≤ count → st.applied.counts ≡ counts_applied old shard
+  none_applied low = counts ∙ sym (ap (λ b. cond b (raised_at shard (count_of old.applied.counts shard + 1) old.applied.counts)
+      old.applied.counts) (none_pending low))
+
+  pub one_applied : count < entries → (after : List ℕ)
+      → after ≡ raised_at shard (count_of st.applied.counts shard + 1) st.applied.counts → after ≡ counts_applied old shard
+  one_applied left after now =
+      now ∙ ap (λ cs. raised_at shard (count_of cs shard + 1) cs) counts
+      ∙ sym (ap (λ b. cond b (raised_at shard (count_of old.applied.counts shard + 1) old.applied.counts) old.applied.counts)
+      (some_pending left))

@@ -7,7 +7,7 @@ mod Plans
 mod PutPlans
 mod QueryPlans
 mod Raises
-mod ReadPlans
+pub mod ReadPlans
 mod TransactionPlans
 mod TransactionRefusals
 mod WriteAnswers
