@@ -12,30 +12,12 @@ use Rattle.ds_reply.specs.declared.reply.Reply.{Reply}
 use Rattle.ds_reply.specs.Replies.{reply_text}
 use Rattle.ds_model.specs.Sessions.{Session, first_session, first_sessions, first_id, greater_counts, greatest_counts, greatest_place}
 use Rattle.ds_model.specs.Sessions.{greatest_next, raised_to, met}
-use Rattle.ds_core.specs.Answered.{CallAnswered, HasAnswered}
+use Rattle.ds_plans.specs.Answered.{CallAnswered}
+use Rattle.ds_core.specs.Answered.{HasAnswered}
 use Rattle.ds_core.specs.Meetings.{HaveCounts}
-use Rattle.ds_applied.specs.AppliedLists.{AppliedParts, Follows}
-use Rattle.ds_applied.proofs.FollowLaws.{Follows-made}
-use Rattle.ds_core.specs.States.{StoreParts, StateParts, CoreParts, IsState, AreUpTo, IsSession, IsCore, Grows, store_of}
-use Rattle.ds_core.proofs.Grown.{up_to-same, up_to-then, up_to-greater, session-grown}
-
--- ---- planning and performing
-
-pub grows_planned : (old mid : StateParts) → mid.store ≡ old.store → AreUpTo old.applied.counts mid.applied.counts → Grows old mid
-grows_planned old mid same counts = record {
-  added = [];
-  journal = ap (λ (st : StoreParts). st.journal) same ∙ sym (append-nil old.store.journal);
-  next = (let e : old.store.next ≡ mid.store.next = ap (λ (st : StoreParts). st.next) (sym same) in omega (arith, e));
-  counts = counts;
-}
-
-pub grows_then : (old mid new : StateParts) → Grows old mid → Grows mid new → Grows old new
-grows_then old mid new first second = record {
-  added = first.added ++ second.added;
-  journal = second.journal ∙ ap (λ cs. cs ++ second.added) first.journal ∙ append_assoc old.store.journal first.added second.added;
-  next = omega (arith, first.next, second.next);
-  counts = up_to-then old.applied.counts mid.applied.counts new.applied.counts first.counts second.counts;
-}
+use Rattle.ds_plans.specs.States.{StoreParts, StateParts, AreUpTo, IsSession, Grows}
+use Rattle.ds_core.specs.Cores.{CoreParts, IsCore, store_of}
+use Rattle.ds_plans.proofs.Grown.{up_to-same, up_to-then, up_to-greater, session-grown}
 
 -- ---- lists of sessions
 
@@ -59,19 +41,6 @@ had-at (s ∷ ss) zero d below = refl
 had-at (s ∷ ss) (suc i) d below = had-at ss i d (omega arith)
 
 -- ---- the first state and sessions
-
-pub made-state : (definitions : List IndexDef) (shards : ℕ) (journal : List Commit) (next : ℕ) (applied : AppliedParts) → 1 ≤ shards
-    → shards ≤ most_shards → journal ≡ [] →
-    applied ≡ record { shards = shards; commits = 0; lists = replicate shards []; counts = replicate shards 0 } →
-    IsState (record { store = record { definitions = definitions; shards = shards; journal = journal; next = next }; applied = applied })
-made-state definitions shards journal next applied least most empty same = record {
-  follows = subst (λ a. Follows journal a) (sym same) (subst (λ cs. Follows cs
-      (record { shards = shards; commits = 0; lists = replicate shards []; counts = replicate shards 0 })) (sym empty)
-      (Follows-made shards));
-  shards = ap (λ (a : AppliedParts). a.shards) same;
-  least = least;
-  most = most;
-}
 
 pub first-is : (st : StateParts) (shards : ℕ) → st.applied.counts ≡ replicate shards 0 → first_drawn_id ≤ st.store.next
     → IsSession st (first_session shards)

@@ -1,12 +1,2 @@
 mod Cores
-mod Grown
-mod Lifted
 mod Meetings
-mod Plans
-mod PutPlans
-mod QueryPlans
-mod Raises
-mod ReadPlans
-mod TransactionPlans
-mod TransactionRefusals
-mod WriteAnswers

@@ -1,9 +1,3 @@
 pub mod Answered
-pub mod Effects
+pub mod Cores
 pub mod Meetings
-pub mod Queries
-pub mod Reads
-pub mod Refused
-pub mod States
-pub mod Transactions
-pub mod WritePlans

@@ -3,9 +3,9 @@ ghost use Rattle.std.specs.Prelude.{◌≡◌, ℕ, ◌<◌, length, map, replic
 ghost use Rattle.ds_model.specs.Sessions.{first_sessions, greatest_counts, greatest_next, greatest_place, met};
 ghost use Rattle.ds_core.specs.Meetings.{HaveCounts, met_at};
 
-use crate::session::{Session, raise_all};
 use ds_base::NoMemory;
 use ds_base::limits::MAX_CLIENT;
+use ds_plans::{Session, raise_all};
 use std::alloc::Global;
 
 /// One session for each client, who has seen nothing. A refusal is want of memory.
@@ -18,17 +18,6 @@ pub(crate) fn first_sessions(alloc: Global, shards: u32) -> Result<Vec<Session>,
         sessions.push(session)?;
     }
     Ok(sessions)
-}
-
-/// A zero for each shard. A refusal is want of memory.
-pub(crate) fn zeros(alloc: Global, shards: u32) -> Result<Vec<u64>, NoMemory>
-    ensures { IfOk result (λ counts. counts.items ≡ replicate shards 0) }
-{
-    let mut counts = Vec::new(alloc);
-    for _shard in 0..shards {
-        counts.push(0)?;
-    }
-    Ok(counts)
 }
 
 /// The sessions meet: what one has seen, all have. `greatest` has a number for each shard, which are written over.

@@ -7,14 +7,13 @@ ghost use Rattle.ds_model.specs.Asked.{has_shard};
 ghost use Rattle.ds_model.specs.Sessions.{first_sessions, met};
 ghost use Rattle.ds_protocol.specs.Saying.{no_memory_reply};
 ghost use Rattle.ds_core.specs.Answered.{HasAnswered};
-ghost use Rattle.ds_core.specs.States.{CoreParts};
+ghost use Rattle.ds_core.specs.Cores.{CoreParts};
 
-use crate::meeting::{first_sessions, meet, zeros};
-use crate::session::Session;
-use crate::state::State;
+use crate::meeting::{first_sessions, meet};
 use ds_base::{Buffer, NoMemory};
 use ds_indexdef::Defs;
 use ds_log::Journal;
+use ds_plans::{Session, State, zeros};
 use ds_request::Request;
 use std::alloc::Global;
 use std::marker::Model;
@@ -31,7 +30,7 @@ pub struct Core {
 }
 
 impl Model for Core {
-    ghost use Rattle.ds_core.specs.States.{CoreParts, IsCore};
+    ghost use Rattle.ds_core.specs.Cores.{CoreParts, IsCore};
 
     ghost Value = { CoreParts };
 

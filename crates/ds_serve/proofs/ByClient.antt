@@ -15,7 +15,7 @@ use Rattle.ds_model.specs.Asked.{asked}
 use Rattle.ds_model.specs.Worlds.{World, world_of}
 use Rattle.ds_model.specs.Legal.{RoundSteps, Steps, by_client, drawn_by, drawn_in}
 use Rattle.ds_model.specs.Sessions.{Session, met, raised_to}
-use Rattle.ds_core.specs.States.{CoreParts}
+use Rattle.ds_core.specs.Cores.{CoreParts}
 use Rattle.ds_serve.specs.declared.asked.Asked.{Asked}
 use Rattle.ds_serve.specs.AskedLines.{AreAsked, AreAskedBy, AreAskedFrom, Asks, MayBeAnswered, lines_of_client, read_as, was_read}
 use Rattle.ds_serve.specs.RunSteps.{IsReply, Ran, RanRound, Turn, Turns, drawn_for}

@@ -17,7 +17,7 @@ use Rattle.ds_rounds.specs.declared.stage.Stage.{Stage}
 use Rattle.ds_rounds.specs.declared.stage.Stage.TheVariants as stage
 use Rattle.ds_reply.specs.Replies.{replies_text}
 use Rattle.ds_log.specs.declared.Commit.{Commit}
-use Rattle.ds_core.specs.States.{CoreParts}
+use Rattle.ds_core.specs.Cores.{CoreParts}
 use Rattle.ds_serve.specs.declared.settings.Setting.{Setting}
 use Rattle.ds_serve.specs.Settings.{IsSetting}
 use Rattle.ds_serve.specs.Runs.{AreFirst, HasTaken, IsBelow, IsLegalRun, IsSteady, WasSetUp, WereRun, Wrote, read_faults, write_faults}

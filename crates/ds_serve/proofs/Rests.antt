@@ -3,7 +3,7 @@ use Rattle.std.proofs.Common.{◌≡◌, ℕ, ◌+◌, ◌≤◌, List, [], ◌�
 use Rattle.std.specs.Prelude.{All, flat_map}
 use Rattle.std.proofs.lemmas.List.Elements.{All-head, All-rest, All-same}
 use Rattle.std.proofs.lemmas.List.Sums.{sum_by-cons}
-use Rattle.ds_core.specs.States.{CoreParts}
+use Rattle.ds_core.specs.Cores.{CoreParts}
 use Rattle.ds_serve.specs.declared.asked.Asked.{Asked}
 use Rattle.ds_serve.specs.AskedLines.{MayBeAnswered}
 use Rattle.ds_serve.specs.RunSteps.{Ran, room_for, room_of, room_of_all}

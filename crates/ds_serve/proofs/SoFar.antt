@@ -21,7 +21,7 @@ use Rattle.ds_model.specs.Asked.{Reading, asked}
 use Rattle.ds_model.specs.Worlds.{World, world_of}
 use Rattle.ds_model.specs.Legal.{Legal, RoundSteps, RoundsSteps, acknowledged, accepted, printed_next, answered_lines, by_client, drawn_by, drawn_in}
 use Rattle.ds_model.specs.Sessions.{Session, first_session, first_sessions, met}
-use Rattle.ds_core.specs.States.{CoreParts}
+use Rattle.ds_core.specs.Cores.{CoreParts}
 use Rattle.ds_serve.specs.declared.settings.Setting.{Setting}
 use Rattle.ds_serve.specs.Settings.{IsSetting}
 use Rattle.ds_serve.specs.RunSteps.{HasRun, HasServed, RanRound, first_core}

@@ -17,8 +17,9 @@ use Rattle.ds_model.specs.Legal.{acknowledged, accepted, printed_next, drawn_by}
 use Rattle.ds_model.specs.Sessions.{Session}
 use Rattle.ds_protocol.specs.Quiet.{IsQuiet}
 use Rattle.ds_protocol.specs.Saying.{Says}
-use Rattle.ds_core.specs.Answered.{HasAnswered, Tells}
-use Rattle.ds_core.specs.States.{CoreParts, store_of}
+use Rattle.ds_core.specs.Answered.{HasAnswered}
+use Rattle.ds_plans.specs.Answered.{Tells}
+use Rattle.ds_core.specs.Cores.{CoreParts, store_of}
 use Rattle.ds_serve.specs.declared.asked.Asked.{Asked}
 use Rattle.ds_serve.specs.AskedLines.{read_as, was_read}
 use Rattle.ds_serve.specs.RunSteps.{IsReply, Ran, Turn, Turns, drawn_for}

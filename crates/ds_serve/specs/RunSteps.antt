@@ -22,7 +22,7 @@ use Rattle.ds_model.specs.Legal.{RoundSteps, RoundsSteps, acknowledged, accepted
 use Rattle.ds_model.specs.Sessions.{Session, first_sessions, met}
 use Rattle.ds_model.specs.Worlds.{World, world_of}
 use Rattle.ds_protocol.specs.Saying.{no_memory_reply}
-use Rattle.ds_core.specs.States.{CoreParts}
+use Rattle.ds_core.specs.Cores.{CoreParts}
 use Rattle.ds_serve.specs.AskedLines.{was_read}
 use Rattle.ds_serve.specs.Runs.{IsLegalRun}
 use Rattle.ds_serve.specs.Settings.{IsSetting}

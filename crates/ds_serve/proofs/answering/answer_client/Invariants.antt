@@ -1,6 +1,6 @@
 use Rattle.std.proofs.Common.{◌≡◌, ◌+◌, ◌≤◌, List, ℕ}
 use Rattle.std.specs.Prelude.{All}
-use Rattle.ds_core.specs.States.{CoreParts}
+use Rattle.ds_core.specs.Cores.{CoreParts}
 use Rattle.ds_serve.specs.AskedLines.{MayBeAnswered}
 use Rattle.ds_serve.specs.RunSteps.{Ran, room_of}
 use Rattle.ds_serve.proofs.answering.answer_client.Given as goal

@@ -2,7 +2,7 @@ use Rattle.std.proofs.Common.{◌≡◌, ◌∙◌, [], List, ℕ, ap, subst, sy
 use Rattle.std.specs.Prelude.{All}
 use Rattle.ds_base.specs.declared.buffer.Buffer.{Buffer}
 use Rattle.ds_rounds.specs.Rounds.{lines_of_round}
-use Rattle.ds_core.specs.States.{CoreParts}
+use Rattle.ds_core.specs.Cores.{CoreParts}
 use Rattle.ds_serve.specs.AskedLines.{AreAskedBy, MayBeAnswered}
 use Rattle.ds_serve.specs.RunSteps.{Ran}
 use Rattle.ds_serve.proofs.ByClient.{all_asked, answerable, ran-round}

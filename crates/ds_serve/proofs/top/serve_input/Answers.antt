@@ -1,7 +1,7 @@
 use Rattle.std.proofs.Common.{[], false, inl, inr, refl, arith, sym, subst}
 use Rattle.ds_rounds.specs.Rounds.{rounds_in}
 use Rattle.ds_words.specs.declared.status.Status.TheVariants as status
-use Rattle.ds_core.specs.States.{CoreParts}
+use Rattle.ds_core.specs.Cores.{CoreParts}
 use Rattle.ds_serve.specs.Settings.{IsSetting}
 use Rattle.ds_serve.proofs.Ends.{ends_at_once}
 use Rattle.ds_serve.proofs.top.serve_input.Goals as goal

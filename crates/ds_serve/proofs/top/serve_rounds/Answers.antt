@@ -1,6 +1,6 @@
 use Rattle.std.proofs.Common.{◌∙◌, [], sym, ap, drop, subst, refl, arith}
 use Rattle.ds_rounds.specs.Reading.{ReaderParts, first_reader}
-use Rattle.ds_core.specs.States.{CoreParts}
+use Rattle.ds_core.specs.Cores.{CoreParts}
 use Rattle.ds_serve.specs.RunSteps.{HasServed, status_of}
 use Rattle.ds_words.specs.declared.status.Status.TheVariants as status
 use Rattle.ds_serve.proofs.Ends.{told-end}

@@ -2,7 +2,7 @@ use Rattle.std.proofs.Common.{◌<◌, ◌∙◌, refl, ap, sym, subst, arith, l
 use Rattle.std.specs.Prelude.{slice_set}
 use Rattle.ds_model.specs.Sessions.{Session}
 use Rattle.ds_core.specs.Answered.{HasAnswered}
-use Rattle.ds_core.specs.States.{CoreParts}
+use Rattle.ds_core.specs.Cores.{CoreParts}
 use Rattle.ds_core.proofs.Cores.{answered-core, core_parts, had-at}
 use Rattle.ds_core.proofs.whole.Core.answer.Goals as goal
 

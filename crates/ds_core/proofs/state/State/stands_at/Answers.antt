@@ -1,6 +1,0 @@
-use Rattle.ds_core.proofs.WriteAnswers.{stands-touched}
-use Rattle.ds_core.proofs.state.State.stands_at.Goals as goal
-
-pub returns-in-Some : goal.returns-in-Some
-returns-in-Some c = stands-touched c.args.self.now.store c.args.session.now c.args.group.now c.in-Some.place c.requires.transaction_within
-    c.in-Some.ensures

@@ -1,0 +1,371 @@
+-- The plans of puts and deletes.
+use Rattle.std.proofs.Common.{◌≡◌, ◌⊎◌, inl, inr, ℕ, zero, suc, ◌+◌, ◌-◌, ◌<◌, ◌≤◌, List, [], ◌∷◌, ◌++◌, length, take, refl, ap, sym, ◌∙◌}
+use Rattle.std.proofs.Common.{subst, arith, Option, Some, None, Bool, true, false, cond}
+use Rattle.std.specs.Prelude.{All, Result, Ok, Err, min, nat_le, ◌&&◌}
+use Rattle.std.specs.List.{range_with_len}
+use Rattle.std.specs.Option.{option_or}
+use Rattle.std.proofs.lemmas.Bool.{leb-true, leb-false, lt-ltb}
+use Rattle.std.proofs.lemmas.List.{append-nil}
+use Rattle.std.proofs.lemmas.List.Elements.{All-nil, All-cons}
+use Rattle.ds_base.specs.declared.entity.EntityRefused.{EntityRefused}
+use Rattle.ds_base.specs.declared.entity.EntityRefused.TheVariants as entity
+use Rattle.ds_base.specs.declared.entity.Property.{Property}
+use Rattle.ds_base.specs.declared.key.Ident.{Ident}
+use Rattle.ds_base.specs.declared.key.Ident.TheVariants.{Id, Name}
+use Rattle.ds_base.specs.declared.key.Elem.{Elem}
+use Rattle.ds_base.specs.Entities.{EntityParts, entity_refusal}
+use Rattle.ds_base.specs.Keys.{KeyParts, root_of, renumbered, with_last_id, ends_in_id}
+use Rattle.ds_base.specs.Limits.{first_drawn_id, greatest_id, greatest_told, most_groups, most_index_rows}
+use Rattle.ds_log.specs.declared.Touch.{Touch}
+use Rattle.ds_log.specs.declared.Write.{Write}
+use Rattle.ds_log.specs.declared.Write.TheVariants.{Put, Delete}
+use Rattle.ds_log.specs.Ids.{unissued, unissued_id, first_unissued}
+use Rattle.ds_log.specs.JournalLaws.{first_unissued-rises}
+use Rattle.ds_log.specs.Logs.{key_of, group_of}
+use Rattle.ds_log.specs.Touches.{touch_place}
+use Rattle.ds_request.specs.declared.call.Call.{Call}
+use Rattle.ds_request.specs.declared.call.Call.TheVariants as call
+use Rattle.ds_rows.specs.Counts.{row_count, IsCounted}
+use Rattle.ds_rows.specs.declared.refused.RowsRefused.{RowsRefused}
+use Rattle.ds_rows.specs.declared.refused.RowsRefused.TheVariants as rows
+use Rattle.ds_indexdef.specs.declared.IndexDef.{IndexDef}
+use Rattle.ds_reply.specs.declared.reply.Body.{Body}
+use Rattle.ds_reply.specs.declared.reply.Body.TheVariants as body
+use Rattle.ds_reply.specs.declared.reply.WriteAt.{WriteAt}
+use Rattle.ds_model.specs.Answers.{CallAnswers, Completes}
+use Rattle.ds_model.specs.Groups.{group_refusal, write_refusal, new_group_refusal, unless_touched, has_none}
+use Rattle.ds_model.specs.Legal.{acknowledged_in, accepted_in, printed_next_in, drawn_by_call, last_id, counter_ids, written_commit}
+use Rattle.ds_model.specs.Refusals.{refusal_of, first_refusal, entity_body, row_refusal, group_asked, is_root}
+use Rattle.ds_model.specs.Sessions.{Session, Transaction}
+use Rattle.ds_plans.specs.declared.effect.Effect.{Effect}
+use Rattle.ds_plans.specs.declared.effect.Effect.TheVariants as effect
+use Rattle.ds_plans.specs.Answered.{Tells, IsPlan}
+use Rattle.ds_plans.specs.Effects.{ids_drawn, store_after, session_after}
+use Rattle.ds_plans.specs.Refused.{IsRefusal, is_quiet, rows_body}
+use Rattle.ds_plans.specs.States.{StoreParts, StateParts, IsSession, world}
+use Rattle.ds_plans.specs.WritePlans.{IsWritable, IsWritePlan, SaysWrite}
+use Rattle.ds_plans.proofs.Plans.{unrefused, no_memory_plan, no_ids, refused_plan}
+use Rattle.ds_plans.proofs.WriteAnswers.{first_none, ids-below}
+
+-- ---- refusals in turn
+
+pub refusals-none : (a : Option Body) (rest : List (Option Body)) → first_refusal (a ∷ rest) ≡ None
+    → (a ≡ None) × (first_refusal rest ≡ None)
+refusals-none None rest none = (refl, none)
+refusals-none (Some b) rest none = cc
+
+abbrev body_of : Option Body → Body
+body_of None = body.BadJson
+body_of (Some b) = b
+
+-- ---- what a put asks of its transaction
+
+new-any : (t : Transaction) (g h : Option KeyParts) → new_group_refusal t g ≡ None → new_group_refusal t h ≡ None
+new-any t g h none = by t.several_groups (nat_le most_groups (length t.touched)) t.touched none where
+  by : (several full : Bool) (ts : List Touch) →
+      cond several (cond full (Some body.TooManyGroups) None) (cond (has_none ts) None (Some (body.SecondGroup g))) ≡ None →
+      cond several (cond full (Some body.TooManyGroups) None) (cond (has_none ts) None (Some (body.SecondGroup h))) ≡ None
+  by true true ts none = none
+  by true false ts none = refl
+  by false full [] none = refl
+  by false full (u ∷ us) none = cc
+
+new-known : (t : Transaction) (g : KeyParts) → new_group_refusal t None ≡ None → group_refusal (Some t) (Some g) ≡ None
+new-known t g none = by (touch_place g t.touched) where
+  by : (o : Option ℕ) → unless_touched o (new_group_refusal t (Some g)) ≡ None
+  by None = new-any t None (Some g) none
+  by (Some place) = refl
+
+-- the group of the completed key may be touched where that of the asked one may
+pub group_completed : (o : Option Transaction) (key : KeyParts) (id : ℕ) → group_refusal o (group_asked true key) ≡ None
+    → group_refusal o (Some (root_of (renumbered key id))) ≡ None
+group_completed None key id none = refl
+group_completed (Some t) key id none = by key.elems none where
+  by : (es : List Elem) → group_refusal (Some t) (cond (is_root es) None (Some (record { namespace = key.namespace; elems = take 1 es })))
+      ≡ None →
+      group_refusal (Some t) (Some (record { namespace = key.namespace; elems = take 1 (with_last_id es id) })) ≡ None
+  by [] none = none
+  by (e ∷ []) none = new-known t (record { namespace = key.namespace; elems = (record e { ident = Id id }) ∷ [] }) none
+  by (e ∷ f ∷ es) none = none
+
+-- ---- the ids of a completed key
+
+pub last_id-completed : (es : List Elem) (id : ℕ) → ends_in_id es ≡ true → last_id (with_last_id es id) ≡ id ∷ []
+last_id-completed [] id ends = cc
+last_id-completed (e ∷ []) id ends = refl
+last_id-completed (e ∷ f ∷ []) id ends = refl
+last_id-completed (e ∷ f ∷ g ∷ es) id ends = last_id-completed (f ∷ g ∷ es) id ends
+
+drawn-issued : (next : ℕ) → unissued_id (next + 1) next ≡ None
+drawn-issued next = by (nat_le first_drawn_id next) (nat_le (next + 1) next) refl where
+  by : (a b : Bool) → nat_le (next + 1) next ≡ b → cond (a && b) (Some next) None ≡ None
+  by true true is = let low : next + 1 ≤ next = leb-true (next + 1) next is in absurd (omega arith)
+  by true false is = refl
+  by false b is = refl
+
+joined-none : (a b : Option ℕ) → a ≡ None → b ≡ None → option_or a b ≡ None
+joined-none a b first second = ap (λ o. option_or o b) first ∙ second
+
+-- the drawn id is issued, and the others were before
+pub completed-issued : (next : ℕ) (es : List Elem) → first_unissued next es ≡ None → first_unissued (next + 1) (with_last_id es next) ≡ None
+completed-issued next [] none = refl
+completed-issued next (e ∷ []) none = joined-none (unissued_id (next + 1) next) None (drawn-issued next) refl
+completed-issued next (e ∷ f ∷ es) none =
+    let both = first_none (unissued next e.ident) (first_unissued next (f ∷ es)) none in
+    let here = first_unissued-rises next (next + 1) (e ∷ []) (omega arith) (joined-none (unissued next e.ident) None both.0 refl) in
+    joined-none (unissued (next + 1) e.ident) (first_unissued (next + 1) (with_last_id (f ∷ es) next))
+    (first_none (unissued (next + 1) e.ident) None here).0 (completed-issued next (f ∷ es) both.1)
+
+-- ---- answers that print the counter
+
+pub number-tells : (st : StoreParts) (c : Call) (b : Body) → acknowledged_in b ≡ [] → accepted_in b ≡ [] → printed_next_in b ≡ st.next ∷ []
+    → drawn_by_call c b ≡ [] → Tells st st c b
+number-tells st c b acknowledges accepts prints draws = record {
+  definitions = refl;
+  shards = refl;
+  added = [];
+  journal = sym (append-nil st.journal);
+  acknowledges = acknowledges;
+  rises = omega arith;
+  draws = draws ∙ no_ids st.next (st.next - st.next) (omega arith);
+  accepts = subst (λ ids. All (λ id. id < st.next) ids) (sym accepts) (All-nil (λ id. id < st.next));
+  prints = subst (λ ns. All (λ next. next ≤ st.next) ns) (sym prints)
+      (All-cons (λ next. next ≤ st.next) st.next [] (omega arith) (All-nil (λ next. next ≤ st.next)));
+}
+
+module _ (st : StateParts) (s : Session) (client : ℕ) (seen : IsSession st s) where
+  pub put_not_issued : (key : KeyParts) (incomplete : Bool) (properties : List Property) (id : ℕ)
+      → refusal_of st.store.definitions s (call.Put key incomplete properties) ≡ None → first_unissued st.store.next key.elems ≡ Some id →
+      IsPlan st s client (call.Put key incomplete properties) (body.IdNotIssued id st.store.next) (effect.SeeNext st.store.next)
+  put_not_issued key incomplete properties id none first = record {
+    answers = λ window.
+        let after = session_after (effect.SeeNext st.store.next) st.store s in
+        unrefused (world st.store window) st.store.definitions client s after (call.Put key incomplete properties)
+        (body.IdNotIssued id st.store.next) refl none
+        (record { shown = seen.next_within; first = first; raised = refl });
+    told = number-tells st.store (call.Put key incomplete properties) (body.IdNotIssued id st.store.next) refl refl refl (by incomplete);
+    allowed = omega arith;
+  } where
+    by : (b : Bool) → drawn_by_call (call.Put key b properties) (body.IdNotIssued id st.store.next) ≡ []
+    by true = refl
+    by false = refl
+
+  pub delete_not_issued : (key : KeyParts) (id : ℕ) → refusal_of st.store.definitions s (call.Delete key) ≡ None
+      → first_unissued st.store.next key.elems ≡ Some id →
+      IsPlan st s client (call.Delete key) (body.IdNotIssued id st.store.next) (effect.SeeNext st.store.next)
+  delete_not_issued key id none first = record {
+    answers = λ window.
+        let after = session_after (effect.SeeNext st.store.next) st.store s in
+        unrefused (world st.store window) st.store.definitions client s after (call.Delete key) (body.IdNotIssued id st.store.next) refl
+        none
+        (record { shown = seen.next_within; first = first; raised = refl });
+    told = number-tells st.store (call.Delete key) (body.IdNotIssued id st.store.next) refl refl refl refl;
+    allowed = omega arith;
+  }
+
+  pub put_exhausted : (key : KeyParts) (properties : List Property)
+      → refusal_of st.store.definitions s (call.Put key true properties) ≡ None → first_unissued st.store.next key.elems ≡ None
+      → greatest_id ≤ st.store.next →
+      IsPlan st s client (call.Put key true properties) (body.IdsExhausted st.store.next) (effect.SeeNext st.store.next)
+  put_exhausted key properties none issued past = record {
+    answers = λ window.
+        let after = session_after (effect.SeeNext st.store.next) st.store s in
+        unrefused (world st.store window) st.store.definitions client s after (call.Put key true properties)
+        (body.IdsExhausted st.store.next) refl none
+        (refl, issued, record { shown = seen.next_within; beyond = omega arith; raised = refl });
+    told = number-tells st.store (call.Put key true properties) (body.IdsExhausted st.store.next) refl refl refl refl;
+    allowed = omega arith;
+  }
+
+-- ---- writes
+
+module _ (st : StateParts) (s : Session) (client : ℕ) (c : Call) where
+  write-tells : (write : Write) (drawn : Bool) (place : WriteAt) (change : Effect) (b : Body)
+      → IsWritePlan st s client write drawn place change →
+      acknowledged_in b ≡ written_commit place → accepted_in b ≡ counter_ids (key_of write).elems → printed_next_in b ≡ [] →
+      drawn_by_call c b ≡ range_with_len st.store.next (ids_drawn drawn)
+      → first_unissued (st.store.next + ids_drawn drawn) (key_of write).elems ≡ None →
+      Tells st.store (store_after change st.store) c b
+  write-tells write drawn place change b plan acknowledges accepts prints draws issued = record {
+    definitions = plan.definitions;
+    shards = plan.shards;
+    added = plan.added;
+    journal = plan.journal;
+    acknowledges = acknowledges ∙ plan.acknowledges;
+    rises = omega (arith, plan.next);
+    draws = draws ∙ ap (range_with_len st.store.next) (let e : ids_drawn drawn
+        ≡ (store_after change st.store).next - st.store.next = omega (arith, plan.next) in e);
+    accepts = subst (λ n. All (λ id. id < n) (accepted_in b)) (sym plan.next)
+        (subst (λ ids. All (λ id. id < st.store.next + ids_drawn drawn) ids) (sym accepts)
+        (ids-below (st.store.next + ids_drawn drawn) (key_of write).elems issued));
+    prints = subst (λ ns. All (λ next. next ≤ (store_after change st.store).next) ns) (sym prints)
+        (All-nil (λ next. next ≤ (store_after change st.store).next));
+  }
+
+  -- of what is said of a write, only what is said where there is memory is left to show
+  said-write : (says : KeyParts → WriteAt → Body) (write : Write) (drawn : Bool) (b : Body) (change : Effect)
+      → SaysWrite says st s client write drawn b change →
+      ((place : WriteAt) → IsWritePlan st s client write drawn place change → IsPlan st s client c (says (key_of write) place) change)
+      → IsPlan st s client c b change
+  said-write says write drawn b change (inl (is, nothing)) done =
+      subst (λ v. IsPlan st s client c v change) (sym is) (subst (λ e. IsPlan st s client c body.NoMemory e) (sym nothing)
+      (no_memory_plan st s client c))
+  said-write says write drawn b change (inr (place, is, plan)) done = subst (λ v. IsPlan st s client c v change) (sym is) (done place plan)
+
+module _ (st : StateParts) (s : Session) (client : ℕ) where
+  put_planned : (key : KeyParts) (incomplete : Bool) (e : EntityParts) (drawn : Bool) (b : Body) (change : Effect)
+      → refusal_of st.store.definitions s (call.Put key incomplete e.properties) ≡ None →
+      Completes s incomplete key e.key → ((place : WriteAt) → drawn_by_call (call.Put key incomplete e.properties) (body.Put e.key place)
+      ≡ range_with_len st.store.next (ids_drawn drawn)) →
+      first_unissued (st.store.next + ids_drawn drawn) e.key.elems ≡ None → SaysWrite body.Put st s client (Put e) drawn b change
+      → IsPlan st s client (call.Put key incomplete e.properties) b change
+  put_planned key incomplete e drawn b change none completes draws issued says =
+      said-write st s client (call.Put key incomplete e.properties) body.Put (Put e) drawn b change says (λ place plan. record {
+        answers = λ window.
+            unrefused (world (store_after change st.store) window) st.store.definitions client s (session_after change st.store s)
+            (call.Put key incomplete e.properties) (body.Put e.key place) plan.definitions none
+            (record { completed = completes; written = plan.answers window });
+        told = write-tells st s client (call.Put key incomplete e.properties) (Put e) drawn place change (body.Put e.key place) plan refl
+            refl refl (draws place) issued;
+        allowed = plan.allowed;
+      })
+
+  -- the put of a complete key
+  pub put_complete : (e : EntityParts) (b : Body) (change : Effect)
+      → refusal_of st.store.definitions s (call.Put e.key false e.properties) ≡ None
+      → first_unissued (st.store.next + 0) e.key.elems ≡ None →
+      SaysWrite body.Put st s client (Put e) false b change → IsPlan st s client (call.Put e.key false e.properties) b change
+  put_complete e b change none issued says = put_planned e.key false e false b change none refl (λ place. refl) issued says
+
+  -- the put of an incomplete key, which the next id completes
+  pub put_completed : (key : KeyParts) (properties : List Property) (b : Body) (change : Effect) → IsSession st s
+      → refusal_of st.store.definitions s (call.Put key true properties) ≡ None → ends_in_id key.elems ≡ true →
+      first_unissued st.store.next key.elems ≡ None → st.store.next < greatest_id →
+      SaysWrite body.Put st s client (Put (record { key = renumbered key st.store.next; properties = properties })) true b change
+      → IsPlan st s client (call.Put key true properties) b change
+  put_completed key properties b change seen none ends issued left says =
+      put_planned key true (record { key = renumbered key st.store.next; properties = properties }) true b change none
+      (st.store.next, seen.next_within, left, refl) (λ place. last_id-completed key.elems st.store.next ends)
+      (completed-issued st.store.next key.elems issued) says
+
+  pub delete_planned : (key : KeyParts) (b : Body) (change : Effect) → refusal_of st.store.definitions s (call.Delete key) ≡ None
+      → first_unissued (st.store.next + 0) key.elems ≡ None →
+      SaysWrite body.Delete st s client (Delete key) false b change → IsPlan st s client (call.Delete key) b change
+  delete_planned key b change none issued says =
+      said-write st s client (call.Delete key) body.Delete (Delete key) false b change says (λ place plan. record {
+        answers = λ window.
+            unrefused (world (store_after change st.store) window) st.store.definitions client s (session_after change st.store s)
+            (call.Delete key) (body.Delete key place) plan.definitions none
+            (refl, plan.answers window);
+        told = write-tells st s client (call.Delete key) (Delete key) false place change (body.Delete key place) plan refl refl refl refl
+            issued;
+        allowed = plan.allowed;
+      })
+
+  -- ---- what may be written
+
+  pub put_writable : (e : EntityParts) → st.store.next ≤ greatest_id
+      → refusal_of st.store.definitions s (call.Put e.key false e.properties) ≡ None → first_unissued st.store.next e.key.elems ≡ None
+      → IsWritable st s (Put e) false
+  put_writable e left none issued =
+      let a = refusals-none (entity_body (entity_refusal e.key e.properties)) _ none in
+      let b = refusals-none (row_refusal st.store.definitions e) _ a.1 in
+      let c = refusals-none (group_refusal s.transaction (Some (root_of e.key))) _ b.1 in
+      let d = refusals-none (write_refusal s.transaction) [] c.1 in
+      record {
+        group = c.0;
+        few = d.0;
+        left = omega arith;
+        issued = first_unissued-rises st.store.next (st.store.next + 0) e.key.elems
+            (omega arith) issued;
+      }
+
+  pub completed_writable : (key : KeyParts) (properties : List Property) → st.store.next < greatest_id
+      → refusal_of st.store.definitions s (call.Put key true properties) ≡ None → first_unissued st.store.next key.elems ≡ None →
+      IsWritable st s (Put (record { key = renumbered key st.store.next; properties = properties })) true
+  completed_writable key properties left none issued =
+      let a = refusals-none (entity_body (entity_refusal key properties)) _ none in
+      let b = refusals-none (row_refusal st.store.definitions (record { key = key; properties = properties })) _ a.1 in
+      let c = refusals-none (group_refusal s.transaction (group_asked true key)) _ b.1 in
+      let d = refusals-none (write_refusal s.transaction) [] c.1 in
+      record {
+        group = group_completed s.transaction key st.store.next c.0;
+        few = d.0;
+        left = omega arith;
+        issued = completed-issued
+            st.store.next key.elems issued;
+      }
+
+  pub delete_writable : (key : KeyParts) → st.store.next ≤ greatest_id → refusal_of st.store.definitions s (call.Delete key) ≡ None
+      → first_unissued st.store.next key.elems ≡ None → IsWritable st s (Delete key) false
+  delete_writable key left none issued =
+      let c = refusals-none (group_refusal s.transaction (Some (root_of key))) _ none in
+      let d = refusals-none (write_refusal s.transaction) [] c.1 in
+      record {
+        group = c.0;
+        few = d.0;
+        left = omega arith;
+        issued = first_unissued-rises st.store.next (st.store.next + 0) key.elems
+            (omega arith) issued;
+      }
+
+  -- ---- refusals of puts and deletes
+
+  too_many : (e : EntityParts) (count : ℕ) → most_index_rows < row_count st.store.definitions e
+      → count ≡ min (row_count st.store.definitions e) greatest_told → row_refusal st.store.definitions e ≡ Some (body.TooManyRows count)
+  too_many e count above is =
+      ap (λ v. cond v (Some (body.TooManyRows (min (row_count st.store.definitions e) greatest_told))) None)
+      (lt-ltb most_index_rows (row_count st.store.definitions e) above)
+      ∙ ap (λ n. Some (body.TooManyRows n)) (sym is)
+
+  -- the entity's own refusal is the first
+  pub entity_refused : (key : KeyParts) (incomplete : Bool) (properties : List Property) (why : EntityRefused) (b : Body)
+      → entity_body (Some why) ≡ Some b →
+      (Some why ≡ entity_refusal key properties) ⊎ ((Some why ≡ Some entity.NoMemory) × (entity_refusal key properties ≡ None)) →
+      (refusal_of st.store.definitions s (call.Put key incomplete properties) ≡ Some b) ⊎ (b ≡ body.NoMemory)
+  entity_refused key incomplete properties why b is (inl decided) = inl
+      (ap (λ o. first_refusal (entity_body o ∷ others)) (sym decided) ∙ ap (λ o. first_refusal (o ∷ others)) is) where
+        others : List (Option Body)
+        others = row_refusal st.store.definitions (record { key = key; properties = properties }) ∷ group_refusal s.transaction
+            (group_asked incomplete key) ∷ write_refusal s.transaction ∷ []
+  entity_refused key incomplete properties why b is (inr (none, fine)) = inr (ap body_of (sym is ∙ ap entity_body none))
+
+  -- then that of its index rows, and then those of the transaction
+  pub put_rest : (e : EntityParts) (incomplete : Bool) → entity_refusal e.key e.properties ≡ None →
+      refusal_of st.store.definitions s (call.Put e.key incomplete e.properties)
+      ≡ first_refusal (row_refusal st.store.definitions e ∷ group_refusal s.transaction (group_asked incomplete e.key) ∷ write_refusal
+      s.transaction ∷ [])
+  put_rest e incomplete fine =
+      ap (λ o. first_refusal (entity_body o ∷ row_refusal st.store.definitions e ∷ group_refusal s.transaction
+      (group_asked incomplete e.key) ∷ write_refusal s.transaction ∷ [])) fine
+
+  pub rows_refused : (e : EntityParts) (incomplete : Bool) (definitions : List IndexDef) (why : RowsRefused) (b : Body)
+      → entity_refusal e.key e.properties ≡ None → definitions ≡ st.store.definitions →
+      IsCounted (row_count definitions e) (Err why) → b ≡ rows_body why
+      → (refusal_of st.store.definitions s (call.Put e.key incomplete e.properties) ≡ Some b) ⊎ (b ≡ body.NoMemory)
+  rows_refused e incomplete definitions rows.NoMemory b fine same counted is = inr is
+  rows_refused e incomplete definitions (rows.TooManyRows count) b fine same counted is =
+      let both : IsCounted (row_count st.store.definitions e) (Err (rows.TooManyRows count)) = subst
+      (λ d. IsCounted (row_count d e) (Err (rows.TooManyRows count))) same counted in
+      inl (put_rest e incomplete fine
+      ∙ ap (λ o. first_refusal (o ∷ group_refusal s.transaction (group_asked incomplete e.key) ∷ write_refusal s.transaction ∷ []))
+      (too_many e count both.0 both.1)
+      ∙ ap (λ v. Some v) (sym is))
+
+  pub put_after_rows : (e : EntityParts) (incomplete : Bool) → entity_refusal e.key e.properties ≡ None
+      → row_refusal st.store.definitions e ≡ None →
+      refusal_of st.store.definitions s (call.Put e.key incomplete e.properties)
+      ≡ first_refusal (group_refusal s.transaction (group_asked incomplete e.key) ∷ write_refusal s.transaction ∷ [])
+  put_after_rows e incomplete fine few = put_rest e incomplete fine
+      ∙ ap (λ o. first_refusal (o ∷ group_refusal s.transaction (group_asked incomplete e.key) ∷ write_refusal s.transaction ∷ [])) few
+
+  -- what is told is the refusal or want of memory
+  pub told_refusal : (c : Call) (refusal : Option Body) (b : Body) → refusal_of st.store.definitions s c ≡ refusal
+      → IsRefusal refusal (Some b) → (refusal_of st.store.definitions s c ≡ Some b) ⊎ (b ≡ body.NoMemory)
+  told_refusal c refusal b same (inl is) = inl (same ∙ sym is)
+  told_refusal c refusal b same (inr is) = inr (ap body_of is)
+
+  pub untold_refusal : (c : Call) (refusal : Option Body) → refusal_of st.store.definitions s c ≡ refusal → IsRefusal refusal None
+      → refusal_of st.store.definitions s c ≡ None
+  untold_refusal c refusal same (inl is) = same ∙ sym is
+  untold_refusal c refusal same (inr is) = cc

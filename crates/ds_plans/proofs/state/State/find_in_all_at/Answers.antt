@@ -1,0 +1,49 @@
+use Rattle.std.proofs.Common.{◌≡◌, ◌∙◌, ap, sym, subst}
+use Rattle.ds_applied.specs.AppliedLists.{AreCounts}
+use Rattle.ds_model.specs.Sessions.{counted_place}
+use Rattle.ds_plans.specs.States.{StateParts, AreUpTo, IsState}
+use Rattle.ds_plans.proofs.DuePlans.{all_found_at, counts-listed}
+use Rattle.ds_plans.proofs.Plans.{memory_as}
+use Rattle.ds_plans.proofs.state.State.find_in_all_at.Goals as goal
+
+pub returns-in_default : goal.returns-in_default
+returns-in_default c = λ call of. memory_as c.args.self.now c.args.session.now c.args.client call c.no_memory.result.body
+    c.no_memory.result.effect c.no_memory.ensures.body c.no_memory.ensures.effect
+
+pub returns-in_default-counts : goal.returns-in_default-counts
+returns-in_default-counts c = λ call of. memory_as c.args.self.now c.args.session.now c.args.client call
+    c.no_memory-in_default-counts.result.body c.no_memory-in_default-counts.result.effect
+    c.no_memory-in_default-counts.ensures.body c.no_memory-in_default-counts.ensures.effect
+
+pub counted_place-commit-requires : goal.counted_place-commit-requires
+counted_place-commit-requires c =
+    subst (AreCounts c.self.inside.applied.lists) (sym c.as_slice.ensures)
+    (counts-listed c.self.inside.applied.lists c.args.counts c.self.inside.applied.counts
+    (subst (λ (st : StateParts). AreUpTo c.args.counts st.applied.counts) (sym c.self.view_is) c.requires.within)
+    (subst (AreCounts c.self.inside.applied.lists) c.in-Ok-counts.ensures.value c.in-Ok-counts.ensures.within))
+
+pub find_at_counts-requires-clause-counts : goal.find_at_counts-requires-clause-counts
+find_at_counts-requires-clause-counts c =
+    subst (λ (st : StateParts). AreCounts st.applied.lists c.in-Ok.told) c.self.view_is
+    (subst (AreCounts c.self.inside.applied.lists) (sym c.in-Ok.ensures.copied)
+    (counts-listed c.self.inside.applied.lists c.args.counts c.self.inside.applied.counts
+    (subst (λ (st : StateParts). AreUpTo c.args.counts st.applied.counts) (sym c.self.view_is) c.requires.within)
+    (subst (AreCounts c.self.inside.applied.lists) c.in-Ok-counts.ensures.value c.in-Ok-counts.ensures.within)))
+
+pub returns-in-Ok-find_at_counts : goal.returns-in-Ok-find_at_counts
+returns-in-Ok-find_at_counts c = λ call of.
+    all_found_at c.args.self.now c.args.session.now c.args.client call c.args.search of c.args.ready c.requires.prepared
+    (subst IsState c.self.view_is c.self.invariant) c.requires.pulled c.requires.group c.requires.seen c.args.counts c.in-Ok.told
+    c.counted_place-commit.result c.requires.shown c.requires.within
+    (subst (λ (st : StateParts). AreCounts st.applied.lists c.args.counts) c.self.view_is
+    (counts-listed c.self.inside.applied.lists c.args.counts c.self.inside.applied.counts
+    (subst (λ (st : StateParts). AreUpTo c.args.counts st.applied.counts) (sym c.self.view_is) c.requires.within)
+    (subst (AreCounts c.self.inside.applied.lists) c.in-Ok-counts.ensures.value c.in-Ok-counts.ensures.within)))
+    c.in-Ok.ensures.copied
+    (c.counted_place-commit.ensures ∙ ap (counted_place c.self.inside.applied.lists) c.as_slice.ensures
+    ∙ ap (λ (st : StateParts). counted_place st.applied.lists c.args.counts) c.self.view_is)
+    c.in-Ok-find_at_counts.body c.in-Ok-find_at_counts.ensures.found
+
+pub returns : goal.returns
+returns c = λ call of. memory_as c.args.self.now c.args.session.now c.args.client call c.no_memory-in-Err.result.body
+    c.no_memory-in-Err.result.effect c.no_memory-in-Err.ensures.body c.no_memory-in-Err.ensures.effect

@@ -1,0 +1,33 @@
+use Rattle.std.proofs.Common.{map, ap, subst, ◌∙◌}
+use Rattle.ds_base.specs.declared.results.Seen.TheVariants as seen
+use Rattle.ds_applied.specs.AppliedLists.{shard_view}
+use Rattle.ds_plans.specs.Queries.{told_over}
+use Rattle.ds_plans.specs.States.{StateParts, IsState}
+use Rattle.ds_plans.proofs.Plans.{memory_as}
+use Rattle.ds_plans.proofs.QueryPlans.{group_found, view_by_key}
+use Rattle.ds_plans.proofs.state.State.find_in_group.Goals as goal
+
+pub returns-in_default : goal.returns-in_default
+returns-in_default c = λ call of. memory_as c.args.self.now c.args.session.now c.args.client call c.no_memory.result.body
+    c.no_memory.result.effect c.no_memory.ensures.body c.no_memory.ensures.effect
+
+pub returns-in_default-entities : goal.returns-in_default-entities
+returns-in_default-entities c = λ call of. memory_as c.args.self.now c.args.session.now c.args.client call _ _
+    c.no_memory-in_default-entities.ensures.body c.no_memory-in_default-entities.ensures.effect
+
+pub find-requires-clause-by_key : goal.find-requires-clause-by_key
+find-requires-clause-by_key c = view_by_key _ c.self.inside.applied.lists c.args.read.shard c.args.read.entries
+    (ap (map (λ e. e.now)) c.as_slice.ensures.value ∙ c.in-Ok-entities.ensures ∙ c.in-Ok.ensures)
+
+pub returns-in-Ok-find : goal.returns-in-Ok-find
+returns-in-Ok-find c = λ call of.
+    group_found c.args.self.now c.args.session.now c.args.client call c.args.search of c.args.ready c.requires.prepared
+    (subst IsState c.self.view_is c.self.invariant) c.args.read c.requires.reached
+    c.in-Ok-find.body (c.in-Ok-find.ensures.found
+    ∙ ap (λ es. told_over c.args.search c.args.ready.normal c.args.ready.window es (seen.Place c.args.read.place))
+    (ap (map (λ e. e.now)) c.as_slice.ensures.value ∙ c.in-Ok-entities.ensures ∙ c.in-Ok.ensures
+    ∙ ap (λ (st : StateParts). shard_view st.applied.lists c.args.read.shard c.args.read.entries) c.self.view_is))
+
+pub returns : goal.returns
+returns c = λ call of. memory_as c.args.self.now c.args.session.now c.args.client call _ _ c.no_memory-in-Err.ensures.body
+    c.no_memory-in-Err.ensures.effect

@@ -1,0 +1,24 @@
+use Rattle.std.proofs.Common.{ap, subst, ◌∙◌}
+use Rattle.ds_request.specs.declared.call.Call.TheVariants as call
+use Rattle.ds_applied.specs.AppliedLists.{shard_view}
+use Rattle.ds_model.specs.Results.{entity_of}
+use Rattle.ds_plans.specs.States.{StateParts, IsState}
+use Rattle.ds_plans.proofs.Plans.{memory_as}
+use Rattle.ds_plans.proofs.ReadPlans.{get_planned}
+use Rattle.ds_plans.proofs.state.State.get_reached.Goals as goal
+
+pub returns-in_default : goal.returns-in_default
+returns-in_default c = memory_as c.args.self.now c.args.session.now c.args.client (call.Get c.args.key.now) c.no_memory.result.body
+    c.no_memory.result.effect c.no_memory.ensures.body c.no_memory.ensures.effect
+
+pub returns-in_default-copy_found : goal.returns-in_default-copy_found
+returns-in_default-copy_found c = memory_as c.args.self.now c.args.session.now c.args.client (call.Get c.args.key.now)
+    c.no_memory-in_default-copy_found.result.body c.no_memory-in_default-copy_found.result.effect
+    c.no_memory-in_default-copy_found.ensures.body c.no_memory-in_default-copy_found.ensures.effect
+
+pub returns : goal.returns
+returns c =
+    get_planned c.args.self.now c.args.session.now c.args.client c.args.key.now (subst IsState c.self.view_is c.self.invariant)
+    c.args.read c.requires.reached c.requires.stands c.requires.allowed c.in-Ok-copy_found.entity
+    (c.in-Ok-copy_found.ensures ∙ c.get.ensures ∙ ap (λ es. entity_of es c.args.key.now)
+    (c.in-Ok.ensures ∙ ap (λ (st : StateParts). shard_view st.applied.lists c.args.read.shard c.args.read.entries) c.self.view_is))

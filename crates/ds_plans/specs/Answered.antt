@@ -1,0 +1,50 @@
+-- What an answer of the core is, told of the store and of the client's session before and after it. It is what the proof of the main
+-- theorem takes from this crate; the theorem itself doesn't speak of it.
+use Rattle.std.specs.Prelude.{◌≡◌, ℕ, ◌+◌, ◌-◌, ◌<◌, ◌≤◌, Bool, true, false, List, ◌++◌, Option, Some, Ok, length, All, slice_get}
+use Rattle.std.specs.Prelude.{slice_set}
+use Rattle.std.specs.List.{range_with_len}
+use Rattle.ds_log.specs.declared.Commit.{Commit}
+use Rattle.ds_request.specs.declared.call.Call.{Call}
+use Rattle.ds_request.specs.declared.call.Request.{Request}
+use Rattle.ds_reply.specs.declared.reply.Body.{Body}
+use Rattle.ds_reply.specs.declared.reply.Body.TheVariants as body
+use Rattle.ds_reply.specs.declared.reply.Reply.{Reply}
+use Rattle.ds_reply.specs.Replies.{reply_text}
+use Rattle.ds_model.specs.Answers.{BodyAnswers}
+use Rattle.ds_model.specs.Legal.{acknowledged_in, accepted_in, printed_next_in, drawn_by_call}
+use Rattle.ds_model.specs.Sessions.{Session}
+use Rattle.ds_plans.specs.declared.effect.Effect.{Effect}
+use Rattle.ds_plans.specs.Effects.{IsAllowed, store_after, session_after}
+use Rattle.ds_plans.specs.States.{StoreParts, StateParts, world}
+
+-- What the store gained, and what the reply tells of it: the new commits are acknowledged, the drawn ids told, each accepted id of
+-- 2^52 or more is below the counter, and no printed counter is above it.
+pub record Tells (old new : StoreParts) (c : Call) (said : Body) : Type 0 where
+  pub definitions : new.definitions ≡ old.definitions
+  pub shards : new.shards ≡ old.shards
+  pub added : List Commit
+  pub journal : new.journal ≡ old.journal ++ added
+  pub acknowledges : acknowledged_in said ≡ range_with_len (length old.journal + 1) (length added)
+  pub rises : old.next ≤ new.next
+  pub draws : drawn_by_call c said ≡ range_with_len old.next (new.next - old.next)
+  pub accepts : All (λ id. id < new.next) (accepted_in said)
+  pub prints : All (λ next. next ≤ new.next) (printed_next_in said)
+
+-- the reply to a request, over every journal that begins with the new one, whatever the window: the core never says that versions
+-- are gone
+pub record CallAnswered (old new : StoreParts) (before after : Session) (client number : ℕ) (c : Call) (reply : Reply) : Type 0 where
+  pub numbered : reply.line ≡ number
+  pub addressed : reply.client ≡ client
+  pub said : (window : Option ℕ) (more : List Commit)
+      → BodyAnswers (world (record new { journal = new.journal ++ more }) window) before (Ok (record { client = client; call = c }))
+      reply.body after
+  pub told : Tells old new c reply.body
+
+-- What is said to a request and changed by it, before it is: where that is allowed, the reply is an answer, and tells of the store
+-- what it gains.
+pub record IsPlan (st : StateParts) (s : Session) (client : ℕ) (c : Call) (said : Body) (change : Effect) : Type 0 where
+  pub answers : (window : Option ℕ)
+      → BodyAnswers (world (store_after change st.store) window) s (Ok (record { client = client; call = c })) said
+      (session_after change st.store s)
+  pub told : Tells st.store (store_after change st.store) c said
+  pub allowed : IsAllowed change st s

@@ -1,0 +1,9 @@
+pub mod Answered
+pub mod Due
+pub mod Effects
+pub mod Queries
+pub mod Reads
+pub mod Refused
+pub mod States
+pub mod Transactions
+pub mod WritePlans

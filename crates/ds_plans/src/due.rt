@@ -1,0 +1,318 @@
+//! The reply to an open request, as soon as nothing is missing: to requests that are neither puts, deletes, gets nor queries.
+ghost use Rattle.std.specs.Prelude.{◌≡◌, ◌≤◌, ◌<◌, [], None, Some, length, IfSome, IsTrue};
+ghost use Rattle.ds_request.specs.declared.call.Call.{Call};
+ghost use Rattle.ds_request.specs.Lawful.{IsLawfulCall};
+ghost use Rattle.ds_applied.specs.AppliedLists.{AreCounts, entries_by};
+ghost use Rattle.ds_model.specs.Asked.{has_shard};
+ghost use Rattle.ds_model.specs.Answers.{AppliedCount};
+ghost use Rattle.ds_model.specs.Groups.{IsSeenPlace};
+ghost use Rattle.ds_model.specs.Sessions.{count_of};
+ghost use Rattle.ds_plans.specs.Due.{AreCovering, IsDuePlan, IsGathered, ids_of};
+ghost use Rattle.ds_plans.specs.Reads.{IsPulled};
+ghost use Rattle.ds_plans.specs.States.{AreUpTo, IsSession};
+
+use crate::effect::{CountSeen, CountsSeen, Effect, Plan};
+use crate::gathered::{Gathered, Step};
+use crate::session::Session;
+use crate::state::State;
+use ds_base::limits::MAX_ID;
+use ds_base::{Counts, TryCopy};
+use ds_reply::Body;
+use ds_request::Call;
+use std::alloc::Global;
+
+impl State {
+    /// What is said to an open request and what that changes, as soon as nothing is missing; `None` where a further step of its client is.
+    /// `step` is the one that was just taken; where none was, as at the opening, it is a Touch, which by itself ends no request. The store
+    /// and the applied counts stay as they are.
+    pub fn plan_due(
+        &mut self,
+        alloc: Global,
+        session: &Session,
+        client: u32,
+        call: Call,
+        gathered: &Gathered,
+        step: Step,
+    ) -> Option<Plan>
+        requires lawful { IsLawfulCall call }
+        requires shard { IsTrue (has_shard self.old.store.shards call) }
+        requires seen { IsSession self.old session.now }
+        requires gathered { IsGathered self.old session.now call gathered.now }
+        ensures plan { IfSome result (λ p. IsDuePlan self.new session.now client call (ids_of call gathered.now) p.body p.effect) }
+        ensures store { self.new.store ≡ self.old.store }
+        ensures counts { self.new.applied.counts ≡ self.old.applied.counts }
+    {
+        match call {
+            Call::Put {
+                key,
+                incomplete,
+                properties,
+            } => self.put_due(
+                alloc, session, client, key, incomplete, properties, gathered, step,
+            ),
+            Call::Delete { key } => self.delete_due(alloc, session, client, key, gathered, step),
+            Call::Begin { xg } => Some(self.plan_begin(session, client, xg)),
+            Call::Commit => self.commit_due(alloc, session, client, step),
+            Call::Rollback => Some(self.plan_rollback(session, client)),
+            Call::AllocateIds { count } => self.allocate_due(
+                session, client, count, gathered, step,
+            ),
+            Call::Get { key } => self.get_due(alloc, session, client, &key, gathered, step),
+            Call::Settle => self.settle_due(alloc, session, client, gathered),
+            Call::Apply { shard } => self.apply_due(alloc, session, client, shard, gathered, step),
+            _ => self.search_due(alloc, session, client, call, gathered, step),
+        }
+    }
+
+    /// A commit waits for a Commit.
+    fn commit_due(&self, alloc: Global, session: &Session, client: u32, step: Step) -> Option<Plan>
+        requires { IsSession self.now session.now }
+        ensures { IfSome result (λ p. IsDuePlan self.now session.now client Call.Commit [] p.body p.effect) }
+    {
+        if step.is_commit() || !session.in_transaction() {
+            return Some(self.plan_commit(alloc, session, client));
+        }
+        None
+    }
+
+    /// A request for ids waits for its Issue; it is told where so many ids are not left.
+    fn allocate_due(
+        &self,
+        session: &Session,
+        client: u32,
+        count: u64,
+        gathered: &Gathered,
+        step: Step,
+    ) -> Option<Plan>
+        requires some { 1 ≤ count }
+        requires seen { IsSession self.now session.now }
+        requires gathered { IsGathered self.now session.now (Call.AllocateIds count) gathered.now }
+        ensures { IfSome result (λ p. IsDuePlan self.now session.now client (Call.AllocateIds count)
+            (ids_of (Call.AllocateIds count) gathered.now) p.body p.effect) }
+    {
+        let next = self.book.next();
+        match gathered.first() {
+            Some(first) => Some(Plan {
+                body: Body::AllocateIds { first, count },
+                effect: Effect::SeeNext {
+                    next: first + count,
+                },
+            }),
+            None if step.is_issue(count) && count > MAX_ID - next => Some(Plan {
+                body: Body::IdsExhausted { next },
+                effect: Effect::SeeNext { next },
+            }),
+            None => None,
+        }
+    }
+
+    /// A settle waits for its Touch, and for a View of each shard that covers its place.
+    fn settle_due(
+        &mut self,
+        alloc: Global,
+        session: &Session,
+        client: u32,
+        gathered: &Gathered,
+    ) -> Option<Plan>
+        requires seen { IsSession self.old session.now }
+        requires gathered { IsGathered self.old session.now Call.Settle gathered.now }
+        ensures plan { IfSome result (λ p. IsDuePlan self.new session.now client Call.Settle [] p.body p.effect) }
+        ensures store { self.new.store ≡ self.old.store }
+        ensures counts { self.new.applied.counts ≡ self.old.applied.counts }
+    {
+        if session.in_transaction() {
+            return Some(Plan::refused(Body::InTransaction));
+        }
+        let Some(place) = gathered.place() else {
+            return None;
+        };
+        match gathered.counts(alloc) {
+            Ok(Some(counts)) => self.settle_at(alloc, session, client, place, counts),
+            Ok(None) => None,
+            Err(_) => Some(Plan::no_memory()),
+        }
+    }
+
+    /// A settle whose place is known, at a count for each shard; `None` where they don't cover the place.
+    fn settle_at(
+        &mut self,
+        alloc: Global,
+        session: &Session,
+        client: u32,
+        place: u64,
+        counts: Counts,
+    ) -> Option<Plan>
+        requires outside { session.now.transaction ≡ None }
+        requires place { IsSeenPlace self.old.store.journal session.now place }
+        requires seen { AreUpTo session.now.counts counts }
+        requires within { AreUpTo counts self.old.applied.counts }
+        ensures plan { IfSome result (λ p. IsDuePlan self.new session.now client Call.Settle [] p.body p.effect) }
+        ensures store { self.new.store ≡ self.old.store }
+        ensures counts { self.new.applied.counts ≡ self.old.applied.counts }
+    {
+        if self.pull(alloc).is_err() {
+            return Some(Plan::no_memory());
+        }
+        if !self.covers_all(place, counts.as_slice()) {
+            return None;
+        }
+        Some(self.tell_settled_at(alloc, session, client, place, counts))
+    }
+
+    /// Whether the counts have each shard's entries up to the place.
+    fn covers_all(&self, place: u64, counts: &[u64]) -> bool
+        requires pulled { IsPulled self.now }
+        requires place { place ≤ length self.now.store.journal }
+        ensures { IsTrue result → AreCovering self.now place counts.now }
+    {
+        for shard in 0..self.shards {
+            let up_to = self.applied.entries_up_to(shard, place);
+            if shard as usize >= counts.len() || counts[shard as usize] < up_to {
+                return false;
+            }
+        }
+        true
+    }
+
+    /// Tells the counts, which cover the place.
+    fn tell_settled_at(
+        &self,
+        alloc: Global,
+        session: &Session,
+        client: u32,
+        place: u64,
+        counts: Counts,
+    ) -> Plan
+        requires outside { session.now.transaction ≡ None }
+        requires place { IsSeenPlace self.now.store.journal session.now place }
+        requires seen { AreUpTo session.now.counts counts }
+        requires within { AreUpTo counts self.now.applied.counts }
+        requires pulled { IsPulled self.now }
+        requires covering { AreCovering self.now place counts }
+        ensures { IsDuePlan self.now session.now client Call.Settle [] result.body result.effect }
+    {
+        let Ok(applied) = counts.copy(alloc) else {
+            return Plan::no_memory();
+        };
+        let Ok(_all) = self.applied.counts(alloc) else {
+            return Plan::no_memory();
+        };
+        let commit = self.applied.counted_place(counts.as_slice());
+        Plan {
+            body: Body::Settle { place, applied },
+            effect: Effect::Settle {
+                place,
+                seen: CountsSeen { commit, counts },
+            },
+        }
+    }
+
+    /// An apply waits for its Touch. Then it waits for an Apply, as long as its shard has an entry up to the place that isn't applied, and
+    /// for a View of the shard as soon as it has none.
+    fn apply_due(
+        &mut self,
+        alloc: Global,
+        session: &Session,
+        client: u32,
+        shard: u64,
+        gathered: &Gathered,
+        step: Step,
+    ) -> Option<Plan>
+        requires shard { shard < self.old.store.shards }
+        requires seen { IsSession self.old session.now }
+        requires gathered { IsGathered self.old session.now (Call.Apply shard) gathered.now }
+        ensures plan { IfSome result (λ p. IsDuePlan self.new session.now client (Call.Apply shard) [] p.body p.effect) }
+        ensures store { self.new.store ≡ self.old.store }
+        ensures counts { self.new.applied.counts ≡ self.old.applied.counts }
+    {
+        // the state's invariant bounds the shards, and so the number
+        let _ = &self.shards;
+        if session.in_transaction() {
+            return Some(Plan::refused(Body::InTransaction));
+        }
+        let Some(place) = gathered.place() else {
+            return None;
+        };
+        if self.pull(alloc).is_err() {
+            return Some(Plan::no_memory());
+        }
+        self.apply_at(session, client, shard as u32, place, gathered, step)
+    }
+
+    /// An apply whose place is known, where each commit of the journal was looked at.
+    fn apply_at(
+        &self,
+        session: &Session,
+        client: u32,
+        shard: u32,
+        place: u64,
+        gathered: &Gathered,
+        step: Step,
+    ) -> Option<Plan>
+        requires shard { shard < self.now.store.shards }
+        requires seen { IsSession self.now session.now }
+        requires gathered { IsGathered self.now session.now (Call.Apply shard) gathered.now }
+        requires outside { session.now.transaction ≡ None }
+        requires place { IsSeenPlace self.now.store.journal session.now place }
+        requires pulled { IsPulled self.now }
+        ensures { IfSome result (λ p. IsDuePlan self.now session.now client (Call.Apply shard) [] p.body p.effect) }
+    {
+        let up_to = self.applied.entries_up_to(shard, place);
+        let applied = self.applied.count(shard);
+        match raised_within(gathered, up_to) {
+            Some(count) => Some(self.tell_applied_at(session, client, shard, place, true, count)),
+            None if step.is_view(shard) && applied >= up_to => {
+                Some(self.tell_applied_at(session, client, shard, place, false, applied))
+            }
+            None => None,
+        }
+    }
+
+    /// Tells whether an entry up to the place was applied for the request, and how many entries of the shard are.
+    fn tell_applied_at(
+        &self,
+        session: &Session,
+        client: u32,
+        shard: u32,
+        place: u64,
+        applied: bool,
+        count: u64,
+    ) -> Plan
+        requires shard { shard < self.now.store.shards }
+        requires seen { IsSession self.now session.now }
+        requires outside { session.now.transaction ≡ None }
+        requires place { IsSeenPlace self.now.store.journal session.now place }
+        requires pulled { IsPulled self.now }
+        requires within { count ≤ count_of self.now.applied.counts shard }
+        requires applied { AppliedCount applied (count_of session.now.counts shard)
+            (entries_by self.now.store.journal self.now.store.shards shard place) count }
+        ensures { IsDuePlan self.now session.now client (Call.Apply shard) [] result.body result.effect }
+    {
+        // for the proof alone: no more is applied than there is
+        let _applied = self.applied.count(shard);
+        Plan {
+            body: Body::Apply {
+                applied,
+                count,
+                place,
+                shard,
+            },
+            effect: Effect::SeeCount(CountSeen {
+                place,
+                shard,
+                count,
+                commit: self.applied.last_commit(shard, count),
+            }),
+        }
+    }
+}
+
+/// The count to which an Apply of the request raised its shard's, if there was one and it isn't above this.
+fn raised_within(gathered: &Gathered, most: u64) -> Option<u64>
+    ensures { IfSome result (λ count. (gathered.now.applied ≡ Some count) × (count ≤ most)) }
+{
+    match gathered.applied() {
+        Some(count) if count <= most => Some(count),
+        _ => None,
+    }
+}

@@ -1,0 +1,226 @@
+//! The replies to open puts and deletes, as soon as nothing is missing.
+ghost use Rattle.std.specs.Prelude.{◌≡◌, ◌≤◌, ◌∷◌, [], true, false, None, Some, IfSome, IsTrue};
+ghost use Rattle.ds_base.specs.Entities.{EntityParts};
+ghost use Rattle.ds_base.specs.Keys.{ends_in_id};
+ghost use Rattle.ds_log.specs.declared.Write.TheVariants as write;
+ghost use Rattle.ds_request.specs.declared.call.Call.{Call};
+ghost use Rattle.ds_request.specs.Entities.{IsPut};
+ghost use Rattle.ds_plans.specs.Due.{IsDuePlan, IsGathered, ids_of};
+ghost use Rattle.ds_plans.specs.Effects.{store_after};
+ghost use Rattle.ds_plans.specs.Answered.{IsPlan};
+ghost use Rattle.ds_plans.specs.States.{IsSession};
+ghost use Rattle.ds_plans.specs.WritePlans.{IsChecked, IsWritable, SaysWrite};
+
+use crate::effect::{Effect, Plan};
+use crate::gathered::{Gathered, Step};
+use crate::session::Session;
+use crate::state::State;
+use ds_base::limits::MAX_ID;
+use ds_base::{Entity, Key, Properties};
+use ds_reply::Body;
+use std::alloc::Global;
+
+impl State {
+    /// A put waits for its Issue, where its key is incomplete, and then for a Commit outside a transaction, and for a Touch inside one.
+    pub(crate) fn put_due(
+        &self,
+        alloc: Global,
+        session: &Session,
+        client: u32,
+        key: Key,
+        incomplete: bool,
+        properties: Properties,
+        gathered: &Gathered,
+        step: Step,
+    ) -> Option<Plan>
+        requires put { IsPut key incomplete properties }
+        requires seen { IsSession self.now session.now }
+        requires gathered { IsGathered self.now session.now (Call.Put key incomplete properties) gathered.now }
+        ensures { IfSome result (λ p. IsDuePlan self.now session.now client (Call.Put key incomplete properties)
+            (ids_of (Call.Put key incomplete properties) gathered.now) p.body p.effect) }
+    {
+        match self.check_put(alloc, session, client, key, incomplete, properties) {
+            Ok(entity) => self.entity_due(
+                alloc, session, client, entity, incomplete, gathered, step,
+            ),
+            Err(plan) => Some(self.refused_due(session, client, gathered, plan)),
+        }
+    }
+
+    /// A put that is refused. Where an id was drawn for it, it was not refused before, and so it isn't now.
+    fn refused_due(&self, session: &Session, client: u32, gathered: &Gathered, plan: Plan) -> Plan
+        requires { store_after plan.effect self.now.store ≡ self.now.store }
+        ensures { (call : Call) → IsPlan self.now session.now client call plan.body plan.effect
+            → IsDuePlan self.now session.now client call (ids_of call gathered.now) result.body result.effect }
+    {
+        match gathered.first() {
+            Some(_) => Plan::no_memory(),
+            None => plan,
+        }
+    }
+
+    /// A put that nothing but the want of further ids can refuse.
+    fn entity_due(
+        &self,
+        alloc: Global,
+        session: &Session,
+        client: u32,
+        entity: Entity,
+        incomplete: bool,
+        gathered: &Gathered,
+        step: Step,
+    ) -> Option<Plan>
+        requires checked { IsChecked self.now session.now entity.key incomplete entity.properties entity }
+        requires ends_in_id { IsTrue incomplete → IsTrue (ends_in_id entity.key.elems) }
+        requires seen { IsSession self.now session.now }
+        requires gathered { IsGathered self.now session.now (Call.Put entity.key incomplete entity.properties) gathered.now }
+        ensures { IfSome result (λ p. IsDuePlan self.now session.now client (Call.Put entity.key incomplete entity.properties)
+            (ids_of (Call.Put entity.key incomplete entity.properties) gathered.now) p.body p.effect) }
+    {
+        if incomplete {
+            self.completed_due(alloc, session, client, entity, gathered, step)
+        } else {
+            self.complete_due(alloc, session, client, entity, gathered, step)
+        }
+    }
+
+    /// A put of a complete key.
+    fn complete_due(
+        &self,
+        alloc: Global,
+        session: &Session,
+        client: u32,
+        entity: Entity,
+        gathered: &Gathered,
+        step: Step,
+    ) -> Option<Plan>
+        requires checked { IsChecked self.now session.now entity.key false entity.properties entity }
+        requires seen { IsSession self.now session.now }
+        requires gathered { IsGathered self.now session.now (Call.Put entity.key false entity.properties) gathered.now }
+        ensures { IfSome result (λ p. IsDuePlan self.now session.now client (Call.Put entity.key false entity.properties)
+            (ids_of (Call.Put entity.key false entity.properties) gathered.now) p.body p.effect) }
+    {
+        if !self.write_due(alloc, session, entity.key(), gathered, step) {
+            return None;
+        }
+        Some(self.say_put(alloc, session, client, entity, false, gathered.place()))
+    }
+
+    /// A put of an incomplete key, which the drawn id completes; it is told where none is left.
+    fn completed_due(
+        &self,
+        alloc: Global,
+        session: &Session,
+        client: u32,
+        entity: Entity,
+        gathered: &Gathered,
+        step: Step,
+    ) -> Option<Plan>
+        requires checked { IsChecked self.now session.now entity.key true entity.properties entity }
+        requires ends_in_id { IsTrue (ends_in_id entity.key.elems) }
+        requires seen { IsSession self.now session.now }
+        requires gathered { IsGathered self.now session.now (Call.Put entity.key true entity.properties) gathered.now }
+        ensures { IfSome result (λ p. IsDuePlan self.now session.now client (Call.Put entity.key true entity.properties)
+            (ids_of (Call.Put entity.key true entity.properties) gathered.now) p.body p.effect) }
+    {
+        match gathered.first() {
+            Some(first) => self.numbered_due(alloc, session, client, entity, first, gathered, step),
+            None => self.unnumbered_due(session, client, entity, gathered, step),
+        }
+    }
+
+    /// A put of an incomplete key for which no id was drawn.
+    fn unnumbered_due(
+        &self,
+        session: &Session,
+        client: u32,
+        entity: Entity,
+        gathered: &Gathered,
+        step: Step,
+    ) -> Option<Plan>
+        requires none { gathered.now.first ≡ None }
+        requires checked { IsChecked self.now session.now entity.key true entity.properties entity }
+        requires seen { IsSession self.now session.now }
+        ensures { IfSome result (λ p. IsDuePlan self.now session.now client (Call.Put entity.key true entity.properties)
+            (ids_of (Call.Put entity.key true entity.properties) gathered.now) p.body p.effect) }
+    {
+        let next = self.book.next();
+        if step.is_issue(1) && next >= MAX_ID {
+            return Some(Plan {
+                body: Body::IdsExhausted { next },
+                effect: Effect::SeeNext { next },
+            });
+        }
+        None
+    }
+
+    /// A put of an incomplete key for which an id was drawn.
+    fn numbered_due(
+        &self,
+        alloc: Global,
+        session: &Session,
+        client: u32,
+        entity: Entity,
+        id: u64,
+        gathered: &Gathered,
+        step: Step,
+    ) -> Option<Plan>
+        requires id { gathered.now.first ≡ Some id }
+        requires checked { IsChecked self.now session.now entity.key true entity.properties entity }
+        requires ends_in_id { IsTrue (ends_in_id entity.key.elems) }
+        requires seen { IsSession self.now session.now }
+        requires gathered { IsGathered self.now session.now (Call.Put entity.key true entity.properties) gathered.now }
+        ensures { IfSome result (λ p. IsDuePlan self.now session.now client (Call.Put entity.key true entity.properties)
+            (ids_of (Call.Put entity.key true entity.properties) gathered.now) p.body p.effect) }
+    {
+        // for the proof alone: it tells what the counter is at most
+        let _next = self.book.next();
+        let mut entity = entity;
+        entity.renumber(id);
+        if !self.write_due(alloc, session, entity.key(), gathered, step) {
+            return None;
+        }
+        Some(self.say_put(alloc, session, client, entity, false, gathered.place()))
+    }
+
+    /// A delete waits for a Commit outside a transaction, and for a Touch inside one; a refusal waits for nothing.
+    pub(crate) fn delete_due(
+        &self,
+        alloc: Global,
+        session: &Session,
+        client: u32,
+        key: Key,
+        gathered: &Gathered,
+        step: Step,
+    ) -> Option<Plan>
+        requires seen { IsSession self.now session.now }
+        requires gathered { IsGathered self.now session.now (Call.Delete key) gathered.now }
+        ensures { IfSome result (λ p. IsDuePlan self.now session.now client (Call.Delete key) [] p.body p.effect) }
+    {
+        let due = self.write_due(alloc, session, &key, gathered, step);
+        let plan = self.plan_delete(alloc, session, client, key, gathered.place());
+        if due || plan.is_refusal() {
+            return Some(plan);
+        }
+        None
+    }
+
+    /// Whether the write of a key waits for no further step: outside a transaction it waits for a Commit, and inside one for a Touch, unless
+    /// its group is touched. Where there is no memory to tell it waits no longer, and the reply is that there is none.
+    fn write_due(
+        &self,
+        alloc: Global,
+        session: &Session,
+        key: &Key,
+        gathered: &Gathered,
+        step: Step,
+    ) -> bool {
+        if !session.in_transaction() {
+            return step.is_commit();
+        }
+        match key.root(alloc) {
+            Ok(group) => gathered.place().is_some() || session.touch_place(&group).is_some(),
+            Err(_) => true,
+        }
+    }
+}

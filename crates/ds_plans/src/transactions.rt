@@ -1,0 +1,136 @@
+//! Transactions begin and end, and ids are drawn.
+ghost use Rattle.std.specs.Prelude.{◌≡◌, ◌≤◌, Some, IfOk};
+ghost use Rattle.ds_log.specs.Conflicts.{conflict_of};
+ghost use Rattle.ds_model.specs.Answers.{commit_of};
+ghost use Rattle.ds_request.specs.declared.call.Call.{Call};
+ghost use Rattle.ds_plans.specs.Answered.{IsPlan};
+ghost use Rattle.ds_plans.specs.States.{IsSession};
+ghost use Rattle.ds_plans.specs.Transactions.{HasTouched, transaction_of};
+
+use crate::effect::{Effect, Plan};
+use crate::session::Session;
+use crate::state::State;
+use ds_base::limits::MAX_ID;
+use ds_base::{NoMemory, TryCopy};
+use ds_journal::Draft;
+use ds_log::Conflict;
+use ds_reply::Body;
+use ds_txn::Txn;
+use std::alloc::Global;
+
+impl State {
+    /// A transaction begins, where there is none.
+    pub fn plan_begin(&self, session: &Session, client: u32, several_groups: bool) -> Plan
+        ensures { IsPlan self.now session.now client (Call.Begin several_groups) result.body result.effect }
+    {
+        if session.in_transaction() {
+            return Plan::refused(Body::InTransaction);
+        }
+        Plan {
+            body: Body::Begin,
+            effect: Effect::Begin { several_groups },
+        }
+    }
+
+    /// The transaction ends without a commit.
+    pub fn plan_rollback(&self, session: &Session, client: u32) -> Plan
+        ensures { IsPlan self.now session.now client Call.Rollback result.body result.effect }
+    {
+        if !session.in_transaction() {
+            return Plan::refused(Body::NoTransaction);
+        }
+        Plan {
+            body: Body::Rollback,
+            effect: Effect::End,
+        }
+    }
+
+    /// So many ids are drawn, where so many are left.
+    pub fn plan_allocate_ids(&self, session: &Session, client: u32, count: u64) -> Plan
+        requires some { 1 ≤ count }
+        requires seen { IsSession self.now session.now }
+        ensures { IsPlan self.now session.now client (Call.AllocateIds count) result.body result.effect }
+    {
+        let next = self.book.next();
+        if count > MAX_ID - next {
+            return Plan {
+                body: Body::IdsExhausted { next },
+                effect: Effect::SeeNext { next },
+            };
+        }
+        Plan {
+            body: Body::AllocateIds { first: next, count },
+            effect: Effect::Draw { count },
+        }
+    }
+
+    /// The transaction is committed, unless a commit after a touch wrote the touched group; then it ends all the same.
+    pub fn plan_commit(&self, alloc: Global, session: &Session, client: u32) -> Plan
+        requires { IsSession self.now session.now }
+        ensures { IsPlan self.now session.now client Call.Commit result.body result.effect }
+    {
+        match session.transaction() {
+            Some(txn) => self.plan_commit_of(alloc, session, client, txn),
+            None => Plan::refused(Body::NoTransaction),
+        }
+    }
+
+    fn plan_commit_of(&self, alloc: Global, session: &Session, client: u32, txn: &Txn) -> Plan
+        requires seen { IsSession self.now session.now }
+        requires inside { session.now.transaction ≡ Some (transaction_of txn.now) }
+        ensures { IsPlan self.now session.now client Call.Commit result.body result.effect }
+    {
+        let Ok(draft) = draft_of(alloc, client, txn) else {
+            return Plan::no_memory();
+        };
+        match self.book.check(&draft) {
+            Ok(()) => {
+                let commit = self.book.journal().len() as u64 + 1;
+                Plan {
+                    body: Body::Commit { commit },
+                    effect: Effect::CommitTransaction(draft),
+                }
+            }
+            Err(conflict) => self.plan_conflict(alloc, session, client, &draft, conflict),
+        }
+    }
+
+    fn plan_conflict(
+        &self,
+        alloc: Global,
+        session: &Session,
+        client: u32,
+        draft: &Draft,
+        conflict: Conflict,
+    ) -> Plan
+        requires seen { IsSession self.now session.now }
+        requires inside { HasTouched session.now.transaction draft.now.touched }
+        requires conflict { conflict_of self.now.store.journal draft.now.touched ≡ Some conflict }
+        ensures { IsPlan self.now session.now client Call.Commit result.body result.effect }
+    {
+        let Some(touch) = draft.commit().touched.get(conflict.group as usize) else {
+            return Plan::no_memory();
+        };
+        match touch.group.copy(alloc) {
+            Ok(group) => Plan {
+                body: Body::Conflict {
+                    commit: conflict.commit,
+                    group,
+                    place: conflict.place,
+                },
+                effect: Effect::EndAt {
+                    place: conflict.place,
+                },
+            },
+            Err(_) => Plan::no_memory(),
+        }
+    }
+}
+
+/// The commit that the transaction asks for. A refusal is want of memory.
+fn draft_of(alloc: Global, client: u32, txn: &Txn) -> Result<Draft, NoMemory>
+    ensures { IfOk result (λ d. d ≡ commit_of client (transaction_of txn.now)) }
+{
+    let parts = txn.parts(alloc)?;
+    Draft::make(alloc, client, parts.touched, parts.writes)
+}
