@@ -17,16 +17,21 @@ fn put<T: Drop>(list: &mut Sequence<T>, item: T) -> Result<(), Fail> {
     }
 }
 
-/// Whether the reply to client 3 is this line, and has the length that is told before.
+/// Whether the reply is this line, and has the length that is told before.
+fn is_written(alloc: Global, reply: &Reply, expected: &str) -> Result<bool, NoMemory> {
+    let mut out = Buffer::new(alloc);
+    write_reply(reply, &mut out)?;
+    Ok(reply_room(reply) == out.bytes().len() as u64 && has_end(out.bytes(), expected))
+}
+
+/// Whether the reply to client 3 is this line.
 fn is_line(alloc: Global, number: u64, body: Body, expected: &str) -> Result<bool, NoMemory> {
     let reply = Reply {
         client: 3,
         line: number,
         body,
     };
-    let mut out = Buffer::new(alloc);
-    write_reply(&reply, &mut out)?;
-    Ok(reply_room(&reply) == out.bytes().len() as u64 && has_end(out.bytes(), expected))
+    is_written(alloc, &reply, expected)
 }
 
 /// Whether the bytes are the text and a newline.

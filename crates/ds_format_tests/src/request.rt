@@ -1,7 +1,7 @@
 //! Lines and what is read of them: everything that can be wrong with each operation, and what is told of it.
 use ds_base::limits::MAX_LINE_BYTES;
 use ds_query::Field;
-use ds_request::{Call, RequestRefused, read_request};
+use ds_request::{Call, Request, RequestRefused, read_request};
 use std::alloc::{AllocError, Global};
 use std::test::Fail;
 
@@ -42,19 +42,26 @@ fn refused(refused: RequestRefused) -> (u32, &'static str, Field) {
     }
 }
 
+/// What is told of a request.
+fn told_as_read(alloc: Global, request: &Request) -> Result<String, AllocError> {
+    let (name, number) = asked(&request.call);
+    format!(in alloc; "{} {name} {number}", request.client)
+}
+
+/// What is told of a line that is refused.
+fn told_as_refused(alloc: Global, error: RequestRefused) -> Result<String, AllocError> {
+    let (client, name, field) = refused(error);
+    format!(in alloc; "{client} {name} {}", field.name())
+}
+
+/// What is told of a line.
 fn told(alloc: Global, line: &[u8]) -> Result<String, AllocError> {
     if line.len() > MAX_LINE_BYTES {
         return String::from_str(alloc, "too long");
     }
     match read_request(alloc, line) {
-        Ok(request) => {
-            let (name, number) = asked(&request.call);
-            format!(in alloc; "{} {name} {number}", request.client)
-        }
-        Err(error) => {
-            let (client, name, field) = refused(error);
-            format!(in alloc; "{client} {name} {}", field.name())
-        }
+        Ok(request) => told_as_read(alloc, &request),
+        Err(error) => told_as_refused(alloc, error),
     }
 }
 
