@@ -142,24 +142,17 @@ const ORDERS: [&str; 5] = [
     "[\"__key__\",\"desc\"]",
 ];
 
-fn put_asked(alloc: Global, asked: &str, normals: &mut Vec<Normal>) -> Result<(), Fail> {
-    for equal in &EQUAL {
-        for range in &RANGES {
-            put_ordered(alloc, asked, *equal, *range, normals)?;
-        }
-    }
-    Ok(())
-}
-
-/// Puts the queries in each order. Each filter has a comma before it.
+/// The queries of these conditions in each order, of one kind, ancestor and projection after the other. Each filter has a comma
+/// before it.
 fn put_ordered(
     alloc: Global,
-    asked: &str,
     equal: &str,
     range: &str,
+    turn: usize,
     normals: &mut Vec<Normal>,
 ) -> Result<(), Fail> {
-    for order in &ORDERS {
+    for (place, order) in ORDERS.iter().enumerate() {
+        let asked = asked_at(turn.wrapping_add(place));
         let filters = format!(in alloc; "{equal}{range}")?;
         let filters = filters.as_str().strip_prefix(',').unwrap_or("");
         let members = format!(in alloc; "{asked},\"filters\":[{filters}],\"orders\":[{order}]")?;
@@ -170,11 +163,26 @@ fn put_ordered(
     Ok(())
 }
 
-/// The queries of each of these conditions and orders that aren't refused, in their normal form.
+fn asked_at(turn: usize) -> &'static str {
+    match ASKED.get(turn % 5) {
+        Some(asked) => *asked,
+        None => "",
+    }
+}
+
+/// The queries of these conditions and orders that aren't refused, in their normal form.
 pub(crate) fn made_queries(alloc: Global) -> Result<Vec<Normal>, Fail> {
     let mut normals = Vec::new(alloc);
-    for asked in &ASKED {
-        put_asked(alloc, *asked, &mut normals)?;
+    for (turn, equal) in EQUAL.iter().enumerate() {
+        for (place, range) in RANGES.iter().enumerate() {
+            put_ordered(
+                alloc,
+                *equal,
+                *range,
+                turn.wrapping_add(place),
+                &mut normals,
+            )?;
+        }
     }
     Ok(normals)
 }

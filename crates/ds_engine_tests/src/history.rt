@@ -16,7 +16,7 @@ use std::sync::ledger::{Blank, Ledger};
 use std::test::Fail;
 
 /// How many entries the history has.
-const ENTRIES: u64 = 20;
+const ENTRIES: u64 = 300;
 
 /// The window of the store that forgets.
 const SHORT: u64 = 4;
@@ -98,7 +98,7 @@ fn all_agree<L: Ledger>(blank: Blank, alloc: Global) -> Result<bool, Fail>
     let (store, entries) = absorbed(alloc)?;
     let mut asked = served(alloc, &store, &mut steps)?;
     let mut entities = BTreeMap::new(alloc);
-    if asked.len() < 50 || !agree_at(alloc, &store, 0, &[], asked.as_mut_slice(), &mut steps)? {
+    if asked.len() < 30 || !agree_at(alloc, &store, 0, &[], asked.as_mut_slice(), &mut steps)? {
         return Ok(false);
     }
     for entry in &entries {
