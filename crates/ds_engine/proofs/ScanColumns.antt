@@ -160,7 +160,7 @@ plain_values e [] h = refl
 plain_values e (c ∷ cs) h =
     let s = both (not (is_key_name c.name)) (list_all (λ c. not (is_key_name c.name)) cs) h in
     λ i. cond (not_true (is_key_name c.name) s.0 i) (class.Key e.key ∷ []) (values_in e c)
-        ∷ plain_values e cs s.1 i
+    ∷ plain_values e cs s.1 i
 
 lists_in_front : (e : EntityParts) (i : Index) → IsNamed i → index_lists e i ≡ map (λ c. column_values e c.name) (front_columns (columns_of i))
 lists_in_front e AllByKey n = refl

@@ -292,7 +292,7 @@ module _ (q : Branch) (defs : List IndexDef) (s : PlannedScan) (e : EntityParts)
       let is = all_member (IsOwn defs e j) (index_rows e j) r (own_rows defs e j known.entity own) w.1.0 in
       let key : r.parts.key ≡ e.key = is.1 in
       let bytes : index_front j r.parts.key.namespace (kind_of r.parts.key) ++ row_rest j r
-          ≡ index_front index q.namespace (unwrap_or q.kind []) ++ ((ancestor_bytes s.ancestor ++ columns_bytes lead_directions bound_values) ++ x) =
+      ≡ index_front index q.namespace (unwrap_or q.kind []) ++ ((ancestor_bytes s.ancestor ++ columns_bytes lead_directions bound_values) ++ x) =
       sym w.1.1 ∙ ap (λ (bs : List ℕ). bs ++ x) prefix_is
       ∙ append_assoc (index_front index q.namespace (unwrap_or q.kind [])) (ancestor_bytes s.ancestor ++ columns_bytes lead_directions bound_values) x in
       let same = fronts_apart defs known.definitions.few j index r.parts.key.namespace (kind_of r.parts.key) q.namespace (unwrap_or q.kind [])

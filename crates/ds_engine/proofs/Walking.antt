@@ -176,33 +176,33 @@ module _ (columns : List Column) (names : List (List ℕ)) where
     one_further kept [] up rows least m = absurd m
     one_further kept (x ∷ xs) up rows least m =
         by (reached last x) refl (λ ks h. one_further ks xs up.1 (λ y n. rows y (inr n)) (λ y n. least y (inr n)) h) where
-      w : List RowParts → RowParts → List RowParts
-      w = with_item (same_mark columns names)
+          w : List RowParts → RowParts → List RowParts
+          w = with_item (same_mark columns names)
 
-      in_rest : reached last x ≡ true → (row ≡ x) ⊎ Member row xs → Member row xs
-      in_rest e (inl h) = true_false (Member row xs) (reached last row) (ap (reached last) h ∙ e) not_before
-      in_rest e (inr n) = n
+          in_rest : reached last x ≡ true → (row ≡ x) ⊎ Member row xs → Member row xs
+          in_rest e (inl h) = true_false (Member row xs) (reached last row) (ap (reached last) h ∙ e) not_before
+          in_rest e (inr n) = n
 
-      by : (b : Bool) → reached last x ≡ b
-          → ((ks : List RowParts) → Member row xs → fold w ks (filter (reached (Some a)) xs) ≡ w (fold w ks (filter (reached last) xs)) row)
-          → fold w kept (filter (reached (Some a)) (x ∷ xs)) ≡ w (fold w kept (filter (reached last) (x ∷ xs))) row
-      by true e further =
-          ap (λ b. fold w kept (cond b (x ∷ filter (reached (Some a)) xs) (filter (reached (Some a)) xs))) (was_reached x e)
-          ∙ further (w kept x) (in_rest e m)
-          ∙ ap (λ b. w (fold w kept (cond b (x ∷ filter (reached last) xs) (filter (reached last) xs))) row) (sym e)
-      by false e further =
-          let all : List RowParts = filter (reached (Some a)) (x ∷ xs) in
-          all_one (same_mark columns names) kept all row (mark_itself columns names row)
-          (λ y n.
-          let f = filter_member (reached (Some a)) (x ∷ xs) y n in
-          same_place y (rows y f.0) f.1 (least y f.0 (all_later y f.0)))
-          (member_filter (reached (Some a)) (x ∷ xs) row m at_row)
-          ∙ ap (λ ys. w (fold w kept ys) row) (sym (none_reached last x xs up.0 e)) where
-            all_later : (y : RowParts) → Member y (x ∷ xs) → reached last y ≡ false
-            all_later y n = by3 (reached last y) refl where
-              by3 : (b : Bool) → reached last y ≡ b → b ≡ false
-              by3 false g = refl
-              by3 true g = absurd (subst (λ ys. Member y ys) (none_reached last x xs up.0 e) (member_filter (reached last) (x ∷ xs) y n g))
+          by : (b : Bool) → reached last x ≡ b
+              → ((ks : List RowParts) → Member row xs → fold w ks (filter (reached (Some a)) xs) ≡ w (fold w ks (filter (reached last) xs)) row)
+              → fold w kept (filter (reached (Some a)) (x ∷ xs)) ≡ w (fold w kept (filter (reached last) (x ∷ xs))) row
+          by true e further =
+              ap (λ b. fold w kept (cond b (x ∷ filter (reached (Some a)) xs) (filter (reached (Some a)) xs))) (was_reached x e)
+              ∙ further (w kept x) (in_rest e m)
+              ∙ ap (λ b. w (fold w kept (cond b (x ∷ filter (reached last) xs) (filter (reached last) xs))) row) (sym e)
+          by false e further =
+              let all : List RowParts = filter (reached (Some a)) (x ∷ xs) in
+              all_one (same_mark columns names) kept all row (mark_itself columns names row)
+              (λ y n.
+              let f = filter_member (reached (Some a)) (x ∷ xs) y n in
+              same_place y (rows y f.0) f.1 (least y f.0 (all_later y f.0)))
+              (member_filter (reached (Some a)) (x ∷ xs) row m at_row)
+              ∙ ap (λ ys. w (fold w kept ys) row) (sym (none_reached last x xs up.0 e)) where
+                all_later : (y : RowParts) → Member y (x ∷ xs) → reached last y ≡ false
+                all_later y n = by3 (reached last y) refl where
+                  by3 : (b : Bool) → reached last y ≡ b → b ≡ false
+                  by3 false g = refl
+                  by3 true g = absurd (subst (λ ys. Member y ys) (none_reached last x xs up.0 e) (member_filter (reached last) (x ∷ xs) y n g))
 
   -- what was kept so far stands in front of all that will be
   pub kept_first : (last : Option (List ℕ)) (kept xs : List RowParts) → Ascends bytes_cmp (map (place_of columns) xs)

@@ -90,10 +90,12 @@ pub fn branch_rows<T: Tables, L: Ledger>(
         Ok(plan) => Ok(answer(
             alloc, tables, at, branch, defs, &plan, start, end, most, steps,
         )?),
-        Err(PlanRefused::MissingIndex {
-            constraint,
-            suggestion,
-        }) => Err(EngineRefused::MissingIndex {
+        Err(
+            PlanRefused::MissingIndex {
+                constraint,
+                suggestion,
+            },
+        ) => Err(EngineRefused::MissingIndex {
             constraint,
             suggestion,
         }),

@@ -34,7 +34,11 @@ impl Model for FirstRows {
 
 impl FirstRows {
     /// No row yet, of rows of these columns with these names projected. Refused: want of memory.
-    pub fn new(alloc: Global, columns: &[Column], names: &[TextString]) -> Result<FirstRows, NoMemory>
+    pub fn new(
+        alloc: Global,
+        columns: &[Column],
+        names: &[TextString],
+    ) -> Result<FirstRows, NoMemory>
         ensures slots { IfOk result (λ f. f.slots ≡ map (slot_of columns.now) names.now) }
         ensures none { IfOk result (λ f. f.rows ≡ []) }
     {
