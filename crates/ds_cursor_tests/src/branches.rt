@@ -1,6 +1,7 @@
 //! Branches and places to make cursors of.
 use ds_base::{
     Buffer, ByteString, Column, Columns, Elem, Elems, Ident, IndexValue, Key, NoMemory, TextString,
+    TryCopy,
 };
 use ds_bytes::{encode, encode_key};
 use ds_query::{Branch, Pairs, Place, Range, Select};
@@ -30,16 +31,19 @@ pub fn branch(
     kind: &str,
     first: Option<(&str, bool)>,
 ) -> Result<Branch, NoMemory> {
+    let namespace = TextString::of(alloc, namespace)?;
+    let kind = TextString::of(alloc, kind)?;
+    let columns = columns(alloc, first)?;
     Ok(Branch {
-        namespace: TextString::of(alloc, namespace)?,
-        kind: Some(TextString::of(alloc, kind)?),
+        namespace,
+        kind: Some(kind),
         ancestor: None,
         equal: Pairs::new(alloc),
         range: Range {
             lower: None,
             upper: None,
         },
-        columns: columns(alloc, first)?,
+        columns,
         select: Select::Entities,
     })
 }
@@ -50,6 +54,17 @@ pub fn key(alloc: Global, namespace: &str, kind: &str, name: &str) -> Result<Key
     let ident = Ident::Name(TextString::of(alloc, name)?);
     let path = Elems::from(vec![in alloc; Elem { kind, ident }]?);
     Ok(Key::within(TextString::of(alloc, namespace)?, path)?)
+}
+
+/// The key of a child with an id.
+pub fn child(alloc: Global, parent: &Key, kind: &str, id: u64) -> Result<Key, Fail> {
+    let mut path = parent.elems().copy(alloc)?.into_vec();
+    let kind = TextString::of(alloc, kind)?;
+    path.push(Elem {
+        kind,
+        ident: Ident::Id(id),
+    })?;
+    Ok(Key::new(alloc, Elems::from(path))?)
 }
 
 /// The place of a row with this key and, before it, the value of one column with its direction.

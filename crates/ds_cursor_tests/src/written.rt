@@ -1,6 +1,6 @@
 //! What is written is the text that was made outside, and is read back as the same place.
-use crate::branches::{branch, key, place};
-use ds_base::{Elem, Elems, Ident, Key, NoMemory, TextString};
+use crate::branches::{branch, child, key, place};
+use ds_base::{Key, NoMemory};
 use ds_cursor::{read, write};
 use ds_query::{Branch, Place, Select};
 use std::alloc::Global;
@@ -24,52 +24,90 @@ fn agrees(
     }
 }
 
+/// The same of the branch of a kind of a namespace, sorted by this column before the key.
+fn agrees_on(
+    alloc: Global,
+    namespace: &str,
+    kind: &str,
+    first: Option<(&str, bool)>,
+    place: Option<&Place>,
+    text: &str,
+) -> Result<bool, NoMemory> {
+    let branch = branch(alloc, namespace, kind, first)?;
+    agrees(alloc, &branch, place, text)
+}
+
+/// The same where the keys of tasks are selected.
+fn agrees_on_keys(
+    alloc: Global,
+    namespace: &str,
+    place: Option<&Place>,
+    text: &str,
+) -> Result<bool, NoMemory> {
+    let mut tasks = branch(alloc, namespace, "Task", None)?;
+    tasks.select = Select::Keys;
+    agrees(alloc, &tasks, place, text)
+}
+
+/// The same of the greetings under a guestbook, the newest first.
+fn agrees_under(
+    alloc: Global,
+    guestbook: Key,
+    place: Option<&Place>,
+    text: &str,
+) -> Result<bool, NoMemory> {
+    let mut newest = branch(alloc, "", "Greeting", Some(("date", true)))?;
+    newest.ancestor = Some(guestbook);
+    agrees(alloc, &newest, place, text)
+}
+
+/// The place of the entity `a` of a kind, and before its key a number that ascends.
+fn place_of_a(
+    alloc: Global,
+    namespace: &str,
+    kind: &str,
+    number: Option<(i64, bool)>,
+) -> Result<Place, Fail> {
+    let a = key(alloc, namespace, kind, "a")?;
+    Ok(place(alloc, number, &a)?)
+}
+
+/// The place of a greeting of 2000 under a guestbook, the newest first.
+fn place_under(alloc: Global, guestbook: &Key) -> Result<Place, Fail> {
+    let greeting = child(alloc, guestbook, "Greeting", 4_503_599_627_370_497)?;
+    Ok(place(alloc, Some((2000, true)), &greeting)?)
+}
+
+const BEFORE_TASKS: &str = "AQAAABcBVGFzawABAAAAAV9fa2V5X18AAQAAAAA=";
+
+const AT_A: &str = "AQAAABcBVGFzawABAAAAAV9fa2V5X18AAQAAAAECVGFzawABIGEAAQE=";
+
+const IN_X: &str = "AgAAABp4AAEBVGFzawABAAAAAV9fa2V5X18AAQAAAAEDeAABAlRhc2sAASBhAAEB";
+
+const KEYS_IN_X: &str = "AgAAABp4AAEBVGFzawABAAAAAV9fa2V5X18AAQAAAQEDeAABAlRhc2sAASBhAAEB";
+
+const AT_ONE: &str = "AQAAABkBVAABAAAAAXYAAQABX19rZXlfXwABAAAAASCAAAAAAAAAAQJUAAEgYQABAQ==";
+
+const AT_BOB: &str =
+    "AQAAADoBR3JlZXRpbmcAAQECR3Vlc3Rib29rAAEgZGVmYXVsdAABAQAAAWRhdGUAAQEBX19rZXlfXwABAAAAAd9////////4LwJHdWVzdGJvb2sAASBkZWZhdWx0AAECR3JlZXRpbmcAARAAEAAAAAAAAQE=";
+
 #[test]
 fn of_one_kind(rt: HostRuntime) -> Result<(), Fail> {
     let alloc = rt.alloc();
-    let task = branch(alloc, "", "Task", None)?;
-    let at_a = place(alloc, None, &key(alloc, "", "Task", "a")?)?;
-    assert!(rt;
-        agrees(
-            alloc,
-            &task,
-            None,
-            "AQAAABcBVGFzawABAAAAAV9fa2V5X18AAQAAAAA="
-        )?
-    );
-    assert!(rt;
-        agrees(
-            alloc,
-            &task,
-            Some(&at_a),
-            "AQAAABcBVGFzawABAAAAAV9fa2V5X18AAQAAAAECVGFzawABIGEAAQE="
-        )?
-    );
+    let at_a = place_of_a(alloc, "", "Task", None)?;
+    let in_tasks = agrees_on(alloc, "", "Task", None, Some(&at_a), AT_A)?;
+    assert!(rt; in_tasks);
+    assert!(rt; agrees_on(alloc, "", "Task", None, None, BEFORE_TASKS)?);
     Ok(())
 }
 
 #[test]
 fn of_a_namespace(rt: HostRuntime) -> Result<(), Fail> {
     let alloc = rt.alloc();
-    let at_a = place(alloc, None, &key(alloc, "x", "Task", "a")?)?;
-    let mut task = branch(alloc, "x", "Task", None)?;
-    assert!(rt;
-        agrees(
-            alloc,
-            &task,
-            Some(&at_a),
-            "AgAAABp4AAEBVGFzawABAAAAAV9fa2V5X18AAQAAAAEDeAABAlRhc2sAASBhAAEB"
-        )?
-    );
-    task.select = Select::Keys;
-    assert!(rt;
-        agrees(
-            alloc,
-            &task,
-            Some(&at_a),
-            "AgAAABp4AAEBVGFzawABAAAAAV9fa2V5X18AAQAAAQEDeAABAlRhc2sAASBhAAEB"
-        )?
-    );
+    let at_a = place_of_a(alloc, "x", "Task", None)?;
+    let in_x = agrees_on(alloc, "x", "Task", None, Some(&at_a), IN_X)?;
+    let keys_in_x = agrees_on_keys(alloc, "x", Some(&at_a), KEYS_IN_X)?;
+    assert!(rt; in_x && keys_in_x);
     Ok(())
 }
 
@@ -77,16 +115,9 @@ fn of_a_namespace(rt: HostRuntime) -> Result<(), Fail> {
 #[test]
 fn of_a_column(rt: HostRuntime) -> Result<(), Fail> {
     let alloc = rt.alloc();
-    let by_value = branch(alloc, "", "T", Some(("v", false)))?;
-    let at_one = place(alloc, Some((1, false)), &key(alloc, "", "T", "a")?)?;
-    assert!(rt;
-        agrees(
-            alloc,
-            &by_value,
-            Some(&at_one),
-            "AQAAABkBVAABAAAAAXYAAQABX19rZXlfXwABAAAAASCAAAAAAAAAAQJUAAEgYQABAQ=="
-        )?
-    );
+    let at_one = place_of_a(alloc, "", "T", Some((1, false)))?;
+    let by_value = agrees_on(alloc, "", "T", Some(("v", false)), Some(&at_one), AT_ONE)?;
+    assert!(rt; by_value);
     Ok(())
 }
 
@@ -94,25 +125,9 @@ fn of_a_column(rt: HostRuntime) -> Result<(), Fail> {
 #[test]
 fn under_an_ancestor(rt: HostRuntime) -> Result<(), Fail> {
     let alloc = rt.alloc();
-    let mut newest = branch(alloc, "", "Greeting", Some(("date", true)))?;
-    newest.ancestor = Some(key(alloc, "", "Guestbook", "default")?);
-    let guestbook = Elem {
-        kind: TextString::of(alloc, "Guestbook")?,
-        ident: Ident::Name(TextString::of(alloc, "default")?),
-    };
-    let greeting = Elem {
-        kind: TextString::of(alloc, "Greeting")?,
-        ident: Ident::Id(4_503_599_627_370_497),
-    };
-    let path = Elems::from(vec![in alloc; guestbook, greeting]?);
-    let at_bob = place(alloc, Some((2000, true)), &Key::new(alloc, path)?)?;
-    assert!(rt;
-        agrees(
-            alloc,
-            &newest,
-            Some(&at_bob),
-            "AQAAADoBR3JlZXRpbmcAAQECR3Vlc3Rib29rAAEgZGVmYXVsdAABAQAAAWRhdGUAAQEBX19rZXlfXwABAAAAAd9////////4LwJHdWVzdGJvb2sAASBkZWZhdWx0AAECR3JlZXRpbmcAARAAEAAAAAAAAQE="
-        )?
-    );
+    let guestbook = key(alloc, "", "Guestbook", "default")?;
+    let at_bob = place_under(alloc, &guestbook)?;
+    let under = agrees_under(alloc, guestbook, Some(&at_bob), AT_BOB)?;
+    assert!(rt; under);
     Ok(())
 }

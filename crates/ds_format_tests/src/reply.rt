@@ -1,17 +1,14 @@
-//! Replies as text: each operation that went well and each refusal, how keys, values, projections and cursors are shown,
-//! and what the escapes are.
+//! Replies as text: refusals, how keys, values and projections are shown, and what the escapes are. What went well, and the refusals
+//! that hold a group or a pair, are shown by the examples, which are served and compared.
 use ds_base::{
-    Buffer, ByteString, Column, Columns, Counts, Elem, Elems, Entity, Ident, IndexValue,
-    IndexValues, Item, Key, Names, Properties, Property, Results, Seen, Sequence, TextString,
-    Value, Values,
+    Buffer, ByteString, Columns, Elem, Elems, Entity, Ident, IndexValue, IndexValues, Item, Key,
+    Names, NoMemory, Properties, Property, Results, Seen, Sequence, TextString, Value, Values,
 };
 use ds_indexdef::IndexDef;
-use ds_query::{Constraint, Field, Pair, Reason, Select};
-use ds_reply::{Body, Reply, WriteAt, reply_room, write_reply};
+use ds_query::{Constraint, Field, Reason, Select};
+use ds_reply::{Body, Reply, reply_room, write_reply};
 use std::alloc::Global;
 use std::test::Fail;
-
-type Bodies = Sequence<Body>;
 
 fn put<T: Drop>(list: &mut Sequence<T>, item: T) -> Result<(), Fail> {
     match list.push(item) {
@@ -20,30 +17,23 @@ fn put<T: Drop>(list: &mut Sequence<T>, item: T) -> Result<(), Fail> {
     }
 }
 
-/// The lines of replies to client 3, numbered from 1; none where a line hasn't the length that is told before.
-fn lines(alloc: Global, bodies: Bodies) -> Result<Option<Buffer>, Fail> {
+/// Whether the reply to client 3 is this line, and has the length that is told before.
+fn is_line(alloc: Global, number: u64, body: Body, expected: &str) -> Result<bool, NoMemory> {
+    let reply = Reply {
+        client: 3,
+        line: number,
+        body,
+    };
     let mut out = Buffer::new(alloc);
-    let mut line = 0u64;
-    for body in bodies.into_vec() {
-        line = line.saturating_add(1);
-        let reply = Reply {
-            client: 3,
-            line,
-            body,
-        };
-        let before = out.bytes().len();
-        write_reply(&reply, &mut out)?;
-        if reply_room(&reply) != out.bytes().len().saturating_sub(before) as u64 {
-            return Ok(None);
-        }
-    }
-    Ok(Some(out))
+    write_reply(&reply, &mut out)?;
+    Ok(reply_room(&reply) == out.bytes().len() as u64 && has_end(out.bytes(), expected))
 }
 
-fn are_lines(alloc: Global, bodies: Bodies, expected: &str) -> Result<bool, Fail> {
-    match lines(alloc, bodies)? {
-        Some(out) => Ok(out.bytes() == expected.as_bytes()),
-        None => Ok(false),
+/// Whether the bytes are the text and a newline.
+fn has_end(bytes: &[u8], text: &str) -> bool {
+    match bytes.split_last() {
+        None => false,
+        Some((last, front)) => *last == b'\n' && front == text.as_bytes(),
     }
 }
 
@@ -63,31 +53,6 @@ fn key(alloc: Global, namespace: &str, name: &str) -> Result<Key, Fail> {
     Ok(Key::within(text(alloc, namespace)?, path)?)
 }
 
-/// A key of two elements, the second with an id.
-fn child(alloc: Global) -> Result<Key, Fail> {
-    let mut path = Elems::new(alloc);
-    let root = Ident::Name(text(alloc, "a")?);
-    put(
-        &mut path,
-        Elem {
-            kind: text(alloc, "Task")?,
-            ident: root,
-        },
-    )?;
-    put(
-        &mut path,
-        Elem {
-            kind: text(alloc, "Step")?,
-            ident: Ident::Id(4503599627370496),
-        },
-    )?;
-    Ok(Key::new(alloc, path)?)
-}
-
-fn counts(alloc: Global, count: u64) -> Result<Counts, Fail> {
-    Ok(Counts::from(vec![in alloc; count, 7]?))
-}
-
 // ---- refusals
 
 const REFUSALS: &str = r#"{"client":3,"error":1,"line":1,"name":"BadJson"}
@@ -99,75 +64,77 @@ const REFUSALS: &str = r#"{"client":3,"error":1,"line":1,"name":"BadJson"}
 {"client":3,"count":20001,"error":7,"line":7,"name":"TooManyRows"}
 {"client":3,"error":8,"line":8,"name":"InTransaction"}
 {"client":3,"error":9,"line":9,"name":"NoTransaction"}
-{"client":3,"error":10,"group":["n",["Task","a"]],"line":10,"name":"SecondGroup"}
-{"client":3,"error":10,"group":null,"line":11,"name":"SecondGroup"}
-{"client":3,"error":11,"line":12,"name":"TooManyGroups"}
-{"client":3,"error":12,"line":13,"name":"TooManyWrites"}
-{"client":3,"commit":9,"error":13,"group":[["Task","a"]],"line":14,"name":"Conflict","place":8}
-{"client":3,"error":14,"line":15,"name":"NeedAncestor"}
-{"client":3,"error":15,"line":16,"name":"BadQuery","reason":"projection_equal"}
-{"client":3,"count":31,"error":16,"line":17,"name":"TooManySubqueries"}
-{"client":3,"constraint":{"property":"p","value":"x"},"error":17,"line":18,"name":"MissingIndex","suggestion":{"ancestor":true,"kind":"Task","properties":[["p","asc"],["q","desc"]]}}
-{"client":3,"constraint":"columns","error":17,"line":19,"name":"MissingIndex","suggestion":{"ancestor":false,"kind":"Task","properties":[]}}
-{"client":3,"constraint":"ancestor","error":17,"line":20,"name":"MissingIndex","suggestion":{"ancestor":false,"kind":"Task","properties":[]}}
-{"client":3,"error":18,"field":"start","line":21,"name":"BadCursor"}
-{"client":3,"error":19,"field":"end","line":22,"name":"CursorMismatch"}
-{"at":12,"client":3,"error":20,"line":23,"name":"BadGql"}
-{"client":3,"error":21,"id":5,"line":24,"name":"IdNotIssued","next":4}
-{"client":3,"error":22,"line":25,"name":"IdsExhausted","next":9223372036854775807}
-{"applied":3,"client":3,"error":23,"line":26,"name":"Expired","place":2,"snapshot":1}
-{"client":3,"error":24,"line":27,"name":"NoMemory"}
+{"client":3,"error":10,"group":null,"line":10,"name":"SecondGroup"}
+{"client":3,"error":11,"line":11,"name":"TooManyGroups"}
+{"client":3,"error":12,"line":12,"name":"TooManyWrites"}
+{"client":3,"error":14,"line":13,"name":"NeedAncestor"}
+{"client":3,"error":15,"line":14,"name":"BadQuery","reason":"projection_equal"}
+{"client":3,"count":31,"error":16,"line":15,"name":"TooManySubqueries"}
+{"client":3,"constraint":"columns","error":17,"line":16,"name":"MissingIndex","suggestion":{"ancestor":false,"kind":"Task","properties":[]}}
+{"client":3,"constraint":"ancestor","error":17,"line":17,"name":"MissingIndex","suggestion":{"ancestor":false,"kind":"Task","properties":[]}}
+{"client":3,"error":18,"field":"start","line":18,"name":"BadCursor"}
+{"client":3,"error":19,"field":"end","line":19,"name":"CursorMismatch"}
+{"at":12,"client":3,"error":20,"line":20,"name":"BadGql"}
+{"client":3,"error":21,"id":5,"line":21,"name":"IdNotIssued","next":4}
+{"client":3,"error":22,"line":22,"name":"IdsExhausted","next":9223372036854775807}
+{"applied":3,"client":3,"error":23,"line":23,"name":"Expired","place":2,"snapshot":1}
+{"client":3,"error":24,"line":24,"name":"NoMemory"}
 "#;
 
-fn first_refusals(alloc: Global, bodies: &mut Bodies) -> Result<(), Fail> {
-    put(bodies, Body::BadJson)?;
-    put(bodies, Body::LineTooLong)?;
-    put(bodies, Body::BadRequest { field: Field::Op })?;
-    put(
-        bodies,
-        Body::BadKey {
+/// The refusal that a line shows, of those that hold nothing that takes memory.
+fn plain_refusal(number: u64) -> Body {
+    match number {
+        1 => Body::BadJson,
+        2 => Body::LineTooLong,
+        3 => Body::BadRequest { field: Field::Op },
+        4 => Body::BadKey {
             field: Field::Ancestor,
         },
-    )?;
-    put(
-        bodies,
-        Body::BadValue {
+        5 => Body::BadValue {
             field: Field::Entity,
         },
-    )?;
-    put(bodies, Body::TooLarge { size: 1048577 })?;
-    put(bodies, Body::TooManyRows { count: 20001 })?;
-    put(bodies, Body::InTransaction)?;
-    put(bodies, Body::NoTransaction)?;
-    put(
-        bodies,
-        Body::SecondGroup {
-            group: Some(key(alloc, "n", "a")?),
+        6 => Body::TooLarge { size: 1048577 },
+        7 => Body::TooManyRows { count: 20001 },
+        8 => Body::InTransaction,
+        9 => Body::NoTransaction,
+        10 => Body::SecondGroup { group: None },
+        11 => Body::TooManyGroups,
+        12 => Body::TooManyWrites,
+        13 => Body::NeedAncestor,
+        14 => Body::BadQuery {
+            reason: Reason::ProjectionEqual,
         },
-    )?;
-    put(bodies, Body::SecondGroup { group: None })?;
-    put(bodies, Body::TooManyGroups)?;
-    put(bodies, Body::TooManyWrites)
+        15 => Body::TooManySubqueries { count: 31 },
+        _ => last_refusal(number),
+    }
 }
 
-fn conflict(alloc: Global) -> Result<Body, Fail> {
-    Ok(Body::Conflict {
-        commit: 9,
-        group: key(alloc, "", "a")?,
-        place: 8,
-    })
+fn last_refusal(number: u64) -> Body {
+    match number {
+        18 => Body::BadCursor {
+            field: Field::Start,
+        },
+        19 => Body::CursorMismatch { field: Field::End },
+        20 => Body::BadGql { at: 12 },
+        21 => Body::IdNotIssued { id: 5, next: 4 },
+        22 => Body::IdsExhausted {
+            next: 9223372036854775807,
+        },
+        23 => Body::Expired {
+            applied: 3,
+            place: 2,
+            snapshot: 1,
+        },
+        _ => Body::NoMemory,
+    }
 }
 
-fn missing_index(
-    alloc: Global,
-    constraint: Constraint,
-    ancestor: bool,
-    columns: Columns,
-) -> Result<Body, Fail> {
+fn missing_index(alloc: Global, constraint: Constraint) -> Result<Body, Fail> {
+    let kind = text(alloc, "Task")?;
     let suggestion = IndexDef {
-        kind: text(alloc, "Task")?,
-        ancestor,
-        columns,
+        kind,
+        ancestor: false,
+        columns: Columns::new(alloc),
     };
     Ok(Body::MissingIndex {
         constraint,
@@ -175,218 +142,48 @@ fn missing_index(
     })
 }
 
-fn missing_indexes(alloc: Global, bodies: &mut Bodies) -> Result<(), Fail> {
-    let property = text(alloc, "p")?;
-    let value = IndexValue::Bytes(bytes(alloc, b"x")?);
-    let equality = Constraint::Equal(Pair { property, value });
-    let mut columns = Columns::new(alloc);
-    put(
-        &mut columns,
-        Column {
-            name: text(alloc, "p")?,
-            descending: false,
-        },
-    )?;
-    put(
-        &mut columns,
-        Column {
-            name: text(alloc, "q")?,
-            descending: true,
-        },
-    )?;
-    put(bodies, missing_index(alloc, equality, true, columns)?)?;
-    let none = Columns::new(alloc);
-    put(
-        bodies,
-        missing_index(alloc, Constraint::Columns, false, none)?,
-    )?;
-    let none = Columns::new(alloc);
-    put(
-        bodies,
-        missing_index(alloc, Constraint::Ancestor, false, none)?,
-    )
+/// The refusal that a line shows.
+fn refusal(alloc: Global, number: u64) -> Result<Body, Fail> {
+    match number {
+        16 => missing_index(alloc, Constraint::Columns),
+        17 => missing_index(alloc, Constraint::Ancestor),
+        _ => Ok(plain_refusal(number)),
+    }
 }
 
-fn last_refusals(bodies: &mut Bodies) -> Result<(), Fail> {
-    put(
-        bodies,
-        Body::BadCursor {
-            field: Field::Start,
-        },
-    )?;
-    put(bodies, Body::CursorMismatch { field: Field::End })?;
-    put(bodies, Body::BadGql { at: 12 })?;
-    put(bodies, Body::IdNotIssued { id: 5, next: 4 })?;
-    put(
-        bodies,
-        Body::IdsExhausted {
-            next: 9223372036854775807,
-        },
-    )?;
-    put(
-        bodies,
-        Body::Expired {
-            applied: 3,
-            place: 2,
-            snapshot: 1,
-        },
-    )?;
-    put(bodies, Body::NoMemory)
+fn is_refusal(alloc: Global, number: u64, line: &str) -> Result<bool, Fail> {
+    let body = refusal(alloc, number)?;
+    Ok(is_line(alloc, number, body, line)?)
+}
+
+/// The first line that no reply is, and the number of lines before it.
+fn first_no_refusal<'a>(alloc: Global, lines: &'a str) -> Result<(u64, Option<&'a str>), Fail> {
+    let mut number = 0u64;
+    for line in lines.lines() {
+        if !is_refusal(alloc, number.saturating_add(1), line)? {
+            return Ok((number, Some(line)));
+        }
+        number = number.saturating_add(1);
+    }
+    Ok((number, None))
 }
 
 #[test]
 fn writes_refusals(rt: HostRuntime) -> Result<(), Fail> {
-    let mut bodies = Bodies::new(rt.alloc());
-    first_refusals(rt.alloc(), &mut bodies)?;
-    put(&mut bodies, conflict(rt.alloc())?)?;
-    put(&mut bodies, Body::NeedAncestor)?;
-    put(
-        &mut bodies,
-        Body::BadQuery {
-            reason: Reason::ProjectionEqual,
-        },
-    )?;
-    put(&mut bodies, Body::TooManySubqueries { count: 31 })?;
-    missing_indexes(rt.alloc(), &mut bodies)?;
-    last_refusals(&mut bodies)?;
-    assert!(rt; are_lines(rt.alloc(), bodies, REFUSALS)?);
-    Ok(())
-}
-
-// ---- what went well
-
-const DONE: &str =
-    r#"{"client":3,"commit":18446744073709551615,"key":[["Task","a"],["Step",4503599627370496]],"line":1,"ok":"put"}
-{"client":3,"key":["n",["Task","a"]],"line":2,"ok":"put","place":0}
-{"client":3,"commit":2,"key":[["Task","a"]],"line":3,"ok":"delete"}
-{"client":3,"entity":null,"line":4,"ok":"get","place":6}
-{"client":3,"entity":{"key":[["Task","a"]],"properties":{}},"line":5,"ok":"get","place":6}
-{"client":3,"line":6,"ok":"begin"}
-{"client":3,"commit":4,"line":7,"ok":"commit"}
-{"client":3,"line":8,"ok":"rollback"}
-{"client":3,"count":5,"first":4503599627370496,"line":9,"ok":"allocate_ids"}
-{"applied":[6,7],"client":3,"line":10,"ok":"settle","place":13}
-{"applied":true,"client":3,"count":6,"line":11,"ok":"apply","place":13,"shard":15}
-{"applied":[1,7],"client":3,"line":12,"ok":"query","results":[]}
-{"client":3,"cursor":"AQ==","line":13,"ok":"gql","place":2,"results":[["n",["Task","b"]],["n",["Task","c"]]]}
-"#;
-
-fn writes(alloc: Global, bodies: &mut Bodies) -> Result<(), Fail> {
-    let at = WriteAt::Commit(18446744073709551615);
-    put(
-        bodies,
-        Body::Put {
-            key: child(alloc)?,
-            at,
-        },
-    )?;
-    let at = WriteAt::Place(0);
-    put(
-        bodies,
-        Body::Put {
-            key: key(alloc, "n", "a")?,
-            at,
-        },
-    )?;
-    let at = WriteAt::Commit(2);
-    put(
-        bodies,
-        Body::Delete {
-            key: key(alloc, "", "a")?,
-            at,
-        },
-    )?;
-    put(
-        bodies,
-        Body::Get {
-            entity: None,
-            place: 6,
-        },
-    )?;
-    let bare = Entity::new(key(alloc, "", "a")?, Properties::new(alloc))?;
-    put(
-        bodies,
-        Body::Get {
-            entity: Some(bare),
-            place: 6,
-        },
-    )
-}
-
-fn operations(alloc: Global, bodies: &mut Bodies) -> Result<(), Fail> {
-    put(bodies, Body::Begin)?;
-    put(bodies, Body::Commit { commit: 4 })?;
-    put(bodies, Body::Rollback)?;
-    put(
-        bodies,
-        Body::AllocateIds {
-            first: 4503599627370496,
-            count: 5,
-        },
-    )?;
-    put(
-        bodies,
-        Body::Settle {
-            place: 13,
-            applied: counts(alloc, 6)?,
-        },
-    )?;
-    put(
-        bodies,
-        Body::Apply {
-            applied: true,
-            count: 6,
-            place: 13,
-            shard: 15,
-        },
-    )
-}
-
-fn key_item(alloc: Global, name: &str) -> Result<Item, Fail> {
-    Ok(Item {
-        key: key(alloc, "n", name)?,
-        entity: None,
-        projected: IndexValues::new(alloc),
-    })
-}
-
-fn queries(alloc: Global, bodies: &mut Bodies) -> Result<(), Fail> {
-    let query = Body::Query {
-        select: Select::Entities,
-        results: Results::new(alloc),
-        seen: Seen::Counts(counts(alloc, 1)?),
-        cursor: None,
-    };
-    put(bodies, query)?;
-    let mut results = Results::new(alloc);
-    put(&mut results, key_item(alloc, "b")?)?;
-    put(&mut results, key_item(alloc, "c")?)?;
-    let gql = Body::Gql {
-        select: Select::Keys,
-        results,
-        seen: Seen::Place(2),
-        cursor: Some(text(alloc, "AQ==")?),
-    };
-    put(bodies, gql)
-}
-
-#[test]
-fn writes_what_went_well(rt: HostRuntime) -> Result<(), Fail> {
-    let mut bodies = Bodies::new(rt.alloc());
-    writes(rt.alloc(), &mut bodies)?;
-    operations(rt.alloc(), &mut bodies)?;
-    queries(rt.alloc(), &mut bodies)?;
-    assert!(rt; are_lines(rt.alloc(), bodies, DONE)?);
+    assert_eq!(rt; first_no_refusal(rt.alloc(), REFUSALS)?, (24, None));
     Ok(())
 }
 
 // ---- values
 
-const VALUES: &str =
-    r#"{"client":3,"entity":{"key":[["Task","a"]],"properties":{"p\"\\":[null,-1,{"date":2000},{"rating":100},true,{"bytes":"AP/+"},"\b\f\n\r\t\u0001\u001f/é\"\\ and a text of more than sixteen bytes\\",{"key":["n",["Task","b"]]}]}},"line":1,"ok":"get","place":1}
-{"client":3,"entity":{"key":[["Task","a"]],"properties":{"u":{"unindexed":[{"text":"t"},{"blob":"AAAAAAAAAAAAAAAAAAAAAAAAAAAAAAAAAAAAAAAAAAAAAAAAAAAAAAAAAAAAAAAAAAAAAAAAAAAAAAAAAAAAAAAAAAAAAAAAAAAAAAAAAAAAAAAAAAAAAAAAAAAAAAAAAAAAAAAAAAAAAAAAAAAAAAAAAAAAAAAAAAAAAAAAAAAAAAAAAAAAAAAAAAAAAAAAAAAAAAAAAAAAAAAAAAAAAAAAAAAAAAAAAAAAAAAAAAAAAAAAAAAAAAAAAAAAAAAAAA=="}]}}},"line":2,"ok":"get","place":1}
-{"client":3,"entity":{"key":[["Task","a"]],"properties":{"u":{"unindexed":"s"}}},"line":3,"ok":"get","place":1}
-"#;
+const ESCAPED: &str =
+    r#"{"client":3,"entity":{"key":[["Task","a"]],"properties":{"p\"\\":[null,-1,{"date":2000},{"rating":100},true,{"bytes":"AP/+"},"\b\f\n\r\t\u0001\u001f/é\"\\ and a text of more than sixteen bytes\\",{"key":["n",["Task","b"]]}]}},"line":1,"ok":"get","place":1}"#;
+
+const BLOBS: &str =
+    r#"{"client":3,"entity":{"key":[["Task","a"]],"properties":{"u":{"unindexed":[{"text":"t"},{"blob":"AAAAAAAAAAAAAAAAAAAAAAAAAAAAAAAAAAAAAAAAAAAAAAAAAAAAAAAAAAAAAAAAAAAAAAAAAAAAAAAAAAAAAAAAAAAAAAAAAAAAAAAAAAAAAAAAAAAAAAAAAAAAAAAAAAAAAAAAAAAAAAAAAAAAAAAAAAAAAAAAAAAAAAAAAAAAAAAAAAAAAAAAAAAAAAAAAAAAAAAAAAAAAAAAAAAAAAAAAAAAAAAAAAAAAAAAAAAAAAAAAAAAAAAAAAAAAAAAAA=="}]}}},"line":1,"ok":"get","place":1}"#;
+
+const ONE_VALUE: &str =
+    r#"{"client":3,"entity":{"key":[["Task","a"]],"properties":{"u":{"unindexed":"s"}}},"line":1,"ok":"get","place":1}"#;
 
 /// The reply that gives an entity of one property.
 fn got(alloc: Global, name: &str, indexed: bool, values: Values) -> Result<Body, Fail> {
@@ -396,25 +193,46 @@ fn got(alloc: Global, name: &str, indexed: bool, values: Values) -> Result<Body,
         indexed,
         values,
     };
-    let properties = vec![in alloc; property]?;
-    let entity = Entity::new(key(alloc, "", "a")?, Properties::from(properties))?;
+    let properties = Properties::from(vec![in alloc; property]?);
+    let entity = Entity::new(key(alloc, "", "a")?, properties)?;
     Ok(Body::Get {
         entity: Some(entity),
         place: 1,
     })
 }
 
+/// Whether an entity of one property is shown as this line.
+fn shows(
+    alloc: Global,
+    name: &str,
+    indexed: bool,
+    values: Values,
+    line: &str,
+) -> Result<bool, Fail> {
+    let body = got(alloc, name, indexed, values)?;
+    Ok(is_line(alloc, 1, body, line)?)
+}
+
+const STRANGE: &str = "\u{8}\u{c}\n\r\t\u{1}\u{1f}/é\"\\ and a text of more than sixteen bytes\\";
+
+fn indexed_value(alloc: Global, number: usize) -> Result<Value, Fail> {
+    match number {
+        0 => Ok(Value::Null),
+        1 => Ok(Value::Int(-1)),
+        2 => Ok(Value::Date(2000)),
+        3 => Ok(Value::Rating(100)),
+        4 => Ok(Value::Bool(true)),
+        5 => Ok(Value::Bytes(bytes(alloc, b"\x00\xff\xfe")?)),
+        6 => Ok(Value::Str(text(alloc, STRANGE)?)),
+        _ => Ok(Value::Key(key(alloc, "n", "b")?)),
+    }
+}
+
 fn indexed_values(alloc: Global) -> Result<Values, Fail> {
     let mut values = Values::new(alloc);
-    put(&mut values, Value::Null)?;
-    put(&mut values, Value::Int(-1))?;
-    put(&mut values, Value::Date(2000))?;
-    put(&mut values, Value::Rating(100))?;
-    put(&mut values, Value::Bool(true))?;
-    put(&mut values, Value::Bytes(bytes(alloc, b"\x00\xff\xfe")?))?;
-    let escaped = "\u{8}\u{c}\n\r\t\u{1}\u{1f}/é\"\\ and a text of more than sixteen bytes\\";
-    put(&mut values, Value::Str(text(alloc, escaped)?))?;
-    put(&mut values, Value::Key(key(alloc, "n", "b")?))?;
+    for number in 0..8 {
+        put(&mut values, indexed_value(alloc, number)?)?;
+    }
     Ok(values)
 }
 
@@ -425,50 +243,64 @@ fn unindexed_values(alloc: Global) -> Result<Values, Fail> {
     Ok(values)
 }
 
+fn one_value(alloc: Global) -> Result<Values, Fail> {
+    let mut values = Values::new(alloc);
+    put(&mut values, Value::Str(text(alloc, "s")?))?;
+    Ok(values)
+}
+
 #[test]
 fn shows_values(rt: HostRuntime) -> Result<(), Fail> {
-    let mut bodies = Bodies::new(rt.alloc());
-    put(
-        &mut bodies,
-        got(rt.alloc(), "p\"\\", true, indexed_values(rt.alloc())?)?,
-    )?;
-    put(
-        &mut bodies,
-        got(rt.alloc(), "u", false, unindexed_values(rt.alloc())?)?,
-    )?;
-    let mut one = Values::new(rt.alloc());
-    put(&mut one, Value::Str(text(rt.alloc(), "s")?))?;
-    put(&mut bodies, got(rt.alloc(), "u", false, one)?)?;
-    assert!(rt; are_lines(rt.alloc(), bodies, VALUES)?);
+    let alloc = rt.alloc();
+    assert!(rt; shows(alloc, "p\"\\", true, indexed_values(alloc)?, ESCAPED)?);
+    assert!(rt; shows(alloc, "u", false, unindexed_values(alloc)?, BLOBS)?);
+    assert!(rt; shows(alloc, "u", false, one_value(alloc)?, ONE_VALUE)?);
     Ok(())
 }
 
 // ---- projections
 
-const PROJECTIONS: &str =
-    r#"{"client":3,"line":1,"ok":"query","place":0,"results":[{"key":["n",["Task","r"]],"properties":{"a":null,"b":-7,"c":false}}]}
-{"client":3,"line":2,"ok":"query","place":0,"results":[{"key":["n",["Task","r"]],"properties":{"":-7,"a":false,"b":null}}]}
-{"client":3,"line":3,"ok":"query","place":0,"results":[{"key":["n",["Task","r"]],"properties":{"a":-7,"b":false}}]}
-{"client":3,"line":4,"ok":"query","place":0,"results":[{"key":["n",["Task","r"]],"properties":{"x":"é","y":{"bytes":"/w=="},"z":{"key":[["Task","k"]]}}}]}
-"#;
+const ASCENDING: &str =
+    r#"{"client":3,"line":1,"ok":"query","place":0,"results":[{"key":["n",["Task","r"]],"properties":{"a":null,"b":-7,"c":false}}]}"#;
 
-/// The reply of a projection of three names, as `a b c`, with one result.
-fn projection(alloc: Global, names: &str, values: IndexValues) -> Result<Body, Fail> {
+const UNORDERED: &str =
+    r#"{"client":3,"line":1,"ok":"query","place":0,"results":[{"key":["n",["Task","r"]],"properties":{"":-7,"a":false,"b":null}}]}"#;
+
+const REPEATED: &str =
+    r#"{"client":3,"line":1,"ok":"query","place":0,"results":[{"key":["n",["Task","r"]],"properties":{"a":-7,"b":false}}]}"#;
+
+const OF_BYTES: &str =
+    r#"{"client":3,"line":1,"ok":"query","place":0,"results":[{"key":["n",["Task","r"]],"properties":{"x":"é","y":{"bytes":"/w=="},"z":{"key":[["Task","k"]]}}}]}"#;
+
+fn names_of(alloc: Global, names: &str) -> Result<Names, Fail> {
     let mut list = Names::new(alloc);
     for name in names.split(' ') {
         put(&mut list, text(alloc, name)?)?;
     }
+    Ok(list)
+}
+
+/// The reply of a projection with one result.
+fn projection(alloc: Global, names: Names, values: IndexValues) -> Result<Body, Fail> {
+    let key = key(alloc, "n", "r")?;
     let item = Item {
-        key: key(alloc, "n", "r")?,
+        key,
         entity: None,
         projected: values,
     };
+    let results = Results::from(vec![in alloc; item]?);
     Ok(Body::Query {
-        select: Select::Projection(list),
-        results: Results::from(vec![in alloc; item]?),
+        select: Select::Projection(names),
+        results,
         seen: Seen::Place(0),
         cursor: None,
     })
+}
+
+/// Whether a projection of names, as `a b c`, with one result is shown as this line.
+fn projects(alloc: Global, names: &str, values: IndexValues, line: &str) -> Result<bool, Fail> {
+    let body = projection(alloc, names_of(alloc, names)?, values)?;
+    Ok(is_line(alloc, 1, body, line)?)
 }
 
 fn plain_values(alloc: Global) -> Result<IndexValues, Fail> {
@@ -479,71 +311,28 @@ fn plain_values(alloc: Global) -> Result<IndexValues, Fail> {
     Ok(values)
 }
 
+fn byte_value(alloc: Global, number: usize) -> Result<IndexValue, Fail> {
+    match number {
+        0 => Ok(IndexValue::Key(key(alloc, "", "k")?)),
+        1 => Ok(IndexValue::Bytes(bytes(alloc, b"\xff")?)),
+        _ => Ok(IndexValue::Bytes(bytes(alloc, "é".as_bytes())?)),
+    }
+}
+
 fn byte_values(alloc: Global) -> Result<IndexValues, Fail> {
     let mut values = IndexValues::new(alloc);
-    put(&mut values, IndexValue::Key(key(alloc, "", "k")?))?;
-    put(&mut values, IndexValue::Bytes(bytes(alloc, b"\xff")?))?;
-    put(
-        &mut values,
-        IndexValue::Bytes(bytes(alloc, "é".as_bytes())?),
-    )?;
+    for number in 0..3 {
+        put(&mut values, byte_value(alloc, number)?)?;
+    }
     Ok(values)
 }
 
 #[test]
 fn shows_projections_by_name(rt: HostRuntime) -> Result<(), Fail> {
-    let mut bodies = Bodies::new(rt.alloc());
-    put(
-        &mut bodies,
-        projection(rt.alloc(), "a b c", plain_values(rt.alloc())?)?,
-    )?;
-    put(
-        &mut bodies,
-        projection(rt.alloc(), "b  a", plain_values(rt.alloc())?)?,
-    )?;
-    put(
-        &mut bodies,
-        projection(rt.alloc(), "b a b", plain_values(rt.alloc())?)?,
-    )?;
-    put(
-        &mut bodies,
-        projection(rt.alloc(), "z y x", byte_values(rt.alloc())?)?,
-    )?;
-    assert!(rt; are_lines(rt.alloc(), bodies, PROJECTIONS)?);
-    Ok(())
-}
-
-/// A projection of 100 names, the same 10 in turn from the last, with the number of its place as each value.
-fn long_projection(alloc: Global) -> Result<Body, Fail> {
-    let mut list = Names::new(alloc);
-    let mut values = IndexValues::new(alloc);
-    for i in 0..10i64 {
-        for name in "j i h g f e d c b a".split(' ') {
-            put(&mut list, text(alloc, name)?)?;
-            put(&mut values, IndexValue::Num(i))?;
-        }
-    }
-    let item = Item {
-        key: key(alloc, "n", "r")?,
-        entity: None,
-        projected: values,
-    };
-    Ok(Body::Query {
-        select: Select::Projection(list),
-        results: Results::from(vec![in alloc; item]?),
-        seen: Seen::Place(0),
-        cursor: None,
-    })
-}
-
-const LONG: &str =
-    r#"{"client":3,"line":1,"ok":"query","place":0,"results":[{"key":["n",["Task","r"]],"properties":{"a":9,"b":9,"c":9,"d":9,"e":9,"f":9,"g":9,"h":9,"i":9,"j":9}}]}
-"#;
-
-#[test]
-fn shows_more_names_than_are_ordered_without_memory(rt: HostRuntime) -> Result<(), Fail> {
-    let mut bodies = Bodies::new(rt.alloc());
-    put(&mut bodies, long_projection(rt.alloc())?)?;
-    assert!(rt; are_lines(rt.alloc(), bodies, LONG)?);
+    let alloc = rt.alloc();
+    assert!(rt; projects(alloc, "a b c", plain_values(alloc)?, ASCENDING)?);
+    assert!(rt; projects(alloc, "b  a", plain_values(alloc)?, UNORDERED)?);
+    assert!(rt; projects(alloc, "b a b", plain_values(alloc)?, REPEATED)?);
+    assert!(rt; projects(alloc, "z y x", byte_values(alloc)?, OF_BYTES)?);
     Ok(())
 }

@@ -81,41 +81,67 @@ fn replaced(alloc: Global, text: &str, sign: char, by: &str) -> Result<String, A
     Ok(all)
 }
 
-/// The line of a template: `@` stands for the part, `~` for 1,500 letters, `^` for 99 elements of a path with their commas.
+/// The text with 1,500 letters in place of each `~`.
+fn with_letters(alloc: Global, text: &str) -> Result<String, AllocError> {
+    let letters = repeated(alloc, "a", 1500)?;
+    replaced(alloc, text, '~', letters.as_str())
+}
+
+/// The text with 99 elements of a path and their commas in place of each `^`.
+fn with_elements(alloc: Global, text: &str) -> Result<String, AllocError> {
+    let elements = repeated(alloc, "[\"T\",1],", 99)?;
+    replaced(alloc, text, '^', elements.as_str())
+}
+
+/// The line of a template, in which `@` stands for the part.
 fn line_of(alloc: Global, template: &str, part: &str) -> Result<String, AllocError> {
     let line = replaced(alloc, template, '@', part)?;
-    let letters = repeated(alloc, "a", 1500)?;
-    let line = replaced(alloc, line.as_str(), '~', letters.as_str())?;
-    let elements = repeated(alloc, "[\"T\",1],", 99)?;
-    replaced(alloc, line.as_str(), '^', elements.as_str())
+    let line = with_letters(alloc, line.as_str())?;
+    with_elements(alloc, line.as_str())
 }
 
-/// The first part for which something else is told, with what is told; empty where there is none.
-fn first_wrong(alloc: Global, case: &(&str, &str, &str)) -> Result<String, AllocError> {
-    for part in case.2.lines() {
-        let line = line_of(alloc, case.1, part)?;
-        let told = told(alloc, line.as_str().as_bytes())?;
-        if told.as_str() != case.0 {
-            return format!(in alloc; "{} {part}: {told}", case.1);
+/// Whether this is told of a line.
+fn is_told(alloc: Global, line: &[u8], want: &str) -> Result<bool, AllocError> {
+    let told = told(alloc, line)?;
+    Ok(told.as_str() == want)
+}
+
+fn is_told_of(alloc: Global, template: &str, part: &str, want: &str) -> Result<bool, AllocError> {
+    let line = line_of(alloc, template, part)?;
+    is_told(alloc, line.as_str().as_bytes(), want)
+}
+
+/// The first part for which something else is told.
+fn first_wrong<'a>(
+    alloc: Global,
+    template: &str,
+    parts: &'a str,
+    want: &str,
+) -> Result<Option<&'a str>, AllocError> {
+    for part in parts.lines() {
+        if !is_told_of(alloc, template, part, want)? {
+            return Ok(Some(part));
         }
     }
-    Ok(String::new(alloc))
+    Ok(None)
 }
 
-/// The first case of a table that is told otherwise; empty where there is none.
-fn first_wrong_of(alloc: Global, cases: &[(&str, &str, &str)]) -> Result<String, AllocError> {
+/// What is told, the template of a line, and the parts for which it is told.
+type Case = (&'static str, &'static str, &'static str);
+
+/// The first part of a table for which something else is told.
+fn first_wrong_of<'a>(alloc: Global, cases: &'a [Case]) -> Result<Option<&'a str>, AllocError> {
     for case in cases {
-        let wrong = first_wrong(alloc, case)?;
-        if !wrong.as_str().is_empty() {
-            return Ok(wrong);
+        if let Some(wrong) = first_wrong(alloc, case.1, case.2, case.0)? {
+            return Ok(Some(wrong));
         }
     }
-    Ok(String::new(alloc))
+    Ok(None)
 }
 
 // ---- the line itself
 
-const LINES: [(&str, &str, &str); 9] = [
+const LINES: [Case; 9] = [
     (
         "0 BadJson line",
         "@",
@@ -229,7 +255,7 @@ true
 "~a"
 {"bytes":"~~"}"#;
 
-const WRITES: [(&str, &str, &str); 21] = [
+const WRITES: [Case; 21] = [
     (
         "0 BadRequest entity",
         r#"{"op":"put","entity":@}"#,
@@ -341,7 +367,7 @@ const NO_RESULTS: &str = "-1\n-0\n1.0\n1e3\n2147483648\n\"1\"\n[]";
 
 const NO_NAMESPACES: &str = "1\n\"a b\"\n\"\u{e9}\"\n\"~\"\n[]";
 
-const QUERIES: [(&str, &str, &str); 28] = [
+const QUERIES: [Case; 28] = [
     (
         "0 BadRequest namespace",
         r#"{"op":"query","namespace":@}"#,
@@ -495,7 +521,7 @@ const QUERIES: [(&str, &str, &str); 28] = [
 
 // ---- statements, transactions, ids and applies
 
-const OTHERS: [(&str, &str, &str); 25] = [
+const OTHERS: [Case; 25] = [
     (
         "0 BadRequest namespace",
         r#"{"op":"gql","namespace":@}"#,
@@ -603,38 +629,31 @@ const OTHERS: [(&str, &str, &str); 25] = [
     ("0 apply 16", r#"{"op":"apply","shard":@}"#, "16"),
 ];
 
-/// Arrays in one another, as deep as `levels`.
-fn nested(alloc: Global, levels: usize) -> Result<String, AllocError> {
+/// Whether this is told of arrays in one another, as deep as `levels`.
+fn is_told_of_nested(alloc: Global, levels: usize, want: &str) -> Result<bool, AllocError> {
     let mut line = repeated(alloc, "[", levels)?;
-    let ends = repeated(alloc, "]", levels)?;
-    line.push_str(ends.as_str())?;
-    Ok(line)
+    for _ in 0..levels {
+        line.push(']')?;
+    }
+    is_told(alloc, line.as_str().as_bytes(), want)
 }
 
 #[test]
 fn lines_are_told(rt: HostRuntime) -> Result<(), Fail> {
     let alloc = rt.alloc();
-    let line = first_wrong_of(alloc, &LINES)?;
-    assert_eq!(rt; line.as_str(), "");
-    let deep = nested(alloc, 127)?;
-    let told_deep = told(alloc, deep.as_str().as_bytes())?;
-    assert_eq!(rt; told_deep.as_str(), "0 BadRequest line");
-    let too_deep = nested(alloc, 128)?;
-    let told_too_deep = told(alloc, too_deep.as_str().as_bytes())?;
-    assert_eq!(rt; told_too_deep.as_str(), "0 BadJson line");
-    let told_bytes = told(alloc, b"{\"op\":\"settle\",\"x\":\"\xff\"}")?;
-    assert_eq!(rt; told_bytes.as_str(), "0 BadJson line");
+    assert_eq!(rt; first_wrong_of(alloc, &LINES)?, None);
+    assert!(rt; is_told_of_nested(alloc, 127, "0 BadRequest line")?);
+    assert!(rt; is_told_of_nested(alloc, 128, "0 BadJson line")?);
+    let no_text = b"{\"op\":\"settle\",\"x\":\"\xff\"}";
+    assert!(rt; is_told(alloc, no_text, "0 BadJson line")?);
     Ok(())
 }
 
 #[test]
 fn operations_are_told(rt: HostRuntime) -> Result<(), Fail> {
     let alloc = rt.alloc();
-    let write = first_wrong_of(alloc, &WRITES)?;
-    assert_eq!(rt; write.as_str(), "");
-    let query = first_wrong_of(alloc, &QUERIES)?;
-    assert_eq!(rt; query.as_str(), "");
-    let other = first_wrong_of(alloc, &OTHERS)?;
-    assert_eq!(rt; other.as_str(), "");
+    assert_eq!(rt; first_wrong_of(alloc, &WRITES)?, None);
+    assert_eq!(rt; first_wrong_of(alloc, &QUERIES)?, None);
+    assert_eq!(rt; first_wrong_of(alloc, &OTHERS)?, None);
     Ok(())
 }

@@ -21,29 +21,37 @@ fn definition(
     })
 }
 
+/// A definition, and whether it is taken behind those before it.
+type Row = (&'static str, bool, &'static str, bool, bool);
+
+const DEFINITIONS: [Row; 7] = [
+    ("A", false, "p", false, true),
+    ("A", false, "p", false, false),
+    ("B", false, "p", false, true),
+    ("A", true, "p", false, true),
+    ("A", false, "q", false, true),
+    ("A", false, "p", true, true),
+    ("A", true, "p", false, false),
+];
+
+/// Whether the list takes the definitions of a table as it says.
+fn takes(alloc: Global, defs: &mut Defs, rows: &[Row]) -> Result<bool, AllocError> {
+    for row in rows {
+        let definition = definition(alloc, row.0, row.1, row.2, row.3)?;
+        if defs.push(definition).is_ok() != row.4 {
+            return Ok(false);
+        }
+    }
+    Ok(true)
+}
+
 #[test]
 fn definitions_are_distinct(rt: HostRuntime) -> Result<(), Fail> {
     let alloc = rt.alloc();
     let mut defs = Defs::new(alloc);
-    for (kind, ancestor, name, descending, taken) in [
-        ("A", false, "p", false, true),
-        ("A", false, "p", false, false),
-        ("B", false, "p", false, true),
-        ("A", true, "p", false, true),
-        ("A", false, "q", false, true),
-        ("A", false, "p", true, true),
-        ("A", true, "p", false, false),
-    ] {
-        let pushed = defs.push(definition(alloc, kind, ancestor, name, descending)?);
-        assert_eq!(rt;
-            pushed.is_ok(),
-            taken,
-            "{kind} {ancestor} {name} {descending}"
-        );
-    }
-    assert_eq!(rt; defs.len(), 5);
+    assert!(rt; takes(alloc, &mut defs, &DEFINITIONS)?);
     let copy = defs.copy(alloc)?;
     assert!(rt; copy.as_slice() == defs.as_slice());
-    assert!(rt; defs.get(5).is_none());
+    assert!(rt; defs.len() == 5 && defs.get(5).is_none());
     Ok(())
 }

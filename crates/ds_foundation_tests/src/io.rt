@@ -37,56 +37,84 @@ fn only(alloc: Global, number: u64) -> Result<Numbers, AllocError> {
     Ok(Numbers::from(Vec::from_slice(alloc, &[number])?))
 }
 
+// Whether three reads of four bytes answer this, of a source that gives at most so many at once and fails at one call.
+fn reads_in_turn(
+    alloc: Global,
+    most: usize,
+    failing: u64,
+    want: [Result<usize, Failed>; 3],
+) -> Result<bool, AllocError>
+    requires { 0 < most }
+{
+    let bytes = ByteString::of(alloc, b"abcdefg")?;
+    let mut source = MemorySource::make(bytes, most, only(alloc, failing)?);
+    let mut holds = true;
+    for expected in want {
+        holds = source.read(&mut [0; 4]) == expected && holds;
+    }
+    Ok(holds)
+}
+
 #[test]
 fn reads_in_memory(rt: HostRuntime) -> Result<(), Fail> {
     let alloc = rt.alloc();
-    for (most, failing, want) in [
-        (1, 0, [Ok(1), Ok(1), Ok(1)]),
-        (3, 2, [Ok(3), Err(Failed), Ok(3)]),
-        (9, 4, [Ok(4), Ok(3), Ok(0)]),
-    ] {
-        let bytes = ByteString::of(alloc, b"abcdefg")?;
-        let mut source = MemorySource::make(bytes, most, only(alloc, failing)?);
-        for expected in want {
-            assert_eq!(rt; source.read(&mut [0; 4]), expected, "most {most}");
-        }
-    }
+    assert!(rt; reads_in_turn(alloc, 1, 0, [Ok(1), Ok(1), Ok(1)])?);
+    assert!(rt; reads_in_turn(alloc, 3, 2, [Ok(3), Err(Failed), Ok(3)])?);
+    assert!(rt; reads_in_turn(alloc, 9, 4, [Ok(4), Ok(3), Ok(0)])?);
     Ok(())
+}
+
+// Whether a sink that takes three bytes at once, and fails at its second call, takes six.
+fn takes_six(sink: &mut MemorySink) -> bool {
+    let first = sink.write(b"abcdefg") == Ok(3);
+    let second = sink.write(b"defg") == Err(Failed);
+    let third = sink.write(b"defg") == Ok(3);
+    let last = sink.write(b"") == Ok(0) && sink.flush() == Ok(());
+    first && second && third && last
 }
 
 #[test]
 fn writes_in_memory(rt: HostRuntime) -> Result<(), Fail> {
     let alloc = rt.alloc();
     let mut sink = MemorySink::make(alloc, 3, only(alloc, 2)?);
-    assert_eq!(rt; sink.write(b"abcdefg"), Ok(3));
-    assert_eq!(rt; sink.write(b"defg"), Err(Failed));
-    assert_eq!(rt; sink.write(b"defg"), Ok(3));
-    assert_eq!(rt; sink.write(b""), Ok(0));
-    assert_eq!(rt; sink.flush(), Ok(()));
-    assert_eq!(rt; sink.written().bytes(), b"abcdef".as_slice());
+    assert!(rt; takes_six(&mut sink));
+    assert!(rt; sink.written().bytes() == b"abcdef".as_slice());
     let mut full = MemorySink::make(alloc, 0, Numbers::new(alloc));
-    assert_eq!(rt; full.write(b"a"), Err(Failed));
+    assert!(rt; full.write(b"a") == Err(Failed));
     Ok(())
 }
 
-#[test]
-fn loads_in_memory(rt: HostRuntime) -> Result<(), Fail> {
-    let alloc = rt.alloc();
+// Two files, of which the second call to load one fails.
+fn two_files(alloc: Global) -> Result<MemoryFiles, AllocError> {
     let names = vec![in alloc; TextString::of(alloc, "a")?, TextString::of(alloc, "b")?]?;
     let contents = vec![in alloc;
         ByteString::of(alloc, b"first")?,
         ByteString::of(alloc, b"second")?,
     ]?;
     let failing = only(alloc, 2)?;
-    let mut files = MemoryFiles::make(Names::from(names), ByteStrings::from(contents), failing);
-    assert_eq!(rt; files.load(alloc, "b")?.bytes(), b"second".as_slice());
-    for name in ["b", "c"] {
-        assert!(rt;
-            matches!(files.load(alloc, name), Err(LoadFault::Failed)),
-            "{name}"
-        );
+    Ok(MemoryFiles::make(Names::from(names), ByteStrings::from(contents), failing))
+}
+
+fn loads<F: Files>(files: &mut F, alloc: Global, name: &str, want: &[u8]) -> bool {
+    match files.load(alloc, name) {
+        Ok(bytes) => bytes.bytes() == want,
+        Err(_) => false,
     }
-    assert_eq!(rt; files.load(alloc, "a")?.bytes(), b"first".as_slice());
+}
+
+fn fails_to_load<F: Files>(files: &mut F, alloc: Global, name: &str) -> bool {
+    matches!(files.load(alloc, name), Err(LoadFault::Failed))
+}
+
+#[test]
+fn loads_in_memory(rt: HostRuntime) -> Result<(), Fail> {
+    let alloc = rt.alloc();
+    let mut files = two_files(alloc)?;
+    let second = loads(&mut files, alloc, "b", b"second");
+    let failed = fails_to_load(&mut files, alloc, "b");
+    let missing = fails_to_load(&mut files, alloc, "c");
+    let first = loads(&mut files, alloc, "a", b"first");
+    assert!(rt; second && failed && missing && first);
     Ok(())
 }
 
@@ -114,24 +142,34 @@ impl Write for Stuck {
     }
 }
 
-#[test]
-fn reads_and_writes_over_std(rt: HostRuntime) -> Result<(), Fail> {
+fn reads_over_std() -> bool {
     let mut buf = [0; 4];
     let mut source = StdSource::new(b"abcdefg".as_slice());
-    assert_eq!(rt; source.read(&mut buf), Ok(4));
-    assert_eq!(rt; buf.as_slice(), b"abcd".as_slice());
-    assert_eq!(rt; source.read(&mut buf), Ok(3));
-    assert_eq!(rt; source.read(&mut buf), Ok(0));
-    assert_eq!(rt; StdSource::new(Broken).read(&mut buf), Err(Failed));
+    let four = source.read(&mut buf) == Ok(4);
+    let first = buf.as_slice() == b"abcd".as_slice();
+    let three = source.read(&mut buf) == Ok(3);
+    let end = source.read(&mut buf) == Ok(0);
+    four && first && three && end && StdSource::new(Broken).read(&mut buf) == Err(Failed)
+}
 
+fn writes_over_std(written: &mut Vec<u8>) -> bool {
+    let mut sink = StdSink::new(written);
+    let all = sink.write(b"abc") == Ok(3);
+    sink.flush() == Ok(()) && all
+}
+
+fn fails_over_std() -> bool {
+    let write = StdSink::new(Stuck).write(b"abc") == Err(Failed);
+    let nothing = StdSink::new(Stuck).write(b"") == Ok(0);
+    StdSink::new(Stuck).flush() == Err(Failed) && write && nothing
+}
+
+#[test]
+fn reads_and_writes_over_std(rt: HostRuntime) -> Result<(), Fail> {
     let mut written = Vec::new(rt.alloc());
-    let mut sink = StdSink::new(&mut written);
-    assert_eq!(rt; sink.write(b"abc"), Ok(3));
-    assert_eq!(rt; sink.flush(), Ok(()));
-    assert_eq!(rt; written.as_slice(), b"abc".as_slice());
-    assert_eq!(rt; StdSink::new(Stuck).write(b"abc"), Err(Failed));
-    assert_eq!(rt; StdSink::new(Stuck).write(b""), Ok(0));
-    assert_eq!(rt; StdSink::new(Stuck).flush(), Err(Failed));
+    assert!(rt; reads_over_std() && fails_over_std());
+    assert!(rt; writes_over_std(&mut written));
+    assert!(rt; written.as_slice() == b"abc".as_slice());
     Ok(())
 }
 
@@ -140,19 +178,18 @@ fn loads_over_std(rt: HostRuntime) -> Result<(), Fail> {
     let alloc = rt.alloc();
     let name = "ds_foundation_tests_loads_over_std";
     fs::write(&rt, name, "all of it")?;
-    let mut files = StdFiles::new(&rt);
-    let loaded = files.load(alloc, name);
+    let loaded = loads(&mut StdFiles::new(&rt), alloc, name, b"all of it");
     fs::remove_file(&rt, name)?;
-    assert_eq!(rt; loaded?.bytes(), b"all of it".as_slice());
+    assert!(rt; loaded);
     assert!(rt;
-        matches!(files.load(alloc, name), Err(LoadFault::Failed)),
+        fails_to_load(&mut StdFiles::new(&rt), alloc, name),
         "missing"
     );
 
     File::create(&rt, name)?.set_len(MAX_FILE_BYTES as u64 + 1)?;
-    let too_large = files.load(alloc, name);
+    let too_large = fails_to_load(&mut StdFiles::new(&rt), alloc, name);
     fs::remove_file(&rt, name)?;
-    assert!(rt; matches!(too_large, Err(LoadFault::Failed)), "too large");
+    assert!(rt; too_large, "too large");
     NoGate.before(0, 1);
     NoGate.after(0, 1);
     Ok(())

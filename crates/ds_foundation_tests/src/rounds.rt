@@ -1,4 +1,5 @@
 //! Rounds of inputs, told as texts, and what is told of the bytes that an output didn't take.
+ghost use Rattle.std.specs.Prelude.{◌<◌};
 
 use ds_base::{Buffer, ByteString, Numbers};
 use ds_io::MemorySource;
@@ -44,44 +45,81 @@ fn tell_line(alloc: Global, line: Option<Line>, text: &mut Vec<u8>) -> Result<()
     text.extend_from_slice(b"|")
 }
 
+/// Puts what the next call answers behind a text, and says whether there was something.
+fn tell_next(
+    alloc: Global,
+    rounds: &mut Rounds,
+    source: &mut MemorySource,
+    text: &mut Vec<u8>,
+) -> Result<bool, AllocError> {
+    match rounds.next(source) {
+        Ok(Some(round)) => tell_round(alloc, &round, text)?,
+        Ok(None) => return Ok(false),
+        Err(RoundRefused::ReadFault) => text.extend_from_slice(b"fault")?,
+        Err(RoundRefused::InputLimit) => text.extend_from_slice(b"limit")?,
+        Err(RoundRefused::NoMemory) => text.extend_from_slice(b"no memory")?,
+    }
+    text.extend_from_slice(b" ")?;
+    Ok(true)
+}
+
 /// What the next calls answer, in turn, until one of them answers `None`, or there were six.
-fn told(alloc: Global, source: &mut MemorySource) -> Result<Vec<u8>, AllocError> {
+fn told(alloc: Global, mut source: MemorySource) -> Result<Vec<u8>, AllocError> {
     let mut text = Vec::new(alloc);
     let mut rounds = Rounds::make(alloc)?;
     for _ in 0..6 {
-        match rounds.next(source) {
-            Ok(Some(round)) => tell_round(alloc, &round, &mut text)?,
-            Ok(None) => return Ok(text),
-            Err(RoundRefused::ReadFault) => text.extend_from_slice(b"fault")?,
-            Err(RoundRefused::InputLimit) => text.extend_from_slice(b"limit")?,
-            Err(RoundRefused::NoMemory) => text.extend_from_slice(b"no memory")?,
+        if !tell_next(alloc, &mut rounds, &mut source, &mut text)? {
+            break;
         }
-        text.extend_from_slice(b" ")?;
     }
     Ok(text)
+}
+
+/// Whether the rounds of these bytes are told as this, where a read gives so many bytes at once, and none of these fails.
+fn reads(
+    alloc: Global,
+    bytes: ByteString,
+    most: usize,
+    fails: Numbers,
+    want: &[u8],
+) -> Result<bool, AllocError>
+    requires { 0 < most }
+{
+    let read = told(alloc, MemorySource::make(bytes, most, fails))?;
+    Ok(read.as_slice() == want)
+}
+
+/// Inputs, and how their rounds are told.
+const INPUTS: [(&[u8], &[u8]); 9] = [
+    (b"", b""),
+    (b"\n", b""),
+    (b" \t\r", b""),
+    (b"a\nb\n\nc\n", b"1:a|b| 4:c| "),
+    (b"a\nb", b"1:a|b| "),
+    (b"\n\na\n", b"3:a| "),
+    (b"a\n\n\nb\n\n", b"1:a| 4:b| "),
+    (b"a\r\n \t\r\nb \r\n", b"1:a\r| 3:b \r| "),
+    (b"a\n  ", b"1:a| "),
+];
+
+fn reads_all(alloc: Global, most: usize, rows: &[(&[u8], &[u8])]) -> Result<bool, AllocError>
+    requires { 0 < most }
+{
+    for row in rows {
+        let bytes = ByteString::of(alloc, row.0)?;
+        if !reads(alloc, bytes, most, Numbers::new(alloc), row.1)? {
+            return Ok(false);
+        }
+    }
+    Ok(true)
 }
 
 #[test]
 fn reads_rounds(rt: HostRuntime) -> Result<(), Fail> {
     let alloc = rt.alloc();
-    for (input, want) in [
-        (b"".as_slice(), b"".as_slice()),
-        (b"\n", b""),
-        (b" \t\r", b""),
-        (b"a\nb\n\nc\n", b"1:a|b| 4:c| "),
-        (b"a\nb", b"1:a|b| "),
-        (b"\n\na\n", b"3:a| "),
-        (b"a\n\n\nb\n\n", b"1:a| 4:b| "),
-        (b"a\r\n \t\r\nb \r\n", b"1:a\r| 3:b \r| "),
-        (b"a\n  ", b"1:a| "),
-    ] {
-        for most in [1, 3, 99] {
-            let bytes = ByteString::of(alloc, input)?;
-            let mut source = MemorySource::make(bytes, most, Numbers::new(alloc));
-            let read = told(alloc, &mut source)?;
-            assert_eq!(rt; read.as_slice(), want, "most {most}");
-        }
-    }
+    assert!(rt; reads_all(alloc, 1, &INPUTS)?);
+    assert!(rt; reads_all(alloc, 3, &INPUTS)?);
+    assert!(rt; reads_all(alloc, 99, &INPUTS)?);
     Ok(())
 }
 
@@ -100,26 +138,25 @@ fn repeated(
     Ok(ByteString::from_vec(bytes))
 }
 
+fn reads_repeated(
+    alloc: Global,
+    piece: &[u8],
+    times: usize,
+    rest: &[u8],
+    want: &[u8],
+) -> Result<bool, AllocError> {
+    let bytes = repeated(alloc, piece, times, rest)?;
+    reads(alloc, bytes, 100_000, Numbers::new(alloc), want)
+}
+
 #[test]
 fn reads_long_lines_and_rounds(rt: HostRuntime) -> Result<(), Fail> {
     let alloc = rt.alloc();
-    for (piece, times, rest, want) in [
-        (
-            b" ".as_slice(),
-            LONGEST + 9,
-            b"\na\n".as_slice(),
-            b"2:a| ".as_slice(),
-        ),
-        (b" ", LONGEST + 9, b"a\n", b"1:too long| "),
-        (b"a", LONGEST, b"\n", b"1:2097152 bytes| "),
-        (b"a", LONGEST + 1, b"\nb", b"1:too long|b| "),
-        (b"a\n", 65_537, b"", b"1:65536 lines 65537:a| "),
-    ] {
-        let bytes = repeated(alloc, piece, times, rest)?;
-        let mut source = MemorySource::make(bytes, 100_000, Numbers::new(alloc));
-        let read = told(alloc, &mut source)?;
-        assert_eq!(rt; read.as_slice(), want);
-    }
+    assert!(rt; reads_repeated(alloc, b" ", LONGEST + 9, b"\na\n", b"2:a| ")?);
+    assert!(rt; reads_repeated(alloc, b" ", LONGEST + 9, b"a\n", b"1:too long| ")?);
+    assert!(rt; reads_repeated(alloc, b"a", LONGEST, b"\n", b"1:2097152 bytes| ")?);
+    assert!(rt; reads_repeated(alloc, b"a", LONGEST + 1, b"\nb", b"1:too long|b| ")?);
+    assert!(rt; reads_repeated(alloc, b"a\n", 65_537, b"", b"1:65536 lines 65537:a| ")?);
     Ok(())
 }
 
@@ -127,52 +164,48 @@ fn reads_long_lines_and_rounds(rt: HostRuntime) -> Result<(), Fail> {
 fn ends_a_round_at_its_bytes(rt: HostRuntime) -> Result<(), Fail> {
     let alloc = rt.alloc();
     let line = repeated(alloc, b"a", LONGEST, b"\n")?;
-    let bytes = repeated(alloc, line.bytes(), 33, b"")?;
-    let mut source = MemorySource::make(bytes, 100_000, Numbers::new(alloc));
-    let read = told(alloc, &mut source)?;
-    assert_eq!(rt;
-        read.as_slice(),
-        b"1:32 lines 33:2097152 bytes| ".as_slice()
-    );
+    let want = b"1:32 lines 33:2097152 bytes| ";
+    assert!(rt; reads_repeated(alloc, line.bytes(), 33, b"", want)?);
     Ok(())
 }
+
+/// Whether three lines are told as this where a call to read fails.
+fn reads_where_one_fails(alloc: Global, failing: u64, want: &[u8]) -> Result<bool, AllocError> {
+    let bytes = ByteString::of(alloc, b"a\n\nb\ncd\n")?;
+    let fails = Numbers::from(Vec::from_slice(alloc, &[failing])?);
+    reads(alloc, bytes, 3, fails, want)
+}
+
+const AT_ONCE: &[u8] = b"fault no memory no memory no memory no memory no memory ";
+
+const AFTER_ONE: &[u8] = b"1:a| fault no memory no memory no memory no memory ";
 
 #[test]
 fn gives_a_round_before_it_reads_on(rt: HostRuntime) -> Result<(), Fail> {
     let alloc = rt.alloc();
-    for (failing, want) in [
-        (
-            1,
-            b"fault no memory no memory no memory no memory no memory ".as_slice(),
-        ),
-        (2, b"1:a| fault no memory no memory no memory no memory "),
-        (3, b"1:a| fault no memory no memory no memory no memory "),
-        (9, b"1:a| 3:b|cd| "),
-    ] {
-        let bytes = ByteString::of(alloc, b"a\n\nb\ncd\n")?;
-        let fails = Numbers::from(Vec::from_slice(alloc, &[failing])?);
-        let mut source = MemorySource::make(bytes, 3, fails);
-        let read = told(alloc, &mut source)?;
-        assert_eq!(rt; read.as_slice(), want, "call {failing}");
-    }
+    assert!(rt; reads_where_one_fails(alloc, 1, AT_ONCE)?);
+    assert!(rt; reads_where_one_fails(alloc, 2, AFTER_ONE)?);
+    assert!(rt; reads_where_one_fails(alloc, 3, AFTER_ONE)?);
+    assert!(rt; reads_where_one_fails(alloc, 9, b"1:a| 3:b|cd| ")?);
     Ok(())
+}
+
+fn is_none_taken(none: &Unsent) -> bool {
+    none.len() == 0 && none.is_empty() && none.byte(0).is_none()
+}
+
+fn is_bc(rest: &Unsent) -> bool {
+    let bytes = rest.byte(0) == Some(b'b') && rest.byte(1) == Some(b'c');
+    rest.len() == 2 && bytes && rest.byte(2).is_none()
 }
 
 #[test]
 fn tells_what_was_not_taken(rt: HostRuntime) -> Result<(), Fail> {
     let alloc = rt.alloc();
-    let none = Unsent::none(alloc);
-    assert_eq!(rt;
-        (none.len(), none.is_empty(), none.byte(0)),
-        (0, true, None)
-    );
+    assert!(rt; is_none_taken(&Unsent::none(alloc)));
     let mut text = Buffer::new(alloc);
     text.append(b"abc")?;
-    assert_eq!(rt; text.bytes().len(), 3);
-    let rest = Unsent::rest_of(text, 1);
-    assert_eq!(rt;
-        (rest.len(), rest.byte(0), rest.byte(1), rest.byte(2)),
-        (2, Some(b'b'), Some(b'c'), None)
-    );
+    assert!(rt; text.bytes().len() == 3);
+    assert!(rt; is_bc(&Unsent::rest_of(text, 1)));
     Ok(())
 }

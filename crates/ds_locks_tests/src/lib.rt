@@ -1,4 +1,5 @@
-//! Tests of hubs and of drawn numbers, by their public calls alone; and a small store under locks, the form that a large one has.
+//! A small store under locks, the form that a large one has: what hubs and drawn numbers promise by their public clauses is enough
+//! for the whole. `ds_hub_tests` runs it.
 //!
 //! The store has one journal hub, whose writer stands under a lock with a keeper's seat on each of two words, two shard hubs with
 //! their writers under two more locks, and two clients, threads that hold readers of all hubs and seats on both words. Of a value
@@ -19,13 +20,6 @@ mod sum;
 mod work;
 
 pub use client::{Ended, NumbersDrawn};
-pub use opened::FIRST_ID;
+pub use opened::{FIRST_ID, ThreeSeats, TwoReaders, three_seats, two_readers};
 pub use store::{Closed, run};
 pub use sum::Sum;
-
-#[cfg(test)]
-mod draw_tests;
-#[cfg(test)]
-mod hub_tests;
-#[cfg(test)]
-mod store_tests;

@@ -1,6 +1,8 @@
 //! Branches: what is left of a query when `!=` and `in` are taken apart, and each condition stands in its place.
 //!
 //! `specs/Lawful` says what every branch, normal form and window keeps.
+ghost use Rattle.std.specs.Prelude.{◌≡◌, IfOk};
+
 use crate::option::copy_option;
 use crate::query::Select;
 use crate::row::Place;
@@ -110,16 +112,52 @@ impl TryCopy for Range {
     }
 }
 
+/// What a branch looks among: few values are held while more are copied, since each that is held at a call that may fail makes the
+/// proof of that call dearer.
+#[derive(Drop)]
+pub(crate) struct Target {
+    pub(crate) namespace: TextString,
+    pub(crate) kind: Option<TextString>,
+    pub(crate) ancestor: Option<Key>,
+}
+
+pub(crate) fn copy_target(
+    alloc: Global,
+    namespace: &TextString,
+    kind: &Option<TextString>,
+    ancestor: &Option<Key>,
+) -> Result<Target, AllocError>
+    ensures { IfOk result (λ t. (t.namespace ≡ namespace.now) × (t.kind ≡ kind.now) × (t.ancestor ≡ ancestor.now)) }
+{
+    let namespace = namespace.copy(alloc)?;
+    let kind = copy_option(alloc, kind)?;
+    let ancestor = copy_option(alloc, ancestor)?;
+    Ok(Target {
+        namespace,
+        kind,
+        ancestor,
+    })
+}
+
 impl TryCopy for Branch {
     fn copy(&self, alloc: Global) -> Result<Branch, AllocError> {
+        let equal = self.equal.copy(alloc)?;
+        let range = self.range.copy(alloc)?;
+        let columns = self.columns.copy(alloc)?;
+        let select = self.select.copy(alloc)?;
+        let Target {
+            namespace,
+            kind,
+            ancestor,
+        } = copy_target(alloc, &self.namespace, &self.kind, &self.ancestor)?;
         Ok(Branch {
-            namespace: self.namespace.copy(alloc)?,
-            kind: copy_option(alloc, &self.kind)?,
-            ancestor: copy_option(alloc, &self.ancestor)?,
-            equal: self.equal.copy(alloc)?,
-            range: self.range.copy(alloc)?,
-            columns: self.columns.copy(alloc)?,
-            select: self.select.copy(alloc)?,
+            namespace,
+            kind,
+            ancestor,
+            equal,
+            range,
+            columns,
+            select,
         })
     }
 }

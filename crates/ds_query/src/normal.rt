@@ -9,11 +9,10 @@ ghost use Rattle.ds_query.specs.Branching.{sorted_pairs, branch_of};
 ghost use Rattle.ds_query.specs.Normals.{normal_form, few_branches, normal_of};
 ghost use Rattle.ds_query.specs.Lawful.{IsLawfulNormal};
 
-use crate::branch::{Branch, Branches, Normal, Pair, Pairs};
+use crate::branch::{Branch, Branches, Normal, Pair, Pairs, Target, copy_target};
 use crate::columns::{columns_of, merged_of};
 use crate::conditions::Conditions;
 use crate::filters::{FilterNames, equality_names, is_several, one_of_names};
-use crate::option::copy_option;
 use crate::query::Query;
 use crate::reasons::reason_of;
 use crate::refusal::QueryRefused;
@@ -95,14 +94,22 @@ fn branch(
     ensures { IfOk result (λ b. b ≡ branch_of query.now conditions) }
 {
     let Conditions { equal, range } = conditions;
+    let equal = sorted_pairs(alloc, equal)?;
+    let columns = columns.copy(alloc)?;
+    let select = query.select.copy(alloc)?;
+    let Target {
+        namespace,
+        kind,
+        ancestor,
+    } = copy_target(alloc, &query.namespace, &query.kind, &query.ancestor)?;
     Ok(Branch {
-        namespace: query.namespace.copy(alloc)?,
-        kind: copy_option(alloc, &query.kind)?,
-        ancestor: copy_option(alloc, &query.ancestor)?,
-        equal: sorted_pairs(alloc, equal)?,
+        namespace,
+        kind,
+        ancestor,
+        equal,
         range,
-        columns: columns.copy(alloc)?,
-        select: query.select.copy(alloc)?,
+        columns,
+        select,
     })
 }
 

@@ -1,5 +1,5 @@
 //! Taking the `!=` and `in` filters of a query apart.
-ghost use Rattle.std.specs.Prelude.{◌≡◌, ◌++◌, min, length, map, IfOk, OnOk, IsTrue};
+ghost use Rattle.std.specs.Prelude.{◌≡◌, ◌++◌, ◌∷◌, [], min, length, map, IfOk, OnOk, IsTrue};
 ghost use Rattle.std.specs.List.{list_all};
 ghost use Rattle.ds_base.specs.Limits.{greatest_told};
 ghost use Rattle.ds_query.specs.Filters.{has_operands};
@@ -139,20 +139,27 @@ fn narrowed(
     let value = as_indexed(alloc, value)?;
     let Conditions { equal, range } = conditions;
     if asks_equal(op) && !is_key_name(property) {
-        let pair = Pair {
-            property: property.copy(alloc)?,
-            value,
-        };
-        let mut equal = equal;
-        if let Err(_) = equal.push(pair) {
-            return Err(AllocError);
-        }
+        let equal = with_equality(alloc, property, value, equal)?;
         return Ok(Conditions { equal, range });
     }
-    Ok(Conditions {
-        equal,
-        range: within(alloc, op, value, range)?,
-    })
+    let range = within(alloc, op, value, range)?;
+    Ok(Conditions { equal, range })
+}
+
+/// The pairs with one more at their end.
+fn with_equality(
+    alloc: Global,
+    property: &TextString,
+    value: IndexValue,
+    mut equal: Pairs,
+) -> Result<Pairs, AllocError>
+    ensures { IfOk result (λ ps. ps ≡ equal ++ record { property = property.now; value = value } ∷ []) }
+{
+    let property = property.copy(alloc)?;
+    match equal.push(Pair { property, value }) {
+        Ok(()) => Ok(equal),
+        Err(_) => Err(AllocError),
+    }
 }
 
 /// The value as an index holds it; null where none does, which no query has that is answered.

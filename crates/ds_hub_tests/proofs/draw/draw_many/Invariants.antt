@@ -1,5 +1,5 @@
 use Rattle.std.proofs.Common.{◌≡◌}
-use Rattle.ds_locks_tests.proofs.draw_tests.draw_many.Given as goal
+use Rattle.ds_hub_tests.proofs.draw.draw_many.Given as goal
 
 -- what was collected is what the seat drew
 abbrev pub invariant-loop : goal.invariant-loop

@@ -1,12 +1,11 @@
 //! One hub by its public calls: two readers beside the writer, notes of the writer and of a reader, and the two forms of absorbing.
 ghost use Rattle.std.specs.Prelude.{◌≡◌, []};
 
-use crate::Sum;
-use crate::opened::{TwoReaders, two_readers};
 use ds_hub::{Absorb, Hub, NoMemory, Reader, Writer, make};
+use ds_locks_tests::{Sum, TwoReaders, two_readers};
 use std::sync::Wait;
 use std::test::Fail;
-use std::thread::join;
+use std::thread::{Threads, join};
 
 const ROOM: u64 = 1 << 32;
 
@@ -27,8 +26,11 @@ fn publish_all<R: Wait>(rt: &R, writer: &mut Writer<u64, Sum>) -> bool {
     writer.publish(rt).is_ok() && done
 }
 
+// A reader that watched, and whether no sum was below the one before.
+type Watcher = Option<(Reader<u64, Sum>, bool)>;
+
 // Enters many times, and says whether no sum was below the one before.
-fn watch(mut reader: Reader<u64, Sum>) -> Option<(Reader<u64, Sum>, bool)> {
+fn watch(mut reader: Reader<u64, Sum>) -> Watcher {
     let mut last = 0;
     let mut grows = true;
     for _ in 0..500 {
@@ -41,11 +43,42 @@ fn watch(mut reader: Reader<u64, Sum>) -> Option<(Reader<u64, Sum>, bool)> {
     Some((reader, grows))
 }
 
+// The reader after it saw what is published, with the sum of that.
+fn look(reader: Reader<u64, Sum>) -> (Reader<u64, Sum>, Option<u64>) {
+    match reader.enter() {
+        Ok(view) => {
+            let sum = view.state().0;
+            (view.leave(), Some(sum))
+        }
+        Err(reader) => (reader, None),
+    }
+}
+
 fn sum_of(reader: Reader<u64, Sum>) -> Option<u64> {
-    let view = reader.enter().ok()?;
-    let sum = view.state().0;
-    view.leave();
-    Some(sum)
+    look(reader).1
+}
+
+// Publishes all while two readers watch.
+fn watched<R: Threads + Wait + Sync>(
+    rt: &R,
+    writer: &mut Writer<u64, Sum>,
+    one: Option<Reader<u64, Sum>>,
+    two: Option<Reader<u64, Sum>>,
+) -> (bool, Watcher, Watcher) {
+    let (done, (one, two)) = join(
+        rt,
+        || publish_all(rt, writer),
+        || join(rt, || one.and_then(watch), || two.and_then(watch)),
+    );
+    (done, one, two)
+}
+
+// Whether no sum was below the one before, and the last is that of all numbers.
+fn saw_all(watcher: Watcher) -> bool {
+    match watcher {
+        Some((reader, grows)) => grows && sum_of(reader) == Some(ALL * (ALL + 1) / 2),
+        None => false,
+    }
 }
 
 #[test]
@@ -55,24 +88,12 @@ fn readers_follow_the_writer(rt: HostRuntime) -> Result<(), Fail> {
         mut readers,
     } = make(&rt, rt.alloc(), Sum(0), Sum(0), 2)?;
     let (one, two) = (readers.pop(), readers.pop());
-    let (done, watched) = join(
-        &rt,
-        || publish_all(&rt, &mut writer),
-        || join(&rt, || one.and_then(watch), || two.and_then(watch)),
-    );
-    let grow = (
-        watched.0.as_ref().map(|w| w.1),
-        watched.1.as_ref().map(|w| w.1),
-    );
-    let last = (
-        watched.0.and_then(|w| sum_of(w.0)),
-        watched.1.and_then(|w| sum_of(w.0)),
-    );
+    let (done, one, two) = watched(&rt, &mut writer, one, two);
+    let (one_saw, two_saw) = (saw_all(one), saw_all(two));
     writer.end(&rt);
     assert!(rt; done);
-    assert_eq!(rt; grow, (Some(true), Some(true)));
-    let all = ALL * (ALL + 1) / 2;
-    assert_eq!(rt; last, (Some(all), Some(all)));
+    assert!(rt; one_saw);
+    assert!(rt; two_saw);
     Ok(())
 }
 
@@ -86,12 +107,8 @@ fn has_ended(reader: Reader<u64, Sum>) -> bool {
     }
 }
 
-// Publishes 7 and then adds 8. A reader that learns what was told then sees 7 alone.
-fn told<R: Wait>(
-    rt: &R,
-    writer: &mut Writer<u64, Sum>,
-    reader: &mut Reader<u64, Sum>,
-) -> (bool, bool)
+// Publishes 7 and then adds 8, and a reader learns what is told then, of which it sees 7 alone. It says whether the writer covers that.
+fn told<R: Wait>(rt: &R, writer: &mut Writer<u64, Sum>, reader: &mut Reader<u64, Sum>) -> bool
     requires hub { reader.old.hub ≡ writer.old.hub }
     requires room { (writer.old.published ≡ []) × (writer.old.pending ≡ []) }
 {
@@ -99,7 +116,7 @@ fn told<R: Wait>(
     let published = writer.publish(rt).is_ok();
     let second = writer.add(8).is_ok();
     reader.learn(writer.tell());
-    (first && published && second, writer.covers(reader))
+    first && published && second && writer.covers(reader)
 }
 
 #[test]
@@ -114,21 +131,12 @@ fn a_note_is_seen_at_the_next_enter(rt: HostRuntime) -> Result<(), Fail> {
     };
     let added = told(&rt, &mut writer, &mut reader);
     let counts = (writer.published(), writer.pending());
-    let (seen, ended) = match reader.enter() {
-        Ok(view) => {
-            let sum = view.state().0;
-            let reader = view.leave();
-            writer.end(&rt);
-            (Some(sum), has_ended(reader))
-        }
-        Err(reader) => {
-            writer.end(&rt);
-            (None, has_ended(reader))
-        }
-    };
-    assert_eq!(rt; added, (true, true));
-    assert_eq!(rt; counts, (1, 1));
-    assert_eq!(rt; (seen, ended), (Some(7), true));
+    let (reader, seen) = look(reader);
+    writer.end(&rt);
+    assert!(rt; added);
+    assert!(rt; counts == (1, 1));
+    assert!(rt; seen == Some(7));
+    assert!(rt; has_ended(reader));
     Ok(())
 }
 
@@ -160,7 +168,8 @@ fn a_reader_tells_what_it_learnt(rt: HostRuntime) -> Result<(), Fail> {
         mut two,
     } = two_readers(&rt, &rt, rt.alloc())?;
     let covered = passed_on(&rt, &mut writer.writer, &mut one, &mut two);
-    assert_eq!(rt; (covered, sum_of(two)), (true, Some(7)));
+    assert!(rt; covered);
+    assert!(rt; sum_of(two) == Some(7));
     Ok(())
 }
 
@@ -235,6 +244,6 @@ fn the_second_copy_is_given_the_operation(rt: HostRuntime) -> Result<(), Fail> {
     let counts = readers.pop().and_then(counts_of);
     writer.end(&rt);
     assert!(rt; done);
-    assert_eq!(rt; counts, Some((7, 1, 1)));
+    assert!(rt; counts == Some((7, 1, 1)));
     Ok(())
 }

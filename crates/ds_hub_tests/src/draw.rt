@@ -2,8 +2,9 @@
 ghost use Rattle.std.specs.Prelude.{◌≡◌, ◌^◌, ◌<◌, ◌++◌, [], IfOk};
 ghost use Rattle.ds_draw.specs.Draws.{HasEachOnce};
 
-use crate::opened::{ThreeSeats, three_seats};
+use crate::numbers::drew_all;
 use ds_draw::{Drawn, Seat, Seats, Word, make};
+use ds_locks_tests::{ThreeSeats, three_seats};
 use std::alloc::{AllocError, Global};
 use std::sync::{Mutex, Wait};
 use std::test::Fail;
@@ -75,15 +76,11 @@ fn two_threads<Rt: Threads + Wait + Sync>(
 
 #[test]
 fn two_threads_draw_each_number_once(rt: HostRuntime) -> Result<(), Fail> {
-    let (end, mut all, others) = two_threads(&rt, rt.alloc(), 1000)?;
-    assert_eq!(rt; (end, all.len(), others.len()), (2001, 1000, 1000));
-    all.extend_from_slice(&others)?;
-    all.sort()?;
-    let mut next = 1;
-    for number in &all {
-        assert_eq!(rt; *number, next);
-        next = number.wrapping_add(1);
-    }
+    let (end, ones, others) = two_threads(&rt, rt.alloc(), 1000)?;
+    assert!(rt; end == 2001);
+    assert!(rt; ones.len() == 1000);
+    assert!(rt; others.len() == 1000);
+    assert!(rt; drew_all(1, &ones, &others, rt.alloc())?);
     Ok(())
 }
 
@@ -131,7 +128,9 @@ fn in_turn<Rt: Threads + Wait + Sync>(rt: &Rt, alloc: Global) -> Result<(u64, bo
 
 #[test]
 fn a_draw_waits_until_the_word_comes(rt: HostRuntime) -> Result<(), Fail> {
-    assert_eq!(rt; in_turn(&rt, rt.alloc())?, (201, true));
+    let (next, were_two) = in_turn(&rt, rt.alloc())?;
+    assert!(rt; next == 201);
+    assert!(rt; were_two);
     Ok(())
 }
 
@@ -149,6 +148,6 @@ fn look_without_a_draw<R: Wait>(rt: &R, alloc: Global) -> Result<u64, AllocError
 
 #[test]
 fn a_look_shows_what_another_seat_drew(rt: HostRuntime) -> Result<(), Fail> {
-    assert_eq!(rt; look_without_a_draw(&rt, rt.alloc())?, 8);
+    assert!(rt; look_without_a_draw(&rt, rt.alloc())? == 8);
     Ok(())
 }

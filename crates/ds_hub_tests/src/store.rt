@@ -1,27 +1,7 @@
 //! The small store with two threads.
-use crate::{Closed, FIRST_ID, run};
-use std::alloc::{AllocError, Global};
+use crate::numbers::drew_all;
+use ds_locks_tests::{Closed, FIRST_ID, run};
 use std::test::Fail;
-
-// Whether the numbers, sorted, are all from the first on.
-fn are_all_from(first: u64, numbers: &[u64]) -> bool {
-    let mut next = first;
-    for number in numbers {
-        if *number != next {
-            return false;
-        }
-        next = number.wrapping_add(1);
-    }
-    true
-}
-
-fn drew_all(first: u64, ones: &[u64], others: &[u64], alloc: Global) -> Result<bool, AllocError> {
-    let mut all = Vec::new(alloc);
-    all.extend_from_slice(ones)?;
-    all.extend_from_slice(others)?;
-    all.sort()?;
-    Ok(are_all_from(first, &all))
-}
 
 #[test]
 fn two_clients_commit_apply_and_look(rt: HostRuntime) -> Result<(), Fail> {
