@@ -1,6 +1,7 @@
 -- A row stands between the bounds exactly where its first value is within the range, its key is under the ancestor where the rows are in
 -- the order of keys, and its place is up to the end.
-use Rattle.std.proofs.Common.{◌≡◌, ℕ, ◌<◌, List, [], ◌∷◌, ◌++◌, length, Bool, true, false, ◌&&◌, ◌||◌, not, cond, refl, sym, ap, ◌∙◌, subst, Option, Some, None, arith, append_assoc, append-nil, map, drop, take}
+use Rattle.std.proofs.Common.{◌≡◌, ℕ, ◌<◌, List, [], ◌∷◌, ◌++◌, length, Bool, true, false, ◌&&◌, ◌||◌, not, cond, refl, sym, ap, ◌∙◌}
+use Rattle.std.proofs.Common.{subst, Option, Some, None, arith, append_assoc, append-nil, map, drop, take}
 use Rattle.std.specs.Prelude.{IsTrue, filter, flat_map, is_some, unwrap_or, option_map, nat_eq, All}
 use Rattle.std.specs.Ordering.{is_lt, is_gt, match_ordering, ordering_then, ordering_reverse, nat_cmp, eq_by_cmp}
 use Rattle.std.specs.declared.cmp.Ordering.{Ordering}
@@ -45,7 +46,8 @@ use Rattle.ds_scan.proofs.Order.{between, from_later, to_later}
 use Rattle.ds_cursor.specs.RowsOfColumns.{directions, key_descends}
 use Rattle.ds_model.specs.Rows.{place_of, first_value, is_within, is_above as meets_lower, is_below as meets_upper, is_under}
 use Rattle.ds_model.specs.Results.{is_up_to}
-use Rattle.ds_engine.specs.Bounds.{beyond, begun_with, value_in_column, first_descends, low_at, high_at, first_bound, last_bound, ancestor_low, ancestor_high, greater, lesser_end, behind_place, low_of, high_of}
+use Rattle.ds_engine.specs.Bounds.{beyond, begun_with, value_in_column, first_descends, low_at, high_at, first_bound, last_bound}
+use Rattle.ds_engine.specs.Bounds.{ancestor_low, ancestor_high, greater, lesser_end, behind_place, low_of, high_of}
 use Rattle.ds_engine.specs.Scans.{IsLawfulAncestor, IsLawfulInColumn, IsLawfulFirst, IsLawfulBound, IsLawfulEnds}
 use Rattle.ds_engine.proofs.Columns.{first_not_key}
 use Rattle.ds_engine.proofs.LowBytes.{IsLow, path_low, row_low}
@@ -136,10 +138,12 @@ record IsTold (columns : List Column) (r : RowParts) (b : IndexValue) (inclusive
       ≡ to_bound (directed_cmp (first_descends columns) index_value_cmp (first_value r) b) inclusive
 
 directions-key : (c : Column) (cs : List Column) → is_key_name c.name ≡ true → directions (c ∷ cs) ≡ directions cs
-directions-key c cs is = ap (λ b. map (λ (x : Column). x.descending) (cond (not b) (c ∷ filter (λ (x : Column). not (is_key_name x.name)) cs) (filter (λ (x : Column). not (is_key_name x.name)) cs))) is
+directions-key c cs is = ap (λ b. map (λ (x : Column). x.descending) (cond (not b) (c ∷ filter (λ (x : Column). not (is_key_name x.name))
+    cs) (filter (λ (x : Column). not (is_key_name x.name)) cs))) is
 
 directions-value : (c : Column) (cs : List Column) → is_key_name c.name ≡ false → directions (c ∷ cs) ≡ c.descending ∷ directions cs
-directions-value c cs is = ap (λ b. map (λ (x : Column). x.descending) (cond (not b) (c ∷ filter (λ (x : Column). not (is_key_name x.name)) cs) (filter (λ (x : Column). not (is_key_name x.name)) cs))) is
+directions-value c cs is = ap (λ b. map (λ (x : Column). x.descending) (cond (not b) (c ∷ filter (λ (x : Column). not (is_key_name
+    x.name)) cs) (filter (λ (x : Column). not (is_key_name x.name)) cs))) is
 
 abbrev row_of : List IndexValue → KeyParts → RowParts
 row_of values key = record { values = values; key = key }
@@ -179,7 +183,8 @@ key_told c k (class.Key l) inclusive is key p q =
     let kd : key_descends (c ∷ []) ≡ c.descending = or_false (is_key_name c.name && c.descending) ∙ ap (λ b. b && c.descending) is in
     let place : place_of (c ∷ []) (row_of [] k) ≡ key_encoding c.descending k ++ [] =
     (λ i. columns_bytes (directions-key c [] is i) [] ++ key_encoding (kd i) k) ∙ sym (append-nil (key_encoding c.descending k)) in
-    let begun : begun_with (c ∷ []) (class.Key l) ≡ key_encoding c.descending l = ap (λ b. value_in_column b c.descending (class.Key l)) is in
+    let begun : begun_with (c ∷ []) (class.Key l)
+    ≡ key_encoding c.descending l = ap (λ b. value_in_column b c.descending (class.Key l)) is in
     record {
       low = (λ i. not (is_below (place i) (begun i ++ cond inclusive [] beyond)))
           ∙ from_low (key_encoding-ordered c.descending) k l [] inclusive p q tt
@@ -208,7 +213,8 @@ told (c ∷ cs) values k b inclusive differ ends keyed row p = by (is_key_name c
       (lawful_in b (keyed e) (subst (λ x. IsLawfulInColumn x b) e p))
   by true e [] differ ends keyed (v ∷ vs) row =
       let long : length (v ∷ vs) ≡ 0 = row.long ∙ ap length (directions-key c [] e) in absurd (omega arith)
-  by true e (d ∷ cs) differ ends keyed values row = true_false (IsTold (c ∷ d ∷ cs) (row_of values k) b inclusive) (is_key_name c.name) e (first_not_key c d cs differ ends)
+  by true e (d ∷ cs) differ ends keyed values row = true_false (IsTold (c ∷ d ∷ cs) (row_of values k) b inclusive) (is_key_name c.name) e
+      (first_not_key c d cs differ ends)
   by false e cs differ ends keyed [] row =
       let long : 0 ≡ length (c.descending ∷ directions cs) = row.long ∙ ap length (directions-value c cs e) in absurd (omega arith)
   by false e cs differ ends keyed (v ∷ vs) row = value_told c cs v vs k b inclusive e (All-head IsValueOfBytes v vs row.values)
@@ -272,7 +278,8 @@ module _ (columns : List Column) (r : RowParts) (differ : names_differ columns �
   -- the row stands between the bounds of the range exactly where its first value is within it
   range_told : (range : Range) → IsLawfulBound columns (first_bound columns range) → IsLawfulBound columns (last_bound columns range)
       → (starts_with_key columns ≡ true → bounds_are_keys range ≡ true)
-      → (not (is_below (place_of columns r) (low_at columns (first_bound columns range))) && is_before (high_at columns (last_bound columns range)) (place_of columns r))
+      → (not (is_below (place_of columns r) (low_at columns (first_bound columns range)))
+      && is_before (high_at columns (last_bound columns range)) (place_of columns r))
       ≡ is_within range (first_value r)
   range_told range p q keyed = by (first_descends columns) refl where
     lower_keyed : starts_with_key columns ≡ true → is_key_bound range.lower ≡ true
@@ -282,17 +289,20 @@ module _ (columns : List Column) (r : RowParts) (differ : names_differ columns �
     upper_keyed s = (both (is_key_bound range.lower) (is_key_bound range.upper) (keyed s)).1
 
     by : (d : Bool) → first_descends columns ≡ d
-        → (not (is_below (place_of columns r) (low_at columns (first_bound columns range))) && is_before (high_at columns (last_bound columns range)) (place_of columns r))
+        → (not (is_below (place_of columns r) (low_at columns (first_bound columns range)))
+        && is_before (high_at columns (last_bound columns range)) (place_of columns r))
         ≡ is_within range (first_value r)
     by true e =
-        (λ i. not (is_below (place_of columns r) (low_at columns (cond (e i) range.upper range.lower))) && is_before (high_at columns (cond (e i) range.lower range.upper)) (place_of columns r))
+        (λ i. not (is_below (place_of columns r) (low_at columns (cond (e i) range.upper range.lower)))
+        && is_before (high_at columns (cond (e i) range.lower range.upper)) (place_of columns r))
         ∙ (λ i. from_first range.upper (subst (λ d. IsLawfulBound columns (cond d range.upper range.lower)) e p) upper_keyed i
         && to_last range.lower (subst (λ d. IsLawfulBound columns (cond d range.lower range.upper)) e q) lower_keyed i)
         ∙ (λ i. met_first (e i) range.upper && met_last (e i) range.lower)
         ∙ (λ i. first_upper range.upper i && last_lower range.lower i)
         ∙ turn (meets_upper range.upper (first_value r)) (meets_lower range.lower (first_value r))
     by false e =
-        (λ i. not (is_below (place_of columns r) (low_at columns (cond (e i) range.upper range.lower))) && is_before (high_at columns (cond (e i) range.lower range.upper)) (place_of columns r))
+        (λ i. not (is_below (place_of columns r) (low_at columns (cond (e i) range.upper range.lower)))
+        && is_before (high_at columns (cond (e i) range.lower range.upper)) (place_of columns r))
         ∙ (λ i. from_first range.lower (subst (λ d. IsLawfulBound columns (cond d range.upper range.lower)) e p) lower_keyed i
         && to_last range.upper (subst (λ d. IsLawfulBound columns (cond d range.lower range.upper)) e q) upper_keyed i)
         ∙ (λ i. met_first (e i) range.lower && met_last (e i) range.upper)
@@ -327,24 +337,29 @@ not_was false e = refl
 
 under_told : (a k : KeyParts) → IsLawfulKey a → IsKeyOfBytes k
     → (not (is_below (key_bytes k) (key_front a)) && is_below (key_bytes k) (key_front a ++ beyond)) ≡ is_ancestor a k
-under_told a k p q = same_bool (not (is_below (key_bytes k) (key_front a)) && is_below (key_bytes k) (key_front a ++ beyond)) (is_ancestor a k) to back where
-  to : (not (is_below (key_bytes k) (key_front a)) && is_below (key_bytes k) (key_front a ++ beyond)) ≡ true → is_ancestor a k ≡ true
-  to h =
-      let two = both (not (is_below (key_bytes k) (key_front a))) (is_below (key_bytes k) (key_front a ++ beyond)) h in
-      let low : is_below (key_bytes k) (key_front a ++ []) ≡ false =
-      ap (λ (bs : List ℕ). is_below (key_bytes k) bs) (append-nil (key_front a)) ∙ not_was (is_below (key_bytes k) (key_front a)) two.0 in
-      let begins = between (key_front a) [] beyond (key_bytes k) low two.1 in
-      (ancestor_begins a k (key_of_bytes a p) q (key_some a p)).1 (rest (key_front a) (key_bytes k), begins-is (key_front a) (key_bytes k) begins)
+under_told a k p q = same_bool (not (is_below (key_bytes k) (key_front a)) && is_below (key_bytes k) (key_front a
+    ++ beyond)) (is_ancestor a k) to back where
+      to : (not (is_below (key_bytes k) (key_front a)) && is_below (key_bytes k) (key_front a ++ beyond)) ≡ true → is_ancestor a k ≡ true
+      to h =
+          let two = both (not (is_below (key_bytes k) (key_front a))) (is_below (key_bytes k) (key_front a ++ beyond)) h in
+          let low : is_below (key_bytes k) (key_front a ++ []) ≡ false =
+          ap (λ (bs : List ℕ). is_below (key_bytes k) bs) (append-nil (key_front a)) ∙ not_was (is_below (key_bytes k) (key_front a)) two.0 in
+          let begins = between (key_front a) [] beyond (key_bytes k) low two.1 in
+          (ancestor_begins a k (key_of_bytes a p) q (key_some a p)).1 (
+            rest (key_front a) (key_bytes k),
+            begins-is (key_front a) (key_bytes
+                k) begins,
+          )
 
-  back : is_ancestor a k ≡ true → (not (is_below (key_bytes k) (key_front a)) && is_below (key_bytes k) (key_front a ++ beyond)) ≡ true
-  back h =
-      let u = under_bytes a k h in
-      let path = path_bytes u.0 in
-      join (not (is_below (key_bytes k) (key_front a))) (is_below (key_bytes k) (key_front a ++ beyond))
-      (ap not ((λ i. is_below (u.1 i) (sym (append-nil (key_front a)) i))
-      ∙ ap is_lt (bytes_cmp-front (key_front a) path []) ∙ none_below path))
-      (ap (λ (bs : List ℕ). is_below bs (key_front a ++ beyond)) u.1
-      ∙ ap is_lt (bytes_cmp-front (key_front a) path beyond ∙ low_below path (path_low u.0)))
+      back : is_ancestor a k ≡ true → (not (is_below (key_bytes k) (key_front a)) && is_below (key_bytes k) (key_front a ++ beyond)) ≡ true
+      back h =
+          let u = under_bytes a k h in
+          let path = path_bytes u.0 in
+          join (not (is_below (key_bytes k) (key_front a))) (is_below (key_bytes k) (key_front a ++ beyond))
+          (ap not ((λ i. is_below (u.1 i) (sym (append-nil (key_front a)) i))
+          ∙ ap is_lt (bytes_cmp-front (key_front a) path []) ∙ none_below path))
+          (ap (λ (bs : List ℕ). is_below bs (key_front a ++ beyond)) u.1
+          ∙ ap is_lt (bytes_cmp-front (key_front a) path beyond ∙ low_below path (path_low u.0)))
 
 by_key_place : (columns : List Column) (values : List IndexValue) (k : KeyParts) → is_by_key columns ≡ true
     → IsRow (directions columns) (row_of values k) → place_of columns (row_of values k) ≡ key_bytes k
@@ -439,7 +454,8 @@ pairs_apart false b c d e = refl
 -- rows are in the order of keys, and its place is up to the end.
 pub row_stands : (q : Branch) (end : Option Place) (r : RowParts) → IsLawfulBranch q → IsLawfulEnds q → IsRow (directions q.columns) r
     → in_range (low_of q) (high_of q end) (place_of q.columns r)
-    ≡ (is_within q.range (first_value r) && (cond (is_by_key q.columns) (is_under q.ancestor r.key) true && is_up_to end (place_of q.columns r)))
+    ≡ (is_within q.range (first_value r) && (cond (is_by_key q.columns) (is_under q.ancestor r.key) true
+    && is_up_to end (place_of q.columns r)))
 row_stands q end r lawful ends row =
     let x = place_of q.columns r in
     let low = low_at q.columns (first_bound q.columns q.range) in

@@ -1,5 +1,6 @@
 -- The steps of an answer are within the bound.
-use Rattle.std.proofs.Common.{◌≡◌, ℕ, zero, suc, ◌+◌, ◌*◌, ◌≤◌, ◌<◌, List, [], ◌∷◌, length, map, Bool, true, false, cond, refl, sym, ap, ◌∙◌, subst, Option, Some, None, arith}
+use Rattle.std.proofs.Common.{◌≡◌, ℕ, zero, suc, ◌+◌, ◌*◌, ◌≤◌, ◌<◌, List, [], ◌∷◌, length, map, Bool, true, false, cond, refl, sym, ap}
+use Rattle.std.proofs.Common.{◌∙◌, subst, Option, Some, None, arith}
 use Rattle.std.specs.Prelude.{nat_lt, ◌==◌, take}
 use Rattle.std.proofs.Math.Nat.{mul-le-mul_left}
 use Rattle.std.proofs.lemmas.Bool.Decides.{nat_tests}
@@ -48,7 +49,8 @@ last_given : (columns : List Column) (rows : List RowParts) → last_of None (ma
 last_given columns rows = fold-map (λ (place : Option Place) (row : Row). Some row.place) (placed columns) None rows
 
 -- what is said of scans that are those of a plan is said of the plan's
-pub moved_steps : (begun now : ℕ) (f : ℕ → List (List (List ℕ)) → List (List (List ℕ)) → ℕ) (n n' : ℕ) (ss ss' ps ps' : List (List (List ℕ)))
+pub moved_steps : (begun now : ℕ) (f : ℕ → List (List (List ℕ)) → List (List (List ℕ))
+    → ℕ) (n n' : ℕ) (ss ss' ps ps' : List (List (List ℕ)))
     → n ≡ n' → ss ≡ ss' → ps ≡ ps' → now ≤ begun + f n ss ps → now ≤ begun + f n' ss' ps'
 moved_steps begun now f n n' ss ss' ps ps' a b c h =
     subst (λ m. now ≤ begun + f m ss' ps') a (subst (λ ls. now ≤ begun + f n ls ps') b (subst (λ ls. now ≤ begun + f n ss ls) c h))
@@ -64,7 +66,8 @@ module _ (q : Branch) (defs : List IndexDef) (scans : List PlannedScan) (stamp :
   abbrev least_up_to : Option Place → ℕ
   least_up_to stop = least_of (map (λ part. length (part_rows q start end stop (entities_at stamp versions) part)) (parts q))
 
-  to_end : steps_to_end (length scans) (bytes_of start) strings passed ≤ length (parts q) * (2 * least_up_to None + 2) + old q stamp versions
+  to_end : steps_to_end (length scans) (bytes_of start) strings passed
+      ≤ length (parts q) * (2 * least_up_to None + 2) + old q stamp versions
   to_end =
       let few = few_strings q defs scans stamp versions start end None planned in
       fewer_steps (length scans) (length (parts q)) (least_count (bytes_of start) None strings) (least_up_to None)
@@ -92,12 +95,14 @@ module _ (q : Branch) (defs : List IndexDef) (scans : List PlannedScan) (stamp :
       omega (arith, l)
 
   pub done_within : (most : Option ℕ) (begun now : ℕ) (found : List Row) → found ≡ map (placed q.columns) (rows_given most)
-      → now ≤ begun + walk_steps (is_wanted most (length found)) (length scans) (bytes_of start) (bytes_of (last_of None found)) strings passed
+      → now ≤ begun + walk_steps (is_wanted most (length found)) (length scans) (bytes_of start) (bytes_of (last_of None found)) strings
+      passed
       → now ≤ begun + bound q start end most stamp versions
   done_within None begun now found are within = let all = to_end in omega (arith, within, all)
   done_within (Some zero) begun now found are within =
       let none : found ≡ [] = are in
-      let here = subst (λ rs. now ≤ begun + walk_steps (is_wanted (Some 0) (length rs)) (length scans) (bytes_of start) (bytes_of (last_of None rs)) strings passed) none within in
+      let here = subst (λ rs. now ≤ begun + walk_steps (is_wanted (Some 0) (length rs)) (length scans) (bytes_of start) (bytes_of
+      (last_of None rs)) strings passed) none within in
       omega (arith, here)
   done_within (Some (suc m)) begun now found are within = by (is_wanted (Some (suc m)) (length (rows_given (Some (suc m))))) refl where
     rows : List RowParts
@@ -112,18 +117,22 @@ module _ (q : Branch) (defs : List IndexDef) (scans : List PlannedScan) (stamp :
     here : now ≤ begun + walk_steps (is_wanted (Some (suc m)) (length (rows_given (Some (suc m))))) (length scans) (bytes_of start)
         (bytes_of (last_place q.columns None (rows_given (Some (suc m))))) strings passed
     here =
-        subst (λ l. now ≤ begun + walk_steps (is_wanted (Some (suc m)) l) (length scans) (bytes_of start) (bytes_of (last_place q.columns None (rows_given (Some (suc m))))) strings passed) long
-        (subst (λ o. now ≤ begun + walk_steps (is_wanted (Some (suc m)) (length found)) (length scans) (bytes_of start) (bytes_of o) strings passed) last within)
+        subst (λ l. now ≤ begun + walk_steps (is_wanted (Some (suc m)) l) (length scans) (bytes_of start) (bytes_of (last_place q.columns
+        None (rows_given (Some (suc m))))) strings passed) long
+        (subst (λ o. now ≤ begun + walk_steps (is_wanted (Some (suc m)) (length found)) (length scans) (bytes_of start) (bytes_of o)
+        strings passed) last within)
 
     within_stop : (stop : Option Place) → stop_at q.columns (Some (suc m)) (rows_given (Some (suc m))) ≡ stop
         → now ≤ begun + (length (parts q) * (2 * least_up_to stop + 2) + old q stamp versions)
         → now ≤ begun + bound q start end (Some (suc m)) stamp versions
     within_stop stop e h = subst (λ o. now ≤ begun + (length (parts q) * (2 * least_up_to o + 2) + old q stamp versions)) (sym e) h
 
-    by : (b : Bool) → is_wanted (Some (suc m)) (length (rows_given (Some (suc m)))) ≡ b → now ≤ begun + bound q start end (Some (suc m)) stamp versions
+    by : (b : Bool) → is_wanted (Some (suc m)) (length (rows_given (Some (suc m)))) ≡ b → now
+        ≤ begun + bound q start end (Some (suc m)) stamp versions
     by true e =
         let apart : (length (rows_given (Some (suc m))) == suc m) ≡ false = less_apart (length (rows_given (Some (suc m)))) (suc m) e in
-        let steps = subst (λ b. now ≤ begun + walk_steps b (length scans) (bytes_of start) (bytes_of (last_place q.columns None (rows_given (Some (suc m))))) strings passed) e here in
+        let steps = subst (λ b. now ≤ begun + walk_steps b (length scans) (bytes_of start) (bytes_of (last_place q.columns None
+        (rows_given (Some (suc m))))) strings passed) e here in
         let all = to_end in
         within_stop None (ap (λ b. cond b (last_place q.columns None (rows_given (Some (suc m)))) None) apart) (omega (arith, steps, all))
     by false e =

@@ -1,5 +1,6 @@
 -- What was collected on the way over the strings that scans have in common.
-use Rattle.std.proofs.Common.{◌≡◌, ◌⊎◌, inl, inr, ℕ, ◌+◌, ◌≤◌, ◌<◌, List, [], ◌∷◌, ◌++◌, length, map, take, get_or, Bool, true, false, ◌&&◌, not, cond, refl, sym, ap, ◌∙◌, subst, Option, Some, None, Result, Ok, Err, arith, length-append}
+use Rattle.std.proofs.Common.{◌≡◌, ◌⊎◌, inl, inr, ℕ, ◌+◌, ◌≤◌, ◌<◌, List, [], ◌∷◌, ◌++◌, length, map, take, get_or, Bool, true, false}
+use Rattle.std.proofs.Common.{◌&&◌, not, cond, refl, sym, ap, ◌∙◌, subst, Option, Some, None, Result, Ok, Err, arith, length-append}
 use Rattle.std.specs.Prelude.{OnErr, All, Contains, IsTrue, nat_lt, count_by, zero, suc}
 use Rattle.std.specs.List.{list_any}
 use Rattle.std.proofs.lemmas.Bool.Decides.{nat_tests}
@@ -36,7 +37,8 @@ module _ (columns : List Column) (names : List (List ℕ)) (after : Option (List
   pub record AreCollected (slots : List (Option ℕ)) (last : Option (List ℕ)) (rows : List Row) : Type 0 where
     pub onward : (x : List ℕ) → IsTrue (is_above last x) → IsTrue (is_above after x)
     pub slots_are : slots ≡ map (slot_of columns) names
-    pub kept : (sorted : List RowParts) → AreCommonRows columns after lists sorted → rows ≡ map (placed columns) (kept_at columns names last sorted)
+    pub kept : (sorted : List RowParts) → AreCommonRows columns after lists sorted → rows
+        ≡ map (placed columns) (kept_at columns names last sorted)
     pub few : AreFew most (length rows)
 
   -- what is collected in the end
@@ -48,12 +50,14 @@ module _ (columns : List Column) (names : List (List ℕ)) (after : Option (List
   none_few None = tt
   none_few (Some m) = omega arith
 
-  pub begun : (slots : List (Option ℕ)) (last : Option (List ℕ)) (rows : List Row) → slots ≡ map (slot_of columns) names → last ≡ after → rows ≡ []
+  pub begun : (slots : List (Option ℕ)) (last : Option (List ℕ)) (rows : List Row) → slots ≡ map (slot_of columns) names → last ≡ after
+      → rows ≡ []
       → AreCollected slots last rows
   begun slots last rows slots_are stands none = record {
     onward = λ x above. subst (λ o. IsTrue (is_above o x)) stands above;
     slots_are = slots_are;
-    kept = λ sorted are. none ∙ sym (ap (map (placed columns)) (ap (λ o. kept_at columns names o sorted) stands ∙ none_kept columns names after lists sorted are));
+    kept = λ sorted are. none ∙ sym (ap (map (placed columns)) (ap (λ o. kept_at columns names o sorted) stands
+        ∙ none_kept columns names after lists sorted are));
     few = subst (λ rs. AreFew most (length rs)) (sym none) (none_few most);
   }
 
@@ -79,7 +83,8 @@ module _ (columns : List Column) (names : List (List ℕ)) (after : Option (List
         let marks = map (slot_of columns) names in
         put
         ∙ (λ i. with_item (is_same (are.slots_are i)) (so_far i) (p.place i))
-        ∙ with_item-map (placed columns) (is_same marks) (same_mark columns names) (is_same-placed columns names) (kept_at columns names last sorted) (parts_of row)
+        ∙ with_item-map (placed columns) (is_same marks) (same_mark columns names) (is_same-placed columns names) (kept_at columns names
+        last sorted) (parts_of row)
         ∙ ap (map (placed columns)) (sym (next_kept columns names after lists sorted common last a row next are.onward p at_a));
     few = subst (λ rs. AreFew most (length rs)) (sym put) (one_more most slots rows row wanted);
   } where
@@ -95,7 +100,8 @@ module _ (columns : List Column) (names : List (List ℕ)) (after : Option (List
         take_whole : (n : ℕ) (ys : List RowParts) → length ys ≤ n → take n ys ≡ ys
         take_whole n ys long = take_all n ys long
 
-  pub ended : (slots : List (Option ℕ)) (last : Option (List ℕ)) (rows : List Row) → AreCollected slots last rows → HasNoNextCommon last lists → AreAll rows
+  pub ended : (slots : List (Option ℕ)) (last : Option (List ℕ)) (rows : List Row) → AreCollected slots last rows
+      → HasNoNextCommon last lists → AreAll rows
   ended slots last rows are none sorted common =
       let kept = are.kept sorted common in
       let all = all_kept columns names after lists sorted common last none in
@@ -154,11 +160,13 @@ at_next most slots rows rows' row a begun now wanted put at_a enough = by (list_
       let more : rows' ≡ rows ++ row ∷ [] = put ∙ ap (λ b. cond b rows (rows ++ row ∷ [])) e in
       inr (ap (λ rs. bytes_of (last_of None rs)) more ∙ ap bytes_of (last_pushed None rows row) ∙ ap (λ bs. Some bs) at_a)
 
-module _ (start : Option (List ℕ)) (n n' : ℕ) (ss ss' ps ps' : List (List (List ℕ))) (begun : ℕ) (same_n : n ≡ n') (same_ss : ss ≡ ss') (same_ps : ps ≡ ps') where
+module _ (start : Option (List ℕ)) (n n' : ℕ) (ss ss' ps ps' : List (List (List ℕ))) (begun : ℕ) (same_n : n ≡ n') (same_ss : ss
+    ≡ ss') (same_ps : ps ≡ ps') where
   moved : (last : Option (List ℕ)) (now : ℕ) → IsWalked n' start last ss' ps' begun now → IsWalked n start last ss ps begun now
   moved last now w =
       subst (λ m. IsWalked m start last ss ps begun now) (sym same_n)
-      (subst (λ ls. IsWalked n' start last ls ps begun now) (sym same_ss) (subst (λ ls. IsWalked n' start last ss' ls begun now) (sym same_ps) w))
+      (subst (λ ls. IsWalked n' start last ls ps begun now) (sym same_ss) (subst (λ ls. IsWalked n' start last ss' ls begun now) (sym
+      same_ps) w))
 
   moved_back : (last : Option (List ℕ)) (now : ℕ) → IsWalked n start last ss ps begun now → IsWalked n' start last ss' ps' begun now
   moved_back last now w =
@@ -182,21 +190,24 @@ module _ (start : Option (List ℕ)) (n n' : ℕ) (ss ss' ps ps' : List (List (L
       (subst (λ ls. now2 ≤ begun + steps_to_end n start ls ps') same_ss
       (subst (λ ls. now2 ≤ begun + steps_to_end n start ss ls) same_ps (within (moved last now w))))
 
-pub steps_at_end : (most : Option ℕ) (found rows : List Row) (n : ℕ) (start last : Option (List ℕ)) (ss ps : List (List (List ℕ))) (begun now : ℕ)
+pub steps_at_end : (most : Option ℕ) (found rows : List Row) (n : ℕ) (start last : Option (List ℕ)) (ss ps : List (List (List ℕ))) (begun
+    now : ℕ)
     → found ≡ rows → is_wanted most (length rows) ≡ true → now ≤ begun + steps_to_end n start ss ps
     → now ≤ begun + walk_steps (is_wanted most (length found)) n start last ss ps
 steps_at_end most found rows n start last ss ps begun now same wanted within =
     let e : is_wanted most (length found) ≡ true = ap (λ rs. is_wanted most (length rs)) same ∙ wanted in
     subst (λ b. now ≤ begun + walk_steps b n start last ss ps) (sym e) within
 
-pub steps_when_full : (most : Option ℕ) (found rows : List Row) (n : ℕ) (start last : Option (List ℕ)) (ss ps : List (List (List ℕ))) (begun now : ℕ)
+pub steps_when_full : (most : Option ℕ) (found rows : List Row) (n : ℕ) (start last : Option (List ℕ)) (ss ps : List (List (List ℕ)))
+    (begun now : ℕ)
     → found ≡ rows → is_wanted most (length rows) ≡ false → IsAtLast most rows last begun now → IsWalked n start last ss ps begun now
     → now ≤ begun + walk_steps (is_wanted most (length found)) n start (bytes_of (last_of None found)) ss ps
 steps_when_full most found rows n start last ss ps begun now same enough at_last walked =
     let e : is_wanted most (length found) ≡ false = ap (λ rs. is_wanted most (length rs)) same ∙ enough in
     subst (λ b. now ≤ begun + walk_steps b n start (bytes_of (last_of None found)) ss ps) (sym e)
     (subst (λ rs. now ≤ begun + steps_up_to n start (bytes_of (last_of None rs)) ss ps) (sym same) (by (at_last enough))) where
-      by : ((rows ≡ []) × (now ≡ begun)) ⊎ (bytes_of (last_of None rows) ≡ last) → now ≤ begun + steps_up_to n start (bytes_of (last_of None rows)) ss ps
+      by : ((rows ≡ []) × (now ≡ begun)) ⊎ (bytes_of (last_of None rows) ≡ last) → now
+          ≤ begun + steps_up_to n start (bytes_of (last_of None rows)) ss ps
       by (inl none) =
           subst (λ rs. now ≤ begun + steps_up_to n start (bytes_of (last_of None rs)) ss ps) (sym none.0) (omega (arith, none.1))
       by (inr at_row) = subst (λ o. now ≤ begun + steps_up_to n start o ss ps) (sym at_row) walked.within

@@ -1,5 +1,6 @@
 -- The strings that the scans of a suiting plan have in common are the places of the branch's rows.
-use Rattle.std.proofs.Common.{◌≡◌, ◌⊎◌, inl, inr, ℕ, ◌<◌, List, [], ◌∷◌, ◌++◌, length, map, Bool, true, false, ◌&&◌, ◌||◌, not, cond, refl, sym, ap, ◌∙◌, subst, Option, Some, None, arith, append-nil}
+use Rattle.std.proofs.Common.{◌≡◌, ◌⊎◌, inl, inr, ℕ, ◌<◌, List, [], ◌∷◌, ◌++◌, length, map, Bool, true, false, ◌&&◌, ◌||◌, not, cond}
+use Rattle.std.proofs.Common.{refl, sym, ap, ◌∙◌, subst, Option, Some, None, arith, append-nil}
 use Rattle.std.specs.Prelude.{filter, flat_map, All, Contains, IsTrue, is_some, is_none, option_map, bytes_eq}
 use Rattle.std.specs.List.{list_all, list_any, AllByRecursion, IsDistinct}
 use Rattle.std.proofs.lemmas.Map.Keys.{IsDistinct-head, IsDistinct-tail}
@@ -26,7 +27,8 @@ use Rattle.ds_query.specs.Lawful.{IsLawfulBranch}
 use Rattle.ds_planner.specs.declared.planned.PlannedScan.{PlannedScan}
 use Rattle.ds_planner.specs.Indexes.{is_by_key, has_flag, binds_ancestor}
 use Rattle.ds_planner.specs.Suits.{suits, is_scan, are_some, chooses}
-use Rattle.ds_planner.proofs.Members.{Member, both, join, contained, member_contained, map_member, member_map, filter_member, member_filter, some_member, each_member, all_members, member_flat_map, or_cases, true_false}
+use Rattle.ds_planner.proofs.Members.{Member, both, join, contained, member_contained, map_member, member_map, filter_member}
+use Rattle.ds_planner.proofs.Members.{member_filter, some_member, each_member, all_members, member_flat_map, or_cases, true_false}
 use Rattle.ds_planner.proofs.PairLists.{chooses-member}
 use Rattle.ds_planner.proofs.PlanLaws.{suited, IsSuited}
 use Rattle.ds_rows.specs.Indexable.{IsIndexable}
@@ -39,7 +41,8 @@ use Rattle.ds_table.specs.Versions.{in_range}
 use Rattle.ds_zigzag.specs.Spans.{is_above}
 use Rattle.ds_zigzag.specs.CommonStrings.{IsCommon}
 use Rattle.ds_cursor.specs.RowsOfColumns.{directions, key_descends, IsRowIn, IsRowOf}
-use Rattle.ds_model.specs.Rows.{rows, entity_rows, is_found, is_under, is_within, first_value, has_value, has_kind, value_columns, place_of, compare_rows}
+use Rattle.ds_model.specs.Rows.{rows, entity_rows, is_found, is_under, is_within, first_value, has_value, has_kind, value_columns}
+use Rattle.ds_model.specs.Rows.{place_of, compare_rows}
 use Rattle.ds_model.specs.Results.{is_between, is_after, is_up_to}
 use Rattle.ds_merge.proofs.PlaceOrder.{folded}
 use Rattle.ds_engine.specs.Prefixes.{scan_prefix}
@@ -69,7 +72,8 @@ entity_indexable stamp versions all e m =
     let f = filter_member (is_seen stamp) versions w.0 w.1.0 in
     subst IsIndexable (sym w.1.1) (all_member (λ (v : Version). IsIndexable v.entity) versions w.0 all f.0)
 
-other_keys : (k : KeyParts) (entities : List EntityParts) → AllByRecursion (λ y. same_key k y ≡ false) (map (λ (e : EntityParts). e.key) entities)
+other_keys : (k : KeyParts) (entities : List EntityParts) → AllByRecursion (λ y. same_key k y
+    ≡ false) (map (λ (e : EntityParts). e.key) entities)
     → (b : EntityParts) → Member b entities → k ≡ b.key → ⊥
 other_keys k [] all b m same = m
 other_keys k (e ∷ entities) all b (inl h) same =
@@ -103,7 +107,8 @@ row_lawful q e r p m =
       subst IsLawfulKey (sym row.0) p.key,
     )
 
-pub row_of_bytes : (q : Branch) (e : EntityParts) (r : RowParts) → IsIndexable e → Member r (entity_rows q.columns e) → IsRow (directions q.columns) r
+pub row_of_bytes : (q : Branch) (e : EntityParts) (r : RowParts) → IsIndexable e → Member r (entity_rows q.columns e)
+    → IsRow (directions q.columns) r
 row_of_bytes q e r p m =
     let l = row_lawful q e r p m in
     record { long = l.0; values = λ k d below. value_of_bytes _ (l.1 k d below); key = key_of_bytes r.key l.2 }
@@ -151,10 +156,12 @@ module _ (q : Branch) (defs : List IndexDef) (scans : List PlannedScan) (stamp :
       let from = flat_map_member (rows_of defs) entities (scan_prefix q defs s ++ x)
       (member_contained (seen_rows defs stamp versions) (scan_prefix q defs s ++ x) seen) in
       let e = from.0 in
-      let law = scans_tell defs q s e planned.tables.definitions planned.branch (a_scan s m) (all_member (IsLawfulScan defs) scans s planned.lawful m)
+      let law = scans_tell defs q s e planned.tables.definitions planned.branch (a_scan s m) (all_member (IsLawfulScan defs) scans s
+      planned.lawful m)
       (indexable e from.1.0) x in
       let w = map_member (place_of q.columns) (rows (scan_branch q s) (e ∷ [])) x
-      (member_contained (map (place_of q.columns) (rows (scan_branch q s) (e ∷ []))) x (law.0 (contained (rows_of defs e) (scan_prefix q defs s ++ x) from.1.1))) in
+      (member_contained (map (place_of q.columns) (rows (scan_branch q s) (e ∷ []))) x (law.0 (contained (rows_of defs e) (scan_prefix q
+      defs s ++ x) from.1.1))) in
       let is = row_member (scan_branch q s) (e ∷ []) w.0 w.1.0 in
       let mine : is.entity ≡ e = only is.entity e is.there in
       record {
@@ -170,7 +177,8 @@ module _ (q : Branch) (defs : List IndexDef) (scans : List PlannedScan) (stamp :
   to_scan : (s : PlannedScan) (x : List ℕ) → Member s scans → IsOfScan s x → Contains (strings s) x
   to_scan s x m is =
       let e = is.entity in
-      let law = scans_tell defs q s e planned.tables.definitions planned.branch (a_scan s m) (all_member (IsLawfulScan defs) scans s planned.lawful m)
+      let law = scans_tell defs q s e planned.tables.definitions planned.branch (a_scan s m) (all_member (IsLawfulScan defs) scans s
+      planned.lawful m)
       (indexable e is.there) x in
       let mine : Member is.row (rows (scan_branch q s) (e ∷ [])) =
       member_row (scan_branch q s) (e ∷ []) is.row
@@ -182,10 +190,12 @@ module _ (q : Branch) (defs : List IndexDef) (scans : List PlannedScan) (stamp :
       (law.1 (contained (map (place_of q.columns) (rows (scan_branch q s) (e ∷ []))) x listed)) in
       let seen = contained (seen_rows defs stamp versions) (scan_prefix q defs s ++ x)
       (member_flat_map (rows_of defs) entities e (scan_prefix q defs s ++ x) is.there own) in
-      rest_of_row (range_of q defs end s) (rows_at defs stamp versions) x (seen_row defs stamp versions (scan_prefix q defs s ++ x) seen) is.inside
+      rest_of_row (range_of q defs end s) (rows_at defs stamp versions) x (seen_row defs stamp versions (scan_prefix q defs s
+      ++ x) seen) is.inside
 
   scan_has : (x : List ℕ) → IsCommon all_strings x → (s : PlannedScan) → Member s scans → IsOfScan s x
-  scan_has x common s m = of_scan s x m (all_member (λ (ss : List (List ℕ)). Contains ss x) all_strings (strings s) common (member_map strings scans s m))
+  scan_has x common s m = of_scan s x m (all_member (λ (ss : List (List ℕ)). Contains ss x) all_strings (strings s) common (member_map
+      strings scans s m))
 
   -- ---- from common strings to rows
 
@@ -237,18 +247,25 @@ module _ (q : Branch) (defs : List IndexDef) (scans : List PlannedScan) (stamp :
     met : (s : PlannedScan) → Member s scans → AreMet s
     met s m =
         let e = at_first.entity in
-        let one = both (bytes_eq e.key.namespace q.namespace && has_kind q.kind e.key && is_under s.ancestor e.key) (list_all (has_value e) s.equal) (counts_at s m) in
+        let one = both (bytes_eq e.key.namespace q.namespace && has_kind q.kind e.key
+        && is_under s.ancestor e.key) (list_all (has_value e) s.equal) (counts_at s m) in
         let two = both (bytes_eq e.key.namespace q.namespace && has_kind q.kind e.key) (is_under s.ancestor e.key) one.0 in
         let three = both (bytes_eq e.key.namespace q.namespace) (has_kind q.kind e.key) two.0 in
         record { namespace = three.0; kind = three.1; under = two.1; pairs = one.1 }
 
-    stands : (is_within q.range (first_value at_first.row) ≡ true) × ((cond (is_by_key q.columns) (is_under q.ancestor at_first.row.key) true ≡ true) × (is_up_to end (place_of q.columns at_first.row) ≡ true))
+    stands : (is_within q.range (first_value at_first.row)
+        ≡ true) × ((cond (is_by_key q.columns) (is_under q.ancestor at_first.row.key) true
+        ≡ true) × (is_up_to end (place_of q.columns at_first.row) ≡ true))
     stands =
         let row = row_at first.0 at_first in
         let told = row_stands q end at_first.row planned.branch planned.ends row in
         let all = sym told ∙ ap (λ y. in_range (low_of q) (high_of q end) y) (sym at_first.place) ∙ at_first.inside in
-        let one = both (is_within q.range (first_value at_first.row)) (cond (is_by_key q.columns) (is_under q.ancestor at_first.row.key) true && is_up_to end (place_of q.columns at_first.row)) all in
-        (one.0, both (cond (is_by_key q.columns) (is_under q.ancestor at_first.row.key) true) (is_up_to end (place_of q.columns at_first.row)) one.1)
+        let one = both (is_within q.range (first_value at_first.row)) (cond (is_by_key q.columns) (is_under q.ancestor at_first.row.key)
+        true && is_up_to end (place_of q.columns at_first.row)) all in (
+          one.0,
+          both (cond (is_by_key q.columns) (is_under q.ancestor at_first.row.key) true) (is_up_to end (place_of q.columns
+              at_first.row)) one.1,
+        )
 
     key_is : at_first.row.key ≡ at_first.entity.key
     key_is = (entity_row q.columns at_first.entity at_first.row at_first.is_row).0
@@ -306,7 +323,8 @@ module _ (q : Branch) (defs : List IndexDef) (scans : List PlannedScan) (stamp :
   in_scans r m up s n =
       let is = row_member q entities r m in
       let e = is.entity in
-      let one = both (bytes_eq e.key.namespace q.namespace && has_kind q.kind e.key && is_under q.ancestor e.key) (list_all (has_value e) q.equal) is.counts in
+      let one = both (bytes_eq e.key.namespace q.namespace && has_kind q.kind e.key
+      && is_under q.ancestor e.key) (list_all (has_value e) q.equal) is.counts in
       let two = both (bytes_eq e.key.namespace q.namespace && has_kind q.kind e.key) (is_under q.ancestor e.key) one.0 in
       let b = bound_scan q defs s planned.branch (a_scan s n) in
       let under : is_under s.ancestor e.key ≡ true = flagged e.key (has_ancestor b.found.index) s.ancestor b.ancestor two.1 in
@@ -316,20 +334,23 @@ module _ (q : Branch) (defs : List IndexDef) (scans : List PlannedScan) (stamp :
       let key : r.key ≡ e.key = (entity_row q.columns e r is.row).0 in
       let inside : in_range (low_of q) (high_of q end) (place_of q.columns r) ≡ true =
       row_stands q end r planned.branch planned.ends row
-      ∙ join (is_within q.range (first_value r)) (cond (is_by_key q.columns) (is_under q.ancestor r.key) true && is_up_to end (place_of q.columns r)) is.within
+      ∙ join (is_within q.range (first_value r)) (cond (is_by_key q.columns) (is_under q.ancestor r.key) true
+      && is_up_to end (place_of q.columns r)) is.within
       (join (cond (is_by_key q.columns) (is_under q.ancestor r.key) true) (is_up_to end (place_of q.columns r))
       (either (is_by_key q.columns) (is_under q.ancestor r.key) (ap (is_under q.ancestor) key ∙ two.1)) up) in
       record {
         entity = e;
         there = is.there;
         row = r;
-        counts = join (bytes_eq e.key.namespace q.namespace && has_kind q.kind e.key && is_under s.ancestor e.key) (list_all (has_value e) s.equal)
+        counts = join (bytes_eq e.key.namespace q.namespace && has_kind q.kind e.key
+            && is_under s.ancestor e.key) (list_all (has_value e) s.equal)
             (join (bytes_eq e.key.namespace q.namespace && has_kind q.kind e.key) (is_under s.ancestor e.key) two.0 under) pairs;
         is_row = is.row;
         place = refl;
         inside = inside;
       } where
-        flagged : (k : KeyParts) (flag : Bool) (a : Option KeyParts) → a ≡ cond flag q.ancestor None → is_under q.ancestor k ≡ true → is_under a k ≡ true
+        flagged : (k : KeyParts) (flag : Bool) (a : Option KeyParts) → a ≡ cond flag q.ancestor None → is_under q.ancestor k ≡ true
+            → is_under a k ≡ true
         flagged k true a same h = ap (λ o. is_under o k) same ∙ h
         flagged k false a same h = ap (λ o. is_under o k) same
 
@@ -364,7 +385,8 @@ module _ (q : Branch) (defs : List IndexDef) (scans : List PlannedScan) (stamp :
         above = after_start start (place_of q.columns r) ∙ two.0;
       }
 
-  pub common_rows : (start : Option Place) → AreCommonRows q.columns (bytes_of start) all_strings (sorted_by (compare_rows q.columns) (found_rows start))
+  pub common_rows : (start : Option Place)
+      → AreCommonRows q.columns (bytes_of start) all_strings (sorted_by (compare_rows q.columns) (found_rows start))
   common_rows start =
       let found = found_rows start in
       let sorted = sorted_by (compare_rows q.columns) found in
@@ -382,7 +404,8 @@ module _ (q : Branch) (defs : List IndexDef) (scans : List PlannedScan) (stamp :
             join (is_after start (place_of q.columns is.row)) (is_up_to end (place_of q.columns is.row))
             (ap (is_after start) (sym is.place) ∙ sym (after_start start x) ∙ above) (ap (is_up_to end) (sym is.place) ∙ is.up_to) in
             let there = member_filter (is_between q.columns start end) (rows q entities) is.row is.there between in
-            let listed : Member is.row sorted = member_contained sorted is.row (Contains-permutation found sorted is.row moved (contained found is.row there)) in
+            let listed : Member is.row sorted = member_contained sorted is.row (Contains-permutation found sorted is.row moved (contained
+            found is.row there)) in
             contained (map (place_of q.columns) sorted) x
             (subst (λ y. Member y (map (place_of q.columns) sorted)) (sym is.place) (member_map (place_of q.columns) sorted is.row listed));
       }

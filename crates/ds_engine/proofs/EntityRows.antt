@@ -1,5 +1,6 @@
 -- The rows of a branch as members: of which entity each is, and by which values.
-use Rattle.std.proofs.Common.{◌≡◌, ◌⊎◌, inl, inr, List, [], ◌∷◌, ◌++◌, Bool, true, false, ◌&&◌, refl, sym, ap, ◌∙◌, subst, map, Some, None, Option}
+use Rattle.std.proofs.Common.{◌≡◌, ◌⊎◌, inl, inr, List, [], ◌∷◌, ◌++◌, Bool, true, false, ◌&&◌, refl, sym, ap, ◌∙◌, subst, map, Some}
+use Rattle.std.proofs.Common.{None, Option}
 use Rattle.std.specs.Prelude.{ℕ, filter, flat_map, find, bytes_eq, All}
 use Rattle.std.specs.Option.{option_map_or}
 use Rattle.std.specs.List.{list_all}
@@ -70,7 +71,8 @@ member_row q entities r is =
 value_lawful : (ps : List Property) (name : List ℕ) (v : IndexValue) → All (λ p. All IsLawfulValue (property_values p)) ps
     → Member v (option_map_or property_values (find (λ p. bytes_eq p.name name) ps) []) → IsLawfulValue v
 value_lawful ps name v all m = by (find (λ (p : Property). bytes_eq p.name name) ps) refl m where
-  by : (o : Option Property) → find (λ (p : Property). bytes_eq p.name name) ps ≡ o → Member v (option_map_or property_values o []) → IsLawfulValue v
+  by : (o : Option Property) → find (λ (p : Property). bytes_eq p.name name) ps ≡ o → Member v (option_map_or property_values o [])
+      → IsLawfulValue v
   by None e m = absurd m
   by (Some p) e m =
       let f = find_member (λ (x : Property). bytes_eq x.name name) ps p e in

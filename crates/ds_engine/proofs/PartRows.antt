@@ -1,5 +1,6 @@
 -- The strings of a scan are places of rows of each part that it binds, and no more than these.
-use Rattle.std.proofs.Common.{◌≡◌, ◌⊎◌, inl, inr, ℕ, ◌+◌, ◌*◌, ◌≤◌, ◌<◌, List, [], ◌∷◌, ◌++◌, length, map, Bool, true, false, ◌&&◌, ◌||◌, not, cond, refl, sym, ap, ◌∙◌, subst, Option, Some, None, arith, length-append, append-nil}
+use Rattle.std.proofs.Common.{◌≡◌, ◌⊎◌, inl, inr, ℕ, ◌+◌, ◌*◌, ◌≤◌, ◌<◌, List, [], ◌∷◌, ◌++◌, length, map, Bool, true, false, ◌&&◌, ◌||◌}
+use Rattle.std.proofs.Common.{not, cond, refl, sym, ap, ◌∙◌, subst, Option, Some, None, arith, length-append, append-nil}
 use Rattle.std.specs.Prelude.{filter, flat_map, sum_by, count_by, All, Contains, IsTrue, is_some, is_none, bytes_eq}
 use Rattle.std.specs.List.{list_all, list_any}
 use Rattle.std.specs.List.Sorted.{IsPermutation}
@@ -22,7 +23,8 @@ use Rattle.ds_planner.specs.Indexes.{is_by_key, has_flag, binds_ancestor}
 use Rattle.ds_planner.specs.Parts.{Part, pair_part, ancestor_part, empty_part, conditions, parts, branch_of_part, or_empty_part}
 use Rattle.ds_planner.specs.Suits.{suits, is_scan, chooses, are_some}
 use Rattle.ds_planner.specs.Lean.{binds, BindEach, IsLean}
-use Rattle.ds_planner.proofs.Members.{Member, contained, member_contained, map_member, member_map, member_append, filter_member, member_filter, both, join, each_member, all_members, some_member, or_cases}
+use Rattle.ds_planner.proofs.Members.{Member, contained, member_contained, map_member, member_map, member_append, filter_member}
+use Rattle.ds_planner.proofs.Members.{member_filter, both, join, each_member, all_members, some_member, or_cases}
 use Rattle.ds_planner.proofs.PairLists.{chooses-member}
 use Rattle.ds_planner.proofs.PlanLaws.{suited, IsSuited}
 use Rattle.ds_rows.specs.Indexable.{IsIndexable}
@@ -70,36 +72,41 @@ module _ (q : Branch) (defs : List IndexDef) (s : PlannedScan) (part : Part) (la
 
   part_under : (k : KeyParts) → is_under s.ancestor k ≡ true → cond (is_by_key q.columns) (is_under q.ancestor k) true ≡ true
       → is_under (cond part.ancestor q.ancestor None) k ≡ true
-  part_under k under keyed = by part.ancestor (both (list_all (chooses s.equal) part.equal) (not part.ancestor || binds_ancestor q defs s.index) bound).1 where
-    flagged : has_flag defs s.index ≡ true → is_under q.ancestor k ≡ true
-    flagged e =
-        let b = bound_scan q defs s lawful scan in
-        let same : s.ancestor ≡ q.ancestor = b.ancestor ∙ ap (λ f. cond f q.ancestor None) (sym b.found.flagged ∙ e) in
-        sym (ap (λ a. is_under a k) same) ∙ under
+  part_under k under keyed = by part.ancestor (both (list_all (chooses s.equal) part.equal) (not part.ancestor || binds_ancestor q defs
+      s.index) bound).1 where
+        flagged : has_flag defs s.index ≡ true → is_under q.ancestor k ≡ true
+        flagged e =
+            let b = bound_scan q defs s lawful scan in
+            let same : s.ancestor ≡ q.ancestor = b.ancestor ∙ ap (λ f. cond f q.ancestor None) (sym b.found.flagged ∙ e) in
+            sym (ap (λ a. is_under a k) same) ∙ under
 
-    by : (a : Bool) → (not a || binds_ancestor q defs s.index) ≡ true → is_under (cond a q.ancestor None) k ≡ true
-    by false h = refl
-    by true h = elim (or_cases (is_by_key q.columns) (has_flag defs s.index) h) [
-      | inl e ↦ sym (ap (λ b. cond b (is_under q.ancestor k) true) e) ∙ keyed
-      | inr e ↦ flagged e
-    ]
+        by : (a : Bool) → (not a || binds_ancestor q defs s.index) ≡ true → is_under (cond a q.ancestor None) k ≡ true
+        by false h = refl
+        by true h = elim (or_cases (is_by_key q.columns) (has_flag defs s.index) h) [
+          | inl e ↦ sym (ap (λ b. cond b (is_under q.ancestor k) true) e) ∙ keyed
+          | inr e ↦ flagged e
+        ]
 
   -- of an entity that counts for the scan, a row in the range is a row of the part's branch
-  row_of_part : (end : Option Place) (ends : IsLawfulEnds q) (e : EntityParts) (r : RowParts) → IsIndexable e → is_found (scan_branch q s) e ≡ true
+  row_of_part : (end : Option Place) (ends : IsLawfulEnds q) (e : EntityParts) (r : RowParts) → IsIndexable e
+      → is_found (scan_branch q s) e ≡ true
       → Member r (entity_rows q.columns e) → in_range (low_of q) (high_of q end) (place_of q.columns r) ≡ true
       → (IsRowOfEntity (branch_of_part q part) (e ∷ []) r) × (is_up_to end (place_of q.columns r) ≡ true)
   row_of_part end ends e r p counts m inside =
       let row = row_of_bytes q e r p m in
       let key : r.key ≡ e.key = (entity_row q.columns e r m).0 in
       let all = sym (row_stands q end r lawful ends row) ∙ inside in
-      let range = both (in_values q.range (first_value r)) (cond (is_by_key q.columns) (is_under q.ancestor r.key) true && is_up_to end (place_of q.columns r)) all in
+      let range = both (in_values q.range (first_value r)) (cond (is_by_key q.columns) (is_under q.ancestor r.key) true
+      && is_up_to end (place_of q.columns r)) all in
       let others = both (cond (is_by_key q.columns) (is_under q.ancestor r.key) true) (is_up_to end (place_of q.columns r)) range.1 in
       let keyed : cond (is_by_key q.columns) (is_under q.ancestor e.key) true ≡ true =
       sym (ap (λ k. cond (is_by_key q.columns) (is_under q.ancestor k) true) key) ∙ others.0 in
-      let one = both (bytes_eq e.key.namespace q.namespace && has_kind q.kind e.key && is_under s.ancestor e.key) (list_all (has_value e) s.equal) counts in
+      let one = both (bytes_eq e.key.namespace q.namespace && has_kind q.kind e.key
+      && is_under s.ancestor e.key) (list_all (has_value e) s.equal) counts in
       let two = both (bytes_eq e.key.namespace q.namespace && has_kind q.kind e.key) (is_under s.ancestor e.key) one.0 in
       let found : is_found (branch_of_part q part) e ≡ true =
-      join (bytes_eq e.key.namespace q.namespace && has_kind q.kind e.key && is_under (cond part.ancestor q.ancestor None) e.key) (list_all (has_value e) part.equal)
+      join (bytes_eq e.key.namespace q.namespace && has_kind q.kind e.key
+      && is_under (cond part.ancestor q.ancestor None) e.key) (list_all (has_value e) part.equal)
       (join (bytes_eq e.key.namespace q.namespace && has_kind q.kind e.key) (is_under (cond part.ancestor q.ancestor None) e.key) two.0
       (part_under e.key two.1 keyed)) (pairs_met e one.1) in
       (record { entity = e; there = inl refl; counts = found; row = m; within = range.0 }, others.1)
@@ -114,7 +121,8 @@ after_same : (start : Option Place) (x : List ℕ) → is_above (bytes_of start)
 after_same None x = refl
 after_same (Some p) x = refl
 
-module _ (q : Branch) (defs : List IndexDef) (scans : List PlannedScan) (stamp : ℕ) (versions : List Version) (start end stop : Option Place)
+module _ (q : Branch) (defs : List IndexDef) (scans : List PlannedScan) (stamp : ℕ) (versions : List Version) (start end stop : Option
+    Place)
     (planned : IsPlanned q defs scans stamp versions) where
   abbrev entities : List EntityParts
   entities = entities_at stamp versions
@@ -133,7 +141,8 @@ module _ (q : Branch) (defs : List IndexDef) (scans : List PlannedScan) (stamp :
       → Member x (rests (range_of q defs end s) (rows_at defs stamp versions)) → test x ≡ true
       → Member x (map (place_of q.columns) (part_rows q start end stop entities part))
   string_of_part s part m bound x there tested =
-      let is = of_scan q defs scans stamp versions end planned s x m (contained (rests (range_of q defs end s) (rows_at defs stamp versions)) x there) in
+      let is = of_scan q defs scans stamp versions end planned s x m (contained (rests (range_of q defs end s) (rows_at defs stamp
+      versions)) x there) in
       let e = is.entity in
       let indexable = entity_indexable stamp versions planned.tables.indexable e is.there in
       let inside = ap (λ y. in_range (low_of q) (high_of q end) y) (sym is.place) ∙ is.inside in
@@ -147,11 +156,13 @@ module _ (q : Branch) (defs : List IndexDef) (scans : List PlannedScan) (stamp :
         row = is.is_row;
         within = r.0.within;
       }) in
-      let after : is_after start (place_of q.columns is.row) ≡ true = ap (is_after start) (sym is.place) ∙ sym (after_same start x) ∙ two.0 in
+      let after : is_after start (place_of q.columns is.row) ≡ true = ap (is_after start) (sym is.place) ∙ sym (after_same start x)
+      ∙ two.0 in
       let upto : is_up_to stop (place_of q.columns is.row) ≡ true = ap (is_up_to stop) (sym is.place) ∙ sym (within_same stop x) ∙ two.1 in
       let between = member_filter (is_between q.columns start end) (rows (branch_of_part q part) entities) is.row mine
       (join (is_after start (place_of q.columns is.row)) (is_up_to end (place_of q.columns is.row)) after r.1) in
-      let looked = member_filter (λ (row : RowParts). is_up_to stop (place_of q.columns row)) (filter (is_between q.columns start end) (rows (branch_of_part q part) entities))
+      let looked = member_filter (λ (row : RowParts). is_up_to stop (place_of q.columns row)) (filter (is_between q.columns start end)
+      (rows (branch_of_part q part) entities))
       is.row between upto in
       subst (λ y. Member y (map (place_of q.columns) (part_rows q start end stop entities part))) (sym is.place)
       (member_map (place_of q.columns) (part_rows q start end stop entities part) is.row looked)
@@ -160,7 +171,8 @@ module _ (q : Branch) (defs : List IndexDef) (scans : List PlannedScan) (stamp :
       → count_between (bytes_of start) (bytes_of stop) (rests (range_of q defs end s) (rows_at defs stamp versions))
       ≤ length (part_rows q start end stop entities part)
   strings_few s part m bound =
-      once_counted test (place_of q.columns) (rests (range_of q defs end s) (rows_at defs stamp versions)) (part_rows q start end stop entities part)
+      once_counted test (place_of q.columns) (rests (range_of q defs end s) (rows_at defs stamp versions)) (part_rows q start end stop
+      entities part)
       (strict_once (rests (range_of q defs end s) (rows_at defs stamp versions))
       (rests-ascend (range_of q defs end s) (rows_at defs stamp versions) (rows_ascend defs stamp versions)))
       (string_of_part s part m bound)
@@ -187,7 +199,8 @@ module _ (q : Branch) (defs : List IndexDef) (scans : List PlannedScan) (stamp :
         let any : list_any (λ (s : PlannedScan). binds_ancestor q defs s.index) scans ≡ true = of q.ancestor some is_suited.ancestor in
         let s = some_member (λ (t : PlannedScan). binds_ancestor q defs t.index) scans any in
         (s.0, (s.1.0, s.1.1)) where
-          of : (a : Option KeyParts) → is_some a ≡ true → (is_none a || list_any (λ (s : PlannedScan). binds_ancestor q defs s.index) scans) ≡ true
+          of : (a : Option KeyParts) → is_some a ≡ true
+              → (is_none a || list_any (λ (s : PlannedScan). binds_ancestor q defs s.index) scans) ≡ true
               → list_any (λ (s : PlannedScan). binds_ancestor q defs s.index) scans ≡ true
           of None e h = absurd (cc e)
           of (Some a) e h = h
@@ -206,7 +219,8 @@ module _ (q : Branch) (defs : List IndexDef) (scans : List PlannedScan) (stamp :
       of true e (inr h) = absurd h
       of false e h = absurd h
 
-    by : (cs : List Part) → conditions q ≡ cs → Member part (or_empty_part cs) → (s : PlannedScan) × (Member s scans × (binds q defs s part ≡ true))
+    by : (cs : List Part) → conditions q ≡ cs → Member part (or_empty_part cs)
+        → (s : PlannedScan) × (Member s scans × (binds q defs s part ≡ true))
     by [] e (inl h) =
         let s = first_scan scans is_suited.some in
         (s.0, (s.1, ap (binds q defs s.0) h))
@@ -236,7 +250,8 @@ module _ (q : Branch) (defs : List IndexDef) (scans : List PlannedScan) (stamp :
   abbrev tests : PlannedScan → List ℕ → Bool
   tests s row = is_in (range_of q defs end s) row && test (rest (scan_prefix q defs s) row)
 
-  unseen_row : (s : PlannedScan) (part : Part) → Member s scans → binds q defs s part ≡ true → (e : EntityParts) → IsIndexable e → (row : List ℕ)
+  unseen_row : (s : PlannedScan) (part : Part) → Member s scans → binds q defs s part ≡ true → (e : EntityParts) → IsIndexable e
+      → (row : List ℕ)
       → Member row (rows_of defs e) → tests s row ≡ true
       → Member row (map (λ (r : RowParts). scan_prefix q defs s ++ place_of q.columns r) (rows (branch_of_part q part) (e ∷ [])))
   unseen_row s part m bound e indexable row there tested =
@@ -245,7 +260,8 @@ module _ (q : Branch) (defs : List IndexDef) (scans : List PlannedScan) (stamp :
       let one = both (is_in (range_of q defs end s) row) (test x) tested in
       let two = both (begins_with prefix row) (in_range (low_of q) (high_of q end) x) one.0 in
       let is : row ≡ prefix ++ x = begins-is prefix row two.0 in
-      let law = scans_tell defs q s e planned.tables.definitions planned.branch (a_scan s m) (all_member (IsLawfulScan defs) scans s planned.lawful m) indexable x in
+      let law = scans_tell defs q s e planned.tables.definitions planned.branch (a_scan s m) (all_member (IsLawfulScan defs) scans s
+      planned.lawful m) indexable x in
       let own = law.0 (contained (rows_of defs e) (prefix ++ x) (subst (λ y. Member y (rows_of defs e)) is there)) in
       let w = map_member (place_of q.columns) (rows (scan_branch q s) (e ∷ [])) x
       (member_contained (map (place_of q.columns) (rows (scan_branch q s) (e ∷ []))) x own) in
@@ -263,7 +279,8 @@ module _ (q : Branch) (defs : List IndexDef) (scans : List PlannedScan) (stamp :
   unseen_few : (s : PlannedScan) (part : Part) → Member s scans → binds q defs s part ≡ true → (e : EntityParts) → IsIndexable e
       → count_by (tests s) (rows_of defs e) ≤ length (rows (branch_of_part q part) (e ∷ []))
   unseen_few s part m bound e indexable =
-      once_counted (tests s) (λ (r : RowParts). scan_prefix q defs s ++ place_of q.columns r) (rows_of defs e) (rows (branch_of_part q part) (e ∷ []))
+      once_counted (tests s) (λ (r : RowParts). scan_prefix q defs s
+      ++ place_of q.columns r) (rows_of defs e) (rows (branch_of_part q part) (e ∷ []))
       (rows_once defs e planned.tables.definitions indexable indexable.ascend) (unseen_row s part m bound e indexable)
 
   -- entity by entity
@@ -297,7 +314,8 @@ module _ (q : Branch) (defs : List IndexDef) (scans : List PlannedScan) (stamp :
 
   all_few : (s : PlannedScan) (part : Part) → Member s scans → binds q defs s part ≡ true → (vs : List Version)
       → ((v : Version) → Member v vs → IsIndexable v.entity)
-      → count_by (tests s) (flat_map (λ (v : Version). rows_of defs v.entity) vs) ≤ length (rows (branch_of_part q part) (map (λ (v : Version). v.entity) vs))
+      → count_by (tests s) (flat_map (λ (v : Version). rows_of defs v.entity) vs)
+      ≤ length (rows (branch_of_part q part) (map (λ (v : Version). v.entity) vs))
   all_few s part m bound [] indexable = omega arith
   all_few s part m bound (v ∷ vs) indexable =
       let es = map (λ (w : Version). w.entity) vs in
@@ -317,7 +335,8 @@ module _ (q : Branch) (defs : List IndexDef) (scans : List PlannedScan) (stamp :
       (IsPermutation-sorted_by bytes_cmp (unseen_rows defs stamp versions)) in
       let counted = count-rests (range_of q defs end s) test (rows_not_at defs stamp versions) in
       let few = all_few s part m bound unseen (λ v n.
-      all_member (λ (w : Version). IsIndexable w.entity) versions v planned.tables.indexable (filter_member (λ (w : Version). not (is_seen stamp w)) versions v n).0) in
+      all_member (λ (w : Version). IsIndexable w.entity) versions v planned.tables.indexable (filter_member (λ (w : Version). not
+      (is_seen stamp w)) versions v n).0) in
       omega (arith, moved, counted, few)
 
   -- ---- scan by scan, each with its part

@@ -12,13 +12,16 @@ use Rattle.ds_engine.specs.Ranging.{range_of, ranges_over}
 use Rattle.ds_engine.specs.ScanLaws.{plan_strings, plan_passed}
 use Rattle.ds_engine.specs.Stamped.{Stamped, rows_at, rows_not_at}
 
-pub one_more_made : {A B : Type 0} (f : A → B) (xs : List A) (i : ℕ) (x : A) (items items' : List B) (y : B) → i < length xs → x ≡ get_or xs i x
+pub one_more_made : {A B : Type 0} (f : A → B) (xs : List A) (i : ℕ) (x : A) (items items' : List B) (y : B) → i < length xs → x
+    ≡ get_or xs i x
     → items ≡ map f (take i xs) → items' ≡ items ++ y ∷ [] → y ≡ f x → items' ≡ map f (take (i + 1) xs)
 one_more_made f xs i x items items' y below at_i made pushed is =
-    pushed ∙ (λ t. made t ++ (is ∙ ap f at_i) t ∷ []) ∙ sym (ap (map f) (take_more xs i x below) ∙ map-append f (take i xs) (get_or xs i x ∷ []))
+    pushed ∙ (λ t. made t ++ (is ∙ ap f at_i) t ∷ []) ∙ sym (ap (map f) (take_more xs i x below)
+    ∙ map-append f (take i xs) (get_or xs i x ∷ []))
 
 -- what the scans of a plan give, over tables whose rows these are
-pub strings_of_plan : {T : Type 0} (q : Branch) (defs : List IndexDef) (scans : List PlannedScan) (end : Option Place) (at_stamp : Stamped T)
+pub strings_of_plan : {T : Type 0} (q : Branch) (defs : List IndexDef) (scans : List PlannedScan) (end : Option Place) (at_stamp :
+    Stamped T)
     (rows : Stamped T → List (List ℕ))
     → map (λ (s : Ranged (Stamped T)). rests s.range (rows s.rows)) (ranges_over at_stamp q defs end scans)
     ≡ map (λ s. rests (range_of q defs end s) (rows at_stamp)) scans
@@ -27,7 +30,8 @@ strings_of_plan q defs (s ∷ scans) end at_stamp rows =
     ap (λ ls. rests (range_of q defs end s) (rows at_stamp) ∷ ls) (strings_of_plan q defs scans end at_stamp rows)
 
 -- the strings of the scans that were made are those of the plan
-pub plan_strings_are : {T : Type 0} (D : T → List IndexDef) (V : T → List Version) (q : Branch) (defs : List IndexDef) (scans : List PlannedScan)
+pub plan_strings_are : {T : Type 0} (D : T → List IndexDef) (V : T
+    → List Version) (q : Branch) (defs : List IndexDef) (scans : List PlannedScan)
     (stamp : ℕ) (end : Option Place) (tables : T) (items : List (Ranged (Stamped T)))
     → items ≡ ranges_over (record { tables = tables; stamp = stamp }) q defs end scans → defs ≡ D tables
     → map (λ (s : Ranged (Stamped T)). rests s.range (rows_at (D s.rows.tables) s.rows.stamp (V s.rows.tables))) items
@@ -36,10 +40,12 @@ plan_strings_are {T = T} D V q defs scans stamp end tables items made definition
     let rows : Stamped T → List (List ℕ) = λ (s : Stamped T). rows_at (D s.tables) s.stamp (V s.tables) in
     ap (map (λ (s : Ranged (Stamped T)). rests s.range (rows s.rows))) made
     ∙ strings_of_plan q defs scans end (record { tables = tables; stamp = stamp }) rows
-    ∙ ap (λ (ds : List IndexDef). map (λ (s : PlannedScan). rests (range_of q defs end s) (rows_at ds stamp (V tables))) scans) (sym definitions)
+    ∙ ap (λ (ds : List IndexDef). map (λ (s : PlannedScan). rests (range_of q defs end s) (rows_at ds stamp (V tables))) scans) (sym
+    definitions)
 
 -- and so are those that they pass
-pub plan_passed_are : {T : Type 0} (D : T → List IndexDef) (V : T → List Version) (q : Branch) (defs : List IndexDef) (scans : List PlannedScan)
+pub plan_passed_are : {T : Type 0} (D : T → List IndexDef) (V : T
+    → List Version) (q : Branch) (defs : List IndexDef) (scans : List PlannedScan)
     (stamp : ℕ) (end : Option Place) (tables : T) (items : List (Ranged (Stamped T)))
     → items ≡ ranges_over (record { tables = tables; stamp = stamp }) q defs end scans → defs ≡ D tables
     → map (λ (s : Ranged (Stamped T)). rests s.range (rows_not_at (D s.rows.tables) s.rows.stamp (V s.rows.tables))) items
@@ -48,7 +54,8 @@ plan_passed_are {T = T} D V q defs scans stamp end tables items made definitions
     let rows : Stamped T → List (List ℕ) = λ (s : Stamped T). rows_not_at (D s.tables) s.stamp (V s.tables) in
     ap (map (λ (s : Ranged (Stamped T)). rests s.range (rows s.rows))) made
     ∙ strings_of_plan q defs scans end (record { tables = tables; stamp = stamp }) rows
-    ∙ ap (λ (ds : List IndexDef). map (λ (s : PlannedScan). rests (range_of q defs end s) (rows_not_at ds stamp (V tables))) scans) (sym definitions)
+    ∙ ap (λ (ds : List IndexDef). map (λ (s : PlannedScan). rests (range_of q defs end s) (rows_not_at ds stamp (V tables))) scans) (sym
+    definitions)
 
 pub as_many_scans : {T : Type 0} (q : Branch) (defs : List IndexDef) (scans : List PlannedScan) (end : Option Place) (at_stamp : Stamped T)
     (items : List (Ranged (Stamped T))) → items ≡ ranges_over at_stamp q defs end scans → length items ≡ length scans

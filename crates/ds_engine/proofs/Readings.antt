@@ -1,5 +1,6 @@
 -- A row that is read back column by column.
-use Rattle.std.proofs.Common.{◌≡◌, ℕ, ◌+◌, ◌≤◌, ◌<◌, List, [], ◌∷◌, ◌++◌, length, drop, get_or, Bool, true, false, refl, sym, ap, subst, ◌∙◌, arith, append_assoc, append-nil}
+use Rattle.std.proofs.Common.{◌≡◌, ℕ, ◌+◌, ◌≤◌, ◌<◌, List, [], ◌∷◌, ◌++◌, length, drop, get_or, Bool, true, false, refl, sym, ap, subst}
+use Rattle.std.proofs.Common.{◌∙◌, arith, append_assoc, append-nil}
 use Rattle.std.specs.Prelude.{All}
 use Rattle.std.proofs.lemmas.List.{drop_all, drop_more}
 use Rattle.std.proofs.lemmas.List.Elements.{All-head, All-tail}
@@ -50,7 +51,8 @@ pub record IsLeft (columns : List Column) (i : ℕ) (kd : Bool) (values : List I
   pub lawful : All IsLawfulValue left
   pub bytes : rest ≡ columns_bytes (directions (drop i columns)) left ++ key_encoding kd row.key
 
-pub none_read : (columns : List Column) (bytes : List ℕ) (r : IsRowOf columns bytes) → IsLeft columns 0 (key_descends columns) [] bytes r.row
+pub none_read : (columns : List Column) (bytes : List ℕ) (r : IsRowOf columns bytes)
+    → IsLeft columns 0 (key_descends columns) [] bytes r.row
 none_read columns bytes r = record { left = r.row.values; whole = refl; long = r.long; lawful = r.values; bytes = r.written }
 
 -- a column with a value is next
@@ -66,26 +68,28 @@ record IsNext (columns : List Column) (i : ℕ) (d kd : Bool) (values : List Ind
 next : (columns : List Column) (i : ℕ) (c : Column) (kd : Bool) (values : List IndexValue) (rest : List ℕ) (row : RowParts)
     → i < length columns → c ≡ get_or columns i c → is_key_name c.name ≡ false → IsLeft columns i kd values rest row
     → IsNext columns i c.descending kd values rest row
-next columns i c kd values rest row below at_i other is = by is.left is.whole (is.long ∙ ap length here) is.lawful (is.bytes ∙ ap (λ (ds : List Bool). columns_bytes ds is.left ++ key_encoding kd row.key) here) where
-  later : List Column
-  later = drop (i + 1) columns
+next columns i c kd values rest row below at_i other is = by is.left is.whole (is.long ∙ ap length here) is.lawful (is.bytes
+    ∙ ap (λ (ds : List Bool). columns_bytes ds is.left ++ key_encoding kd row.key) here) where
+      later : List Column
+      later = drop (i + 1) columns
 
-  here : directions (drop i columns) ≡ c.descending ∷ directions (drop (i + 1) columns)
-  here = ap directions (drop_more columns i c below ∙ ap (λ (x : Column). x ∷ drop (i + 1) columns) (sym at_i)) ∙ directions-value c (drop (i + 1) columns) other
+      here : directions (drop i columns) ≡ c.descending ∷ directions (drop (i + 1) columns)
+      here = ap directions (drop_more columns i c below ∙ ap (λ (x : Column). x ∷ drop (i + 1) columns) (sym at_i))
+          ∙ directions-value c (drop (i + 1) columns) other
 
-  by : (left : List IndexValue) → row.values ≡ values ++ left → length left ≡ length (c.descending ∷ directions (drop (i + 1) columns))
-      → All IsLawfulValue left → rest ≡ columns_bytes (c.descending ∷ directions (drop (i + 1) columns)) left ++ key_encoding kd row.key
-      → IsNext columns i c.descending kd values rest row
-  by [] whole long lawful bytes = absurd (omega arith)
-  by (v ∷ vs) whole long lawful bytes = record {
-    value = v;
-    more = vs;
-    whole = whole;
-    long = omega (arith, long);
-    first = All-head IsLawfulValue v vs lawful;
-    others = All-tail IsLawfulValue v vs lawful;
-    bytes = bytes ∙ append_assoc (encoding c.descending v) (columns_bytes (directions (drop (i + 1) columns)) vs) (key_encoding kd row.key);
-  }
+      by : (left : List IndexValue) → row.values ≡ values ++ left → length left ≡ length (c.descending ∷ directions (drop (i + 1) columns))
+          → All IsLawfulValue left → rest ≡ columns_bytes (c.descending ∷ directions (drop (i + 1) columns)) left ++ key_encoding kd row.key
+          → IsNext columns i c.descending kd values rest row
+      by [] whole long lawful bytes = absurd (omega arith)
+      by (v ∷ vs) whole long lawful bytes = record {
+        value = v;
+        more = vs;
+        whole = whole;
+        long = omega (arith, long);
+        first = All-head IsLawfulValue v vs lawful;
+        others = All-tail IsLawfulValue v vs lawful;
+        bytes = bytes ∙ append_assoc (encoding c.descending v) (columns_bytes (directions (drop (i + 1) columns)) vs) (key_encoding kd row.key);
+      }
 
 module _ (columns : List Column) (i : ℕ) (c : Column) (kd : Bool) (values : List IndexValue) (rest : List ℕ) (row : RowParts)
     (below : i < length columns) (at_i : c ≡ get_or columns i c) (is : IsLeft columns i kd values rest row) where
@@ -100,7 +104,8 @@ module _ (columns : List Column) (i : ℕ) (c : Column) (kd : Bool) (values : Li
       }
 
   pub value_read : is_key_name c.name ≡ false → (values' : List IndexValue) (rest' : List ℕ)
-      → ((v : IndexValue) (more : List ℕ) → IsLawfulValue v → rest ≡ encoding c.descending v ++ more → (values' ≡ values ++ v ∷ []) × (rest' ≡ more))
+      → ((v : IndexValue) (more : List ℕ) → IsLawfulValue v → rest ≡ encoding c.descending v ++ more → (values' ≡ values
+      ++ v ∷ []) × (rest' ≡ more))
       → IsLeft columns (i + 1) kd values' rest' row
   value_read other values' rest' read =
       let n = next columns i c kd values rest row below at_i other is in
@@ -116,7 +121,8 @@ module _ (columns : List Column) (i : ℕ) (c : Column) (kd : Bool) (values : Li
   pub key_passed : is_key_name c.name ≡ true → IsLeft columns (i + 1) kd values rest row
   key_passed key =
       let here : directions (drop i columns) ≡ directions (drop (i + 1) columns) =
-      ap directions (drop_more columns i c below ∙ ap (λ (x : Column). x ∷ drop (i + 1) columns) (sym at_i)) ∙ directions-key c (drop (i + 1) columns) key in
+      ap directions (drop_more columns i c below ∙ ap (λ (x : Column). x ∷ drop (i + 1) columns) (sym at_i))
+      ∙ directions-key c (drop (i + 1) columns) key in
       record {
         left = is.left;
         whole = is.whole;
@@ -150,7 +156,11 @@ pub row_read : (columns : List Column) (i : ℕ) (bytes : List ℕ) (values : Li
 row_read columns i bytes values rest key row past r is read made =
     let left = key_left columns i (key_descends columns) values rest r.row past is in
     let same : parts_of row ≡ r.row =
-    (λ t. record { values = (ap (λ (x : Row). x.values) made ∙ sym left.0) t; key = (ap (λ (x : Row). x.key) made ∙ read r.row.key r.key left.1) t }) in
+    (λ t. record {
+      values = (ap (λ (x : Row). x.values) made ∙ sym left.0) t;
+      key = (ap (λ (x : Row). x.key) made
+          ∙ read r.row.key r.key left.1) t;
+    }) in
     record {
       lawful = record {
         long = ap (λ (x : RowParts). length x.values) same ∙ r.long;

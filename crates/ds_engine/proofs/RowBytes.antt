@@ -1,5 +1,6 @@
 -- The rows of entities are bytes.
-use Rattle.std.proofs.Common.{◌≡◌, ◌⊎◌, inl, inr, ℕ, ◌%◌, ◌/◌, ◌^◌, ◌<◌, List, [], ◌∷◌, ◌++◌, Bool, true, false, refl, sym, ap, ◌∙◌, subst, Option, Some, None, arith, map}
+use Rattle.std.proofs.Common.{◌≡◌, ◌⊎◌, inl, inr, ℕ, ◌%◌, ◌/◌, ◌^◌, ◌<◌, List, [], ◌∷◌, ◌++◌, Bool, true, false, refl, sym, ap, ◌∙◌}
+use Rattle.std.proofs.Common.{subst, Option, Some, None, arith, map}
 use Rattle.std.specs.Prelude.{All, flat_map, filter, not}
 use Rattle.std.specs.List.{enumerate_from}
 use Rattle.std.proofs.lemmas.Nat.{mod_below}
@@ -21,7 +22,8 @@ use Rattle.ds_bytes.specs.ByteLaws.{escaped-AreBytes, key_bytes-AreBytes, value_
 use Rattle.ds_bytes.specs.Rows.{columns_bytes, IsRow}
 use Rattle.ds_planner.proofs.Members.{Member, member_append, map_member, filter_member}
 use Rattle.ds_rows.specs.IndexedValues.{last_kind, kind_of, kind_in}
-use Rattle.ds_rows.specs.Indexes.{Index, AllByKey, KindByKey, ByProperty, Composite, indexes_of, property_indexes, composite_indexes, has_ancestor, directions, key_descends}
+use Rattle.ds_rows.specs.Indexes.{Index, AllByKey, KindByKey, ByProperty, Composite, indexes_of, property_indexes, composite_indexes}
+use Rattle.ds_rows.specs.Indexes.{has_ancestor, directions, key_descends}
 use Rattle.ds_rows.specs.Rows.{IndexRow, four_bytes, index_front, ancestor_bytes, index_row_bytes, index_rows, rows_in, rows_of}
 use Rattle.ds_rows.specs.Laws.{IsIndexOf, SuitsAncestor, IsRowOf}
 use Rattle.ds_rows.specs.OwnRowLaws.{each_flat, each_map, own_rows, own_indexes, IsOwn}
@@ -59,7 +61,8 @@ values_bytes : (ds : List Bool) (vs : List IndexValue) → All IsValueOfBytes vs
 values_bytes [] vs p = All-nil (λ b. b < 256)
 values_bytes (d ∷ ds) [] p = All-nil (λ b. b < 256)
 values_bytes (d ∷ ds) (v ∷ vs) p =
-    joined (encoding d v) (columns_bytes ds vs) (encoding_bytes d v (All-head IsValueOfBytes v vs p)) (values_bytes ds vs (All-tail IsValueOfBytes v vs p))
+    joined (encoding d v) (columns_bytes ds vs) (encoding_bytes d v (All-head IsValueOfBytes v vs p)) (values_bytes ds vs (All-tail
+    IsValueOfBytes v vs p))
 
 kind_bytes : (es : List Elem) → All IsElemOfBytes es → AreBytes (last_kind es)
 kind_bytes [] p = All-nil (λ b. b < 256)
@@ -74,7 +77,8 @@ abbrev IsNameOfBytes : Index → Type 0
 IsNameOfBytes (ByProperty name d) = AreBytes name
 IsNameOfBytes _ = Unit {0}
 
-front_bytes : (i : Index) (namespace kind : List ℕ) → IsNameOfBytes i → AreBytes namespace → AreBytes kind → AreBytes (index_front i namespace kind)
+front_bytes : (i : Index) (namespace kind : List ℕ) → IsNameOfBytes i → AreBytes namespace → AreBytes kind
+    → AreBytes (index_front i namespace kind)
 front_bytes AllByKey n k p q r = one 0 (escaped n) (omega arith) (escaped-AreBytes n q)
 front_bytes KindByKey n k p q r =
     one 1 (escaped n ++ escaped k) (omega arith) (joined (escaped n) (escaped k) (escaped-AreBytes n q) (escaped-AreBytes k r))
@@ -143,7 +147,8 @@ rows_bytes defs e p =
     each_map AreBytes (index_row_bytes i) (index_rows e i)
     (all_from (λ r. AreBytes (index_row_bytes i r)) (index_rows e i) (λ r n.
     row_bytes defs e i r p (names_of_bytes defs e p i m)
-    (all_member (IsOwn defs e i) (index_rows e i) r (own_rows defs e i p (all_member (IsIndexOf defs) (indexes_of defs e) i (own_indexes defs e) m)) n)))))
+    (all_member (IsOwn defs e i) (index_rows e i) r (own_rows defs e i p (all_member (IsIndexOf defs) (indexes_of defs e) i (own_indexes
+    defs e) m)) n)))))
 
 pub passed_are_bytes : (defs : List IndexDef) (stamp : ℕ) (versions : List Version) → All (λ (v : Version). IsIndexable v.entity) versions
     → All AreBytes (rows_not_at defs stamp versions)

@@ -1,5 +1,6 @@
 -- The columns to which a scan is bound: what an entity has in them, and the bytes of the scan's values.
-use Rattle.std.proofs.Common.{◌≡◌, ◌⊎◌, inl, inr, ℕ, List, [], ◌∷◌, ◌++◌, length, Bool, true, false, ◌&&◌, ◌||◌, not, cond, refl, sym, ap, ◌∙◌, subst, arith, Option, Some, None, append_assoc, append-nil, map}
+use Rattle.std.proofs.Common.{◌≡◌, ◌⊎◌, inl, inr, ℕ, List, [], ◌∷◌, ◌++◌, length, Bool, true, false, ◌&&◌, ◌||◌, not, cond, refl, sym, ap}
+use Rattle.std.proofs.Common.{◌∙◌, subst, arith, Option, Some, None, append_assoc, append-nil, map}
 use Rattle.std.specs.Prelude.{bytes_eq, filter, unwrap_or, All}
 use Rattle.std.specs.List.{list_any, list_all}
 use Rattle.std.proofs.lemmas.List.{map-append}
@@ -21,9 +22,11 @@ use Rattle.ds_query.specs.Lawful.{ends_in_key, has_pair, IsLawfulBranch}
 use Rattle.ds_planner.specs.declared.planned.Index.{Index as Planned}
 use Rattle.ds_planner.specs.declared.planned.PlannedScan.{PlannedScan}
 use Rattle.ds_planner.specs.Indexes.{by_key, with_key}
-use Rattle.ds_planner.proofs.Members.{Member, both, join, each_member, all_members, filter_member, not_true, refuted, true_false, any_member, member_append}
+use Rattle.ds_planner.proofs.Members.{Member, both, join, each_member, all_members, filter_member, not_true, refuted, true_false}
+use Rattle.ds_planner.proofs.Members.{any_member, member_append}
 use Rattle.ds_planner.proofs.PairLists.{has_pair-member, member-has_pair, same_name, name_itself}
-use Rattle.ds_rows.specs.Indexes.{Index, AllByKey, KindByKey, ByProperty, Composite, directions as index_directions, key_descends as index_key_descends, last_key_descends, value_columns as front_columns}
+use Rattle.ds_rows.specs.Indexes.{Index, AllByKey, KindByKey, ByProperty, Composite, directions as index_directions}
+use Rattle.ds_rows.specs.Indexes.{key_descends as index_key_descends, last_key_descends, value_columns as front_columns}
 use Rattle.ds_rows.specs.IndexedValues.{indexed_values, column_values}
 use Rattle.ds_rows.specs.Rows.{index_lists}
 use Rattle.ds_model.specs.Rows.{value_columns}
@@ -51,7 +54,8 @@ pub record IsAsked (pairs : List Pair) (name : List ℕ) : Type 0 where
 pub asked_some : (pairs : List Pair) (name : List ℕ) → has_pair pairs name ≡ true → IsAsked pairs name
 asked_some [] name h = absurd (cc h)
 asked_some (p ∷ ps) name h = by (bytes_eq name p.property) refl h (asked_some ps name) where
-  by : (b : Bool) → bytes_eq name p.property ≡ b → (b || has_pair ps name) ≡ true → (has_pair ps name ≡ true → IsAsked ps name) → IsAsked (p ∷ ps) name
+  by : (b : Bool) → bytes_eq name p.property ≡ b → (b || has_pair ps name) ≡ true → (has_pair ps name ≡ true → IsAsked ps name)
+      → IsAsked (p ∷ ps) name
   by true e h more = record {
     value = p.value;
     is = ap (λ b. cond b (Some p.value) (asked_value ps name)) e;
@@ -109,7 +113,8 @@ pub record HasRest (pairs : List Pair) (cs lead : List Column) : Type 0 where
   pub none : HasNoPairs pairs rest
 
 -- a scan has no pair on a column of the branch
-pub no_pairs : (q : Branch) (defs : List IndexDef) (s : PlannedScan) → IsLawfulBranch q → IsBoundScan q defs s → HasNoPairs s.equal q.columns
+pub no_pairs : (q : Branch) (defs : List IndexDef) (s : PlannedScan) → IsLawfulBranch q → IsBoundScan q defs s
+    → HasNoPairs s.equal q.columns
 no_pairs q defs s lawful b =
     all_members (λ (c : Column). not (has_pair s.equal c.name)) q.columns (λ c m.
     let n : has_pair q.equal c.name ≡ false =
@@ -162,13 +167,15 @@ plain_values e (c ∷ cs) h =
     λ i. cond (not_true (is_key_name c.name) s.0 i) (class.Key e.key ∷ []) (values_in e c)
     ∷ plain_values e cs s.1 i
 
-lists_in_front : (e : EntityParts) (i : Index) → IsNamed i → index_lists e i ≡ map (λ c. column_values e c.name) (front_columns (columns_of i))
+lists_in_front : (e : EntityParts) (i : Index) → IsNamed i → index_lists e i
+    ≡ map (λ c. column_values e c.name) (front_columns (columns_of i))
 lists_in_front e AllByKey n = refl
 lists_in_front e KindByKey n = refl
 lists_in_front e (ByProperty name d) n =
     (λ i. cond (sym n i) [] (cond (sym n i) (class.Key e.key ∷ []) (indexed_values e name) ∷ []))
     ∙ by (is_key_name name) where
-      by : (b : Bool) → cond b [] (column_values e name ∷ []) ≡ map (λ (c : Column). column_values e c.name) (cond b [] (record { name = name; descending = d } ∷ []))
+      by : (b : Bool) → cond b [] (column_values e name ∷ [])
+          ≡ map (λ (c : Column). column_values e c.name) (cond b [] (record { name = name; descending = d } ∷ []))
       by true = refl
       by false = refl
 lists_in_front e (Composite k d) n = refl
@@ -194,7 +201,8 @@ not_keys : (q : Branch) (defs : List IndexDef) (s : PlannedScan) → IsLawfulBra
 not_keys q defs s lawful b =
     all_members (λ (c : Column). not (is_key_name c.name)) (b.found.lead ++ value_columns q.columns) (λ c m.
     elim (member_append b.found.lead (value_columns q.columns) c m) [
-      | inl h ↦ ap not (pair_free q lawful s.equal b.inside c.name (each_member (λ (x : Column). has_pair s.equal x.name) b.found.lead c b.found.paired h))
+      | inl h ↦ ap not (pair_free q lawful s.equal b.inside c.name (each_member (λ (x : Column). has_pair s.equal x.name) b.found.lead c
+          b.found.paired h))
       | inr h ↦ (filter_member (λ (x : Column). not (is_key_name x.name)) q.columns c h).1
     ])
 

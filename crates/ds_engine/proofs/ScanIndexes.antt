@@ -1,5 +1,6 @@
 -- What a planned scan's index is: its columns are those that the scan is bound to and then the branch's.
-use Rattle.std.proofs.Common.{◌≡◌, ℕ, zero, suc, ◌<◌, List, [], ◌∷◌, ◌++◌, length, get_or, Bool, true, false, ◌&&◌, ◌||◌, not, cond, refl, sym, ap, ◌∙◌, subst, arith, Option, Some, None, append_assoc}
+use Rattle.std.proofs.Common.{◌≡◌, ℕ, zero, suc, ◌<◌, List, [], ◌∷◌, ◌++◌, length, get_or, Bool, true, false, ◌&&◌, ◌||◌, not, cond, refl}
+use Rattle.std.proofs.Common.{sym, ap, ◌∙◌, subst, arith, Option, Some, None, append_assoc}
 use Rattle.std.specs.Prelude.{bytes_eq, is_some, is_none, option_map, option_and_then, unwrap_or, IsTrue}
 use Rattle.std.specs.List.{list_all, slice_get}
 use Rattle.ds_base.specs.declared.column.Column.{Column}
@@ -15,16 +16,19 @@ use Rattle.ds_query.specs.Lawful.{ends_in_key, names_differ, has_pair, IsLawfulB
 use Rattle.ds_planner.specs.declared.planned.Index.{Index as Planned}
 use Rattle.ds_planner.specs.declared.planned.Index.TheVariants as planned
 use Rattle.ds_planner.specs.declared.planned.PlannedScan.{PlannedScan}
-use Rattle.ds_planner.specs.Indexes.{by_key, with_key, in_front_of, index_columns, defined_columns, is_usable, is_of_kind, leading, are_paired, is_paired, leads, names_column, has_flag, is_candidate}
+use Rattle.ds_planner.specs.Indexes.{by_key, with_key, in_front_of, index_columns, defined_columns, is_usable, is_of_kind, leading}
+use Rattle.ds_planner.specs.Indexes.{are_paired, is_paired, leads, names_column, has_flag, is_candidate}
 use Rattle.ds_planner.specs.Suits.{chooses, properties_differ, same_ancestor, bound_ancestor, is_choice, is_scan}
 use Rattle.ds_planner.proofs.Members.{Member, both, true_false, not_true, each_member, all_members, some_member}
 use Rattle.ds_planner.proofs.PairLists.{chooses-member, same_name, has_pair-member}
-use Rattle.ds_rows.specs.Indexes.{Index, AllByKey, KindByKey, ByProperty, Composite, has_ancestor, last_key_descends, value_columns as front_columns}
+use Rattle.ds_rows.specs.Indexes.{Index, AllByKey, KindByKey, ByProperty, Composite, has_ancestor, last_key_descends}
+use Rattle.ds_rows.specs.Indexes.{value_columns as front_columns}
 use Rattle.ds_rows.specs.Laws.{IsIndexOf}
 use Rattle.ds_model.specs.Rows.{value_columns}
 use Rattle.ds_cursor.specs.RowsOfColumns.{key_descends}
 use Rattle.ds_engine.specs.Prefixes.{index_in, columns_of}
-use Rattle.ds_engine.proofs.Columns.{with_key-split, end_descends, end_column, whole_split, same_ends, values_in_front, key_at_end, front_is, first_not_key}
+use Rattle.ds_engine.proofs.Columns.{with_key-split, end_descends, end_column, whole_split, same_ends, values_in_front, key_at_end}
+use Rattle.ds_engine.proofs.Columns.{front_is, first_not_key}
 
 -- ---- the index
 
@@ -219,14 +223,16 @@ pair_free q lawful equal inside n h =
     ∙ not_true (is_key_name p.0.property)
     (each_member (λ (x : Pair). not (is_key_name x.property)) q.equal p.0 lawful.no_key_pair (inside p.0 p.1.0))
 
-names_lead : (o : Option (List Column)) (lead : List Column) (n : List ℕ) → o ≡ Some lead → names_column o n ≡ true → has_column lead n ≡ true
+names_lead : (o : Option (List Column)) (lead : List Column) (n : List ℕ) → o ≡ Some lead → names_column o n ≡ true → has_column lead n
+    ≡ true
 names_lead o lead n e h = sym (ap (λ x. names_column x n) e) ∙ h
 
 pub bound_scan : (q : Branch) (defs : List IndexDef) (s : PlannedScan) → IsLawfulBranch q → is_scan q defs s ≡ true → IsBoundScan q defs s
 bound_scan q defs s lawful h =
     let among = list_all (chooses q.equal) s.equal in
     let ledby = list_all (λ (p : Pair). leads q defs s.index p.property) s.equal in
-    let x = both (is_candidate q defs s.index && is_choice q defs s.index s.equal) (same_ancestor s.ancestor (bound_ancestor q defs s.index)) h in
+    let x = both (is_candidate q defs s.index
+    && is_choice q defs s.index s.equal) (same_ancestor s.ancestor (bound_ancestor q defs s.index)) h in
     let y = both (is_candidate q defs s.index) (is_choice q defs s.index s.equal) x.0 in
     let z = both (among && ledby && is_paired q defs s.index s.equal) (properties_differ s.equal) y.1 in
     let w = both (among && ledby) (is_paired q defs s.index s.equal) z.0 in

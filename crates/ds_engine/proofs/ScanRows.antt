@@ -1,5 +1,6 @@
 -- The rows of an entity that begin with what a scan is bound to, and its rows under what the scan binds.
-use Rattle.std.proofs.Common.{◌≡◌, ◌⊎◌, inl, inr, ℕ, zero, suc, ◌+◌, ◌<◌, List, [], ◌∷◌, ◌++◌, length, Bool, true, false, ◌&&◌, ◌||◌, not, cond, refl, sym, ap, ◌∙◌, subst, arith, Option, Some, None, append_assoc, append-nil, map}
+use Rattle.std.proofs.Common.{◌≡◌, ◌⊎◌, inl, inr, ℕ, zero, suc, ◌+◌, ◌<◌, List, [], ◌∷◌, ◌++◌, length, Bool, true, false, ◌&&◌, ◌||◌, not}
+use Rattle.std.proofs.Common.{cond, refl, sym, ap, ◌∙◌, subst, arith, Option, Some, None, append_assoc, append-nil, map}
 use Rattle.std.proofs.lemmas.Bool.Decides.{nat_tests}
 use Rattle.std.specs.Prelude.{◌↔◌, nat_le, bytes_eq, filter, flat_map, find, unwrap_or, is_some, option_map, All, Contains}
 use Rattle.std.specs.List.{list_any, list_all, enumerate_from}
@@ -32,11 +33,15 @@ use Rattle.ds_query.specs.Lawful.{has_pair, IsLawfulBranch}
 use Rattle.ds_query.specs.ColumnLists.{has_column}
 use Rattle.ds_planner.specs.declared.planned.PlannedScan.{PlannedScan}
 use Rattle.ds_planner.specs.Suits.{is_scan, properties_differ}
-use Rattle.ds_planner.proofs.Members.{Member, both, join, contained, member_contained, map_member, member_map, member_flat_map, member_append, member_left, member_right, filter_member, member_filter, some_member, any_member, each_member, all_members, find_member}
+use Rattle.ds_planner.proofs.Members.{Member, both, join, contained, member_contained, map_member, member_map, member_flat_map}
+use Rattle.ds_planner.proofs.Members.{member_append, member_left, member_right, filter_member, member_filter, some_member, any_member}
+use Rattle.ds_planner.proofs.Members.{each_member, all_members, find_member}
 use Rattle.ds_planner.proofs.PairLists.{same_name, name_itself, one_each}
-use Rattle.ds_rows.specs.Indexes.{Index, AllByKey, KindByKey, ByProperty, Composite, has_ancestor, indexes_of, property_indexes, composite_indexes, directions as index_directions, key_descends as index_key_descends}
+use Rattle.ds_rows.specs.Indexes.{Index, AllByKey, KindByKey, ByProperty, Composite, has_ancestor, indexes_of, property_indexes}
+use Rattle.ds_rows.specs.Indexes.{composite_indexes, directions as index_directions, key_descends as index_key_descends}
 use Rattle.ds_rows.specs.IndexedValues.{kind_of, kind_in, indexed_values, property_values, each_way}
-use Rattle.ds_rows.specs.Rows.{IndexRow, rows_of, rows_in, index_rows, index_row_bytes, index_front, row_rest, row_with, row_ancestors, index_lists, ancestor_bytes, ancestors, paths_to}
+use Rattle.ds_rows.specs.Rows.{IndexRow, rows_of, rows_in, index_rows, index_row_bytes, index_front, row_rest, row_with, row_ancestors}
+use Rattle.ds_rows.specs.Rows.{index_lists, ancestor_bytes, ancestors, paths_to}
 use Rattle.ds_rows.specs.Laws.{IsIndexOf, IsRowOf, HoldsKind, IsSameIndex}
 use Rattle.ds_rows.specs.RowLaws.{fronts_apart}
 use Rattle.ds_rows.specs.OwnRowLaws.{own_rows, own_indexes, IsOwn, ancestors_lawful}
@@ -46,9 +51,11 @@ use Rattle.ds_cursor.specs.RowsOfColumns.{directions, key_descends}
 use Rattle.ds_engine.specs.Prefixes.{index_in, columns_of, bound_bytes, prefix_in, scan_prefix}
 use Rattle.ds_engine.specs.Scans.{scan_branch, IsLawfulScan, IsLawfulAncestor, IsLawfulIn, AreLawfulBound}
 use Rattle.ds_engine.specs.ScanLaws.{ScansTellRows}
-use Rattle.ds_engine.proofs.Ways.{AreTaken, AreSplit, split_taken, join_taken, taken_long, way_taken, taken_way, bytes_join, values_once, flat_map_member}
+use Rattle.ds_engine.proofs.Ways.{AreTaken, AreSplit, split_taken, join_taken, taken_long, way_taken, taken_way, bytes_join, values_once}
+use Rattle.ds_engine.proofs.Ways.{flat_map_member}
 use Rattle.ds_engine.proofs.ScanIndexes.{SuitsKind, SuitsFlag, IsFound, IsBoundScan, bound_scan}
-use Rattle.ds_engine.proofs.ScanColumns.{values_in, asked_or_null, pair_of, asked_some, IsAsked, bound_is, bound_lawful, HasRest, rest_is, AreIndexColumns, index_columns_are}
+use Rattle.ds_engine.proofs.ScanColumns.{values_in, asked_or_null, pair_of, asked_some, IsAsked, bound_is, bound_lawful, HasRest, rest_is}
+use Rattle.ds_engine.proofs.ScanColumns.{AreIndexColumns, index_columns_are}
 use Rattle.ds_engine.proofs.EntityRows.{all_member, taken_lawful, entity_row, row_entity, IsRowOfEntity, row_member, member_row}
 use Rattle.ds_engine.proofs.AncestorPaths.{under_listed, listed_under}
 
@@ -90,7 +97,8 @@ both_ways : (p : Property) (d : Bool) → Member (ByProperty p.name d) (property
 both_ways p false = inl refl
 both_ways p true = inr (inl refl)
 
-enumerated : (k : ℕ) (defs : List IndexDef) (n : ℕ) (d : IndexDef) → IsIndexOf defs (Composite n d) → Member (k + n, d) (enumerate_from k defs)
+enumerated : (k : ℕ) (defs : List IndexDef) (n : ℕ) (d : IndexDef) → IsIndexOf defs (Composite n d)
+    → Member (k + n, d) (enumerate_from k defs)
 enumerated k [] n d is = absurd (omega (arith, is.0))
 enumerated k (x ∷ defs) zero d is = inl (λ i. (k_is i, sym is.1 i)) where
   k_is : k + 0 ≡ k
@@ -107,7 +115,8 @@ nothing_more n = omega arith
 index_there : (q : Branch) (defs : List IndexDef) (s : PlannedScan) (b : IsBoundScan q defs s) (e : EntityParts) (values : List IndexValue)
     → has_kind q.kind e.key ≡ true → AreTaken (index_lists e b.found.index) values → Member b.found.index (indexes_of defs e)
 index_there q defs s b e values kind taken = by b.found.index b.found.stands b.found.kind values taken where
-  by : (i : Index) → IsIndexOf defs i → SuitsKind q.kind i → (values : List IndexValue) → AreTaken (index_lists e i) values → Member i (indexes_of defs e)
+  by : (i : Index) → IsIndexOf defs i → SuitsKind q.kind i → (values : List IndexValue) → AreTaken (index_lists e i) values
+      → Member i (indexes_of defs e)
   by AllByKey stands suits values taken = inl refl
   by KindByKey stands suits values taken = inr (inl refl)
   by (ByProperty name d) stands suits [] taken = absurd taken
@@ -228,7 +237,8 @@ module _ (q : Branch) (defs : List IndexDef) (s : PlannedScan) (e : EntityParts)
       let all = bound_lawful s.equal lead rest.rest known.scan.found.paired (subst (AreLawfulBound s.equal) rest.is values) in
       λ k d below. value_of_bytes _ (all k d below)
 
-  prefix_is : scan_prefix q defs s ≡ index_front index q.namespace (unwrap_or q.kind []) ++ (ancestor_bytes s.ancestor ++ columns_bytes lead_directions bound_values)
+  prefix_is : scan_prefix q defs s ≡ index_front index q.namespace (unwrap_or q.kind []) ++ (ancestor_bytes s.ancestor
+      ++ columns_bytes lead_directions bound_values)
   prefix_is =
       ap (λ o. unwrap_or (option_map (prefix_in q s) o) []) known.scan.found.is
       ∙ ap (λ (bs : List ℕ). index_front index q.namespace (unwrap_or q.kind []) ++ (ancestor_bytes s.ancestor ++ bs)) bound_written
@@ -292,10 +302,13 @@ module _ (q : Branch) (defs : List IndexDef) (s : PlannedScan) (e : EntityParts)
       let is = all_member (IsOwn defs e j) (index_rows e j) r (own_rows defs e j known.entity own) w.1.0 in
       let key : r.parts.key ≡ e.key = is.1 in
       let bytes : index_front j r.parts.key.namespace (kind_of r.parts.key) ++ row_rest j r
-      ≡ index_front index q.namespace (unwrap_or q.kind []) ++ ((ancestor_bytes s.ancestor ++ columns_bytes lead_directions bound_values) ++ x) =
+      ≡ index_front index q.namespace (unwrap_or q.kind []) ++ ((ancestor_bytes s.ancestor
+      ++ columns_bytes lead_directions bound_values) ++ x) =
       sym w.1.1 ∙ ap (λ (bs : List ℕ). bs ++ x) prefix_is
-      ∙ append_assoc (index_front index q.namespace (unwrap_or q.kind [])) (ancestor_bytes s.ancestor ++ columns_bytes lead_directions bound_values) x in
-      let same = fronts_apart defs known.definitions.few j index r.parts.key.namespace (kind_of r.parts.key) q.namespace (unwrap_or q.kind [])
+      ∙ append_assoc (index_front index q.namespace (unwrap_or q.kind [])) (ancestor_bytes s.ancestor
+      ++ columns_bytes lead_directions bound_values) x in
+      let same = fronts_apart defs known.definitions.few j index r.parts.key.namespace (kind_of r.parts.key) q.namespace (unwrap_or
+      q.kind [])
       (row_rest j r) ((ancestor_bytes s.ancestor ++ columns_bytes lead_directions bound_values) ++ x) own known.scan.found.stands bytes in
       let there : Member index (indexes_of defs e) = subst (λ i. Member i (indexes_of defs e)) same.index from.1.0 in
       let holds : HoldsKind index (kind_of e.key) (unwrap_or q.kind []) =
@@ -304,7 +317,8 @@ module _ (q : Branch) (defs : List IndexDef) (s : PlannedScan) (e : EntityParts)
       let listed : Member r (index_rows e index) = subst (λ i. Member r (index_rows e i)) same.index w.1.0 in
       let behind : row_rest index r ≡ (ancestor_bytes s.ancestor ++ columns_bytes lead_directions bound_values) ++ x =
       sym (ap (λ i. row_rest i r) same.index) ∙ same.behind in
-      let a = flat_map_member (λ (b : Option KeyParts). map (row_with e.key b) (each_way (index_lists e index))) (row_ancestors index e.key) r listed in
+      let a = flat_map_member (λ (b : Option KeyParts). map (row_with e.key b) (each_way (index_lists e index))) (row_ancestors index
+      e.key) r listed in
       let v = map_member (row_with e.key a.0) (each_way (index_lists e index)) r a.1.1 in
       let taken : AreTaken (map (values_in e) lead ++ map (values_in e) (value_columns q.columns)) v.0 =
       subst (λ (ls : List (List IndexValue)). AreTaken ls v.0) (columns.lists e) (way_taken (index_lists e index) v.0 v.1.0) in
@@ -318,7 +332,8 @@ module _ (q : Branch) (defs : List IndexDef) (s : PlannedScan) (e : EntityParts)
         listed = a.1.0;
         firsts = split.firsts;
         lasts = split.lasts;
-        written = ap (λ (bs : List ℕ). ancestor_bytes a.0 ++ bs) (sym (values_and_key split.front split.back e.key (lead_long split.front split.firsts)))
+        written = ap (λ (bs : List ℕ). ancestor_bytes a.0
+            ++ bs) (sym (values_and_key split.front split.back e.key (lead_long split.front split.firsts)))
             ∙ sym (ap (λ (ws : List IndexValue). row_rest index (row_with e.key a.0 ws)) split.is)
             ∙ sym (ap (row_rest index) v.1.1) ∙ behind
             ∙ append_assoc (ancestor_bytes s.ancestor) (columns_bytes lead_directions bound_values) x;
@@ -354,7 +369,8 @@ module _ (q : Branch) (defs : List IndexDef) (s : PlannedScan) (e : EntityParts)
       let key : IsKeyOfBytes e.key = key_of_bytes e.key known.entity.key in
       let place = place_of q.columns (record { values = r.back; key = e.key }) in
       let same = same_ancestor_bytes (has_ancestor index) e.key r.ancestor s.ancestor q.ancestor
-      (columns_bytes lead_directions r.front ++ place) (columns_bytes lead_directions bound_values ++ x) key r.listed known.scan.ancestor flag_some
+      (columns_bytes lead_directions r.front ++ place) (columns_bytes lead_directions bound_values
+      ++ x) key r.listed known.scan.ancestor flag_some
       lawful_in.0 r.written in
       let long : length bound_values ≡ length lead_directions =
       length-map lead (asked_or_null s.equal) ∙ sym (length-map lead (λ (c : Column). c.descending)) in
@@ -366,7 +382,8 @@ module _ (q : Branch) (defs : List IndexDef) (s : PlannedScan) (e : EntityParts)
       let counts : is_found (scan_branch q s) e ≡ true =
       join (bytes_eq e.key.namespace q.namespace && has_kind q.kind e.key && is_under s.ancestor e.key) (list_all (has_value e) s.equal)
       (join (bytes_eq e.key.namespace q.namespace && has_kind q.kind e.key) (is_under s.ancestor e.key)
-      (join (bytes_eq e.key.namespace q.namespace) (has_kind q.kind e.key) (ap (bytes_eq e.key.namespace) (sym r.namespace) ∙ name_itself e.key.namespace) r.kind)
+      (join (bytes_eq e.key.namespace q.namespace) (has_kind q.kind e.key) (ap (bytes_eq e.key.namespace) (sym r.namespace)
+      ∙ name_itself e.key.namespace) r.kind)
       same.under) pairs in
       let row : RowParts = record { values = r.back; key = e.key } in
       subst (λ y. Member y (map (place_of q.columns) (rows (scan_branch q s) (e ∷ [])))) once.1
@@ -413,7 +430,8 @@ module _ (q : Branch) (defs : List IndexDef) (s : PlannedScan) (e : EntityParts)
       let is = row_member (scan_branch q s) (e ∷ []) r w.1.0 in
       let mine : is.entity ≡ e = only is.entity e is.there in
       let counts : is_found (scan_branch q s) e ≡ true = ap (is_found (scan_branch q s)) (sym mine) ∙ is.counts in
-      let one = both (bytes_eq e.key.namespace q.namespace && has_kind q.kind e.key && is_under s.ancestor e.key) (list_all (has_value e) s.equal) counts in
+      let one = both (bytes_eq e.key.namespace q.namespace && has_kind q.kind e.key
+      && is_under s.ancestor e.key) (list_all (has_value e) s.equal) counts in
       let two = both (bytes_eq e.key.namespace q.namespace && has_kind q.kind e.key) (is_under s.ancestor e.key) one.0 in
       let three = both (bytes_eq e.key.namespace q.namespace) (has_kind q.kind e.key) two.0 in
       let row = entity_row q.columns e r (subst (λ y. Member r (entity_rows q.columns y)) mine is.row) in
@@ -426,20 +444,24 @@ module _ (q : Branch) (defs : List IndexDef) (s : PlannedScan) (e : EntityParts)
       let listed = ancestor_there (has_ancestor index) e.key s.ancestor q.ancestor known.scan.ancestor flag_some lawful_in.0 two.1 in
       let entry : IndexRow = row_with e.key s.ancestor values in
       let inside : Member entry (index_rows e index) =
-      member_flat_map (λ (b : Option KeyParts). map (row_with e.key b) (each_way (index_lists e index))) (row_ancestors index e.key) s.ancestor entry listed
+      member_flat_map (λ (b : Option KeyParts). map (row_with e.key b) (each_way (index_lists e index))) (row_ancestors index e.key)
+      s.ancestor entry listed
       (member_map (row_with e.key s.ancestor) (each_way (index_lists e index)) values (taken_way (index_lists e index) values taken)) in
       let namespace : e.key.namespace ≡ q.namespace = same_name e.key.namespace q.namespace three.0 in
       let long = lead_long bound_values firsts in
       let place : place_of q.columns (record { values = r.values; key = e.key }) ≡ x =
       sym (w.1.1 ∙ (λ i. place_of q.columns (record { values = r.values; key = row.0 i }))) in
       let bytes : index_row_bytes index entry ≡ scan_prefix q defs s ++ x =
-      ap (λ (bs : List ℕ). index_front index e.key.namespace (kind_of e.key) ++ (ancestor_bytes s.ancestor ++ bs)) (values_and_key bound_values r.values e.key long)
-      ∙ (λ i. index_front index (namespace i) (kind_of e.key) ++ (ancestor_bytes s.ancestor ++ (columns_bytes lead_directions bound_values ++ place i)))
+      ap (λ (bs : List ℕ). index_front index e.key.namespace (kind_of e.key) ++ (ancestor_bytes s.ancestor
+      ++ bs)) (values_and_key bound_values r.values e.key long)
+      ∙ (λ i. index_front index (namespace i) (kind_of e.key) ++ (ancestor_bytes s.ancestor
+      ++ (columns_bytes lead_directions bound_values ++ place i)))
       ∙ ap (λ (f : List ℕ). f ++ (ancestor_bytes s.ancestor ++ (columns_bytes lead_directions bound_values ++ x)))
       (front_same index known.scan.found.kind three.1)
       ∙ ap (λ (bs : List ℕ). index_front index q.namespace (unwrap_or q.kind []) ++ bs)
       (sym (append_assoc (ancestor_bytes s.ancestor) (columns_bytes lead_directions bound_values) x))
-      ∙ sym (append_assoc (index_front index q.namespace (unwrap_or q.kind [])) (ancestor_bytes s.ancestor ++ columns_bytes lead_directions bound_values) x)
+      ∙ sym (append_assoc (index_front index q.namespace (unwrap_or q.kind [])) (ancestor_bytes s.ancestor
+      ++ columns_bytes lead_directions bound_values) x)
       ∙ ap (λ (bs : List ℕ). bs ++ x) (sym prefix_is) in
       member_flat_map (rows_in e) (indexes_of defs e) index (scan_prefix q defs s ++ x) there
       (subst (λ y. Member y (rows_in e index)) bytes (member_map (index_row_bytes index) (index_rows e index) entry inside))

@@ -1,5 +1,6 @@
 -- The rows of tables at a stamp, in order: the first in a range, which are there, and how many are passed.
-use Rattle.std.proofs.Common.{◌≡◌, ◌⊎◌, inl, inr, ℕ, ◌+◌, ◌≤◌, List, [], ◌∷◌, ◌++◌, Bool, true, false, ◌&&◌, not, cond, refl, sym, ap, ◌∙◌, subst, Option, Some, None, arith}
+use Rattle.std.proofs.Common.{◌≡◌, ◌⊎◌, inl, inr, ℕ, ◌+◌, ◌≤◌, List, [], ◌∷◌, ◌++◌, Bool, true, false, ◌&&◌, not, cond, refl, sym, ap}
+use Rattle.std.proofs.Common.{◌∙◌, subst, Option, Some, None, arith}
 use Rattle.std.specs.Prelude.{bytes_eq, find, count_by, sum_by, All, flat_map, map, filter, Contains}
 use Rattle.std.specs.List.{AllByRecursion}
 use Rattle.std.specs.List.Sorted.{IsSorted, IsStrictlySortedBy, IsPermutation}
@@ -16,7 +17,8 @@ use Rattle.ds_base.specs.SortingLaws.{Ascends, NoneBefore, Ascends-sorted_by, Is
 use Rattle.ds_indexdef.specs.declared.IndexDef.{IndexDef}
 use Rattle.ds_planner.proofs.Members.{Member, contained, member_contained}
 use Rattle.ds_planner.proofs.PairLists.{same_name, name_itself}
-use Rattle.ds_rows.specs.Versions.{Version, seen_rows, unseen_rows, first_row, is_from, is_below as is_before_end, is_up_to, rows_passed as table_passed}
+use Rattle.ds_rows.specs.Versions.{Version, seen_rows, unseen_rows, first_row, is_from, is_below as is_before_end, is_up_to}
+use Rattle.ds_rows.specs.Versions.{rows_passed as table_passed}
 use Rattle.ds_scan.specs.Ranges.{rows_passed}
 use Rattle.ds_table.specs.Versions.{in_range}
 use Rattle.ds_zigzag.specs.Spans.{is_within}
@@ -157,4 +159,5 @@ module _ (defs : List IndexDef) (stamp : ℕ) (versions : List Version) where
       let sorted = sorted_by bytes_cmp (seen_rows defs stamp versions) in
       contained (rows_at defs stamp versions) x
       (member-each_once sorted x (member_contained sorted x
-      (Contains-permutation (seen_rows defs stamp versions) sorted x (IsPermutation-sorted_by bytes_cmp (seen_rows defs stamp versions)) c)))
+      (Contains-permutation (seen_rows defs stamp versions) sorted x (IsPermutation-sorted_by bytes_cmp (seen_rows defs stamp versions))
+      c)))

@@ -1,5 +1,6 @@
 -- A walk over the strings that scans have in common: what is kept of the rows that it has reached.
-use Rattle.std.proofs.Common.{◌≡◌, ◌⊎◌, inl, inr, ℕ, ◌+◌, ◌≤◌, ◌<◌, List, [], ◌∷◌, ◌++◌, length, map, fold, Bool, true, false, ◌&&◌, ◌||◌, not, cond, refl, sym, ap, ◌∙◌, subst, Option, Some, None, arith, append_assoc, append-nil, take, drop}
+use Rattle.std.proofs.Common.{◌≡◌, ◌⊎◌, inl, inr, ℕ, ◌+◌, ◌≤◌, ◌<◌, List, [], ◌∷◌, ◌++◌, length, map, fold, Bool, true, false, ◌&&◌, ◌||◌}
+use Rattle.std.proofs.Common.{not, cond, refl, sym, ap, ◌∙◌, subst, Option, Some, None, arith, append_assoc, append-nil, take, drop}
 use Rattle.std.specs.Prelude.{filter, All, Contains, IsTrue, IsFalse}
 use Rattle.std.specs.List.{list_any}
 use Rattle.std.specs.List.Sorted.{IsSorted}
@@ -19,7 +20,8 @@ use Rattle.ds_bytes.specs.Rows.{RowParts, IsRow}
 use Rattle.ds_bytes.specs.RowLaws.{row_bytes-reads_once}
 use Rattle.ds_cursor.specs.RowsOfColumns.{directions, key_descends}
 use Rattle.ds_query.specs.declared.row.Row.{Row}
-use Rattle.ds_planner.proofs.Members.{Member, contained, member_contained, map_member, filter_member, member_filter, member_append, join, both, true_false, not_true}
+use Rattle.ds_planner.proofs.Members.{Member, contained, member_contained, map_member, filter_member, member_filter, member_append, join}
+use Rattle.ds_planner.proofs.Members.{both, true_false, not_true}
 use Rattle.ds_zigzag.specs.Spans.{is_below, is_above}
 use Rattle.ds_zigzag.specs.CommonStrings.{IsCommon, IsNextCommon, HasNoNextCommon}
 use Rattle.ds_zigzag.proofs.Order.{below_below, below_upto, upto_upto, same_unless_below, below_back, not_below_itself}
@@ -98,7 +100,8 @@ values_themselves (v ∷ vs) = λ i. ap is_eq ((index_value_cmp-Equal v v).1 ref
 
 pub mark_itself : (columns : List Column) (names : List (List ℕ)) (x : RowParts) → same_mark columns names x x ≡ true
 mark_itself columns names x =
-    join (same_key x.key x.key) (pointwise (λ v w. is_eq (index_value_cmp v w)) (projected_values columns names x) (projected_values columns names x))
+    join (same_key x.key x.key) (pointwise (λ v w. is_eq (index_value_cmp v w)) (projected_values columns names x) (projected_values
+    columns names x))
     ((same_key-decides x.key x.key).1 refl) (values_themselves (projected_values columns names x))
 
 -- ---- rows that were reached
@@ -124,15 +127,19 @@ module _ (columns : List Column) (names : List (List ℕ)) where
   abbrev Above : RowParts → List RowParts → Type 0
   Above x ys = NoneBefore bytes_cmp (place_of columns x) (map (place_of columns) ys)
 
-  later : (x : RowParts) (ys : List RowParts) → Above x ys → (y : RowParts) → Member y ys → is_below (place_of columns y) (place_of columns x) ≡ false
+  later : (x : RowParts) (ys : List RowParts) → Above x ys → (y : RowParts) → Member y ys
+      → is_below (place_of columns y) (place_of columns x) ≡ false
   later x [] h y m = absurd m
-  later x (z ∷ ys) h y (inl e) = ap (λ (r : RowParts). is_below (place_of columns r) (place_of columns x)) e ∙ not_gt (place_of columns x) (place_of columns z) h.0
+  later x (z ∷ ys) h y (inl e) = ap (λ (r : RowParts). is_below (place_of columns r) (place_of columns x)) e
+      ∙ not_gt (place_of columns x) (place_of columns z) h.0
   later x (z ∷ ys) h y (inr m) = later x ys h.1 y m
 
   -- behind a row that wasn't reached none was
-  none_reached : (last : Option (List ℕ)) (x : RowParts) (ys : List RowParts) → Above x ys → reached last x ≡ false → filter (reached last) (x ∷ ys) ≡ []
+  none_reached : (last : Option (List ℕ)) (x : RowParts) (ys : List RowParts) → Above x ys → reached last x ≡ false
+      → filter (reached last) (x ∷ ys) ≡ []
   none_reached last x ys up e =
-      filter_none (reached last) (x ∷ ys) (λ y m. ap not (above_more last (place_of columns x) (place_of columns y) (was_true (is_above last (place_of columns x)) e) (here y m))) where
+      filter_none (reached last) (x ∷ ys) (λ y m. ap not (above_more last (place_of columns x) (place_of columns y) (was_true (is_above
+      last (place_of columns x)) e) (here y m))) where
         was_true : (b : Bool) → not b ≡ false → b ≡ true
         was_true true e = refl
         was_true false e = absurd (cc e)
@@ -142,11 +149,13 @@ module _ (columns : List Column) (names : List (List ℕ)) where
         here y (inr m) = later x ys up y m
 
   -- one place further: the next one that is there
-  module _ (last : Option (List ℕ)) (a : List ℕ) (row : RowParts) (lawful : IsRow (directions columns) row) (at_place : place_of columns row ≡ a)
+  module _ (last : Option (List ℕ)) (a : List ℕ) (row : RowParts) (lawful : IsRow (directions columns) row) (at_place : place_of columns
+      row ≡ a)
       (above : is_above last a ≡ true) where
     was_reached : (x : RowParts) → reached last x ≡ true → reached (Some a) x ≡ true
     was_reached x e = by last above e where
-      by : (l : Option (List ℕ)) → is_above l a ≡ true → not (is_above l (place_of columns x)) ≡ true → not (is_below a (place_of columns x)) ≡ true
+      by : (l : Option (List ℕ)) → is_above l a ≡ true → not (is_above l (place_of columns x)) ≡ true
+          → not (is_below a (place_of columns x)) ≡ true
       by None h g = absurd (cc g)
       by (Some l) h g =
           ap not (below_none l (place_of columns x) h (not_true (is_below l (place_of columns x)) g)) where
@@ -156,7 +165,8 @@ module _ (columns : List Column) (names : List (List ℕ)) where
               by2 false e = refl
               by2 true e = true_false (true ≡ false) (is_below l p) (below_below l a p h e) g
 
-    same_place : (x : RowParts) → IsRow (directions columns) x → reached (Some a) x ≡ true → is_below (place_of columns x) a ≡ false → x ≡ row
+    same_place : (x : RowParts) → IsRow (directions columns) x → reached (Some a) x ≡ true → is_below (place_of columns x) a ≡ false
+        → x ≡ row
     same_place x p r b =
         place_tells columns x row p lawful
         (same_unless_below (place_of columns x) a b (not_true (is_below a (place_of columns x)) r) ∙ sym at_place)
@@ -184,7 +194,8 @@ module _ (columns : List Column) (names : List (List ℕ)) where
           in_rest e (inr n) = n
 
           by : (b : Bool) → reached last x ≡ b
-              → ((ks : List RowParts) → Member row xs → fold w ks (filter (reached (Some a)) xs) ≡ w (fold w ks (filter (reached last) xs)) row)
+              → ((ks : List RowParts) → Member row xs → fold w ks (filter (reached (Some a)) xs)
+              ≡ w (fold w ks (filter (reached last) xs)) row)
               → fold w kept (filter (reached (Some a)) (x ∷ xs)) ≡ w (fold w kept (filter (reached last) (x ∷ xs))) row
           by true e further =
               ap (λ b. fold w kept (cond b (x ∷ filter (reached (Some a)) xs) (filter (reached (Some a)) xs))) (was_reached x e)
@@ -202,7 +213,8 @@ module _ (columns : List Column) (names : List (List ℕ)) where
                 all_later y n = by3 (reached last y) refl where
                   by3 : (b : Bool) → reached last y ≡ b → b ≡ false
                   by3 false g = refl
-                  by3 true g = absurd (subst (λ ys. Member y ys) (none_reached last x xs up.0 e) (member_filter (reached last) (x ∷ xs) y n g))
+                  by3 true g = absurd (subst (λ ys. Member y ys) (none_reached last x xs up.0 e) (member_filter (reached last) (x ∷ xs) y
+                      n g))
 
   -- what was kept so far stands in front of all that will be
   pub kept_first : (last : Option (List ℕ)) (kept xs : List RowParts) → Ascends bytes_cmp (map (place_of columns) xs)
@@ -225,7 +237,8 @@ module _ (columns : List Column) (names : List (List ℕ)) where
 
   -- ---- a walk
 
-  module _ (after : Option (List ℕ)) (lists : List (List (List ℕ))) (sorted : List RowParts) (are : AreCommonRows columns after lists sorted) where
+  module _ (after : Option (List ℕ)) (lists : List (List (List ℕ))) (sorted : List RowParts) (are : AreCommonRows columns after lists
+      sorted) where
     up : Ascends bytes_cmp (map (place_of columns) sorted)
     up = Ascends-from_IsSorted nat_list_cmp_total (map (place_of columns) sorted) are.ascend
 
@@ -256,7 +269,8 @@ module _ (columns : List Column) (names : List (List ℕ)) where
           was_true false e = absurd (cc e)
 
     -- where no string is left all rows were reached
-    pub all_kept : (last : Option (List ℕ)) → HasNoNextCommon last lists → kept_at last sorted ≡ first_of_each (same_mark columns names) sorted
+    pub all_kept : (last : Option (List ℕ)) → HasNoNextCommon last lists → kept_at last sorted
+        ≡ first_of_each (same_mark columns names) sorted
     all_kept last none =
         ap (first_of_each (same_mark columns names))
         (filter_all (reached last) sorted (λ x m. ap not (none (place_of columns x) (is_common x m).common)))

@@ -1,5 +1,6 @@
 -- Ways to take one value of each list, and the values that are taken.
-use Rattle.std.proofs.Common.{◌≡◌, ◌⊎◌, inl, inr, ℕ, ◌+◌, List, [], ◌∷◌, ◌++◌, length, map, Bool, refl, sym, ap, ◌∙◌, subst, arith, append_assoc}
+use Rattle.std.proofs.Common.{◌≡◌, ◌⊎◌, inl, inr, ℕ, ◌+◌, List, [], ◌∷◌, ◌++◌, length, map, Bool, refl, sym, ap, ◌∙◌, subst, arith}
+use Rattle.std.proofs.Common.{append_assoc}
 use Rattle.std.specs.Prelude.{flat_map, All}
 use Rattle.std.proofs.lemmas.List.Elements.{All-nil, All-cons, All-head, All-tail}
 use Rattle.ds_base.specs.declared.index_value.IndexValue.{IndexValue}
@@ -64,7 +65,8 @@ split_taken (values ∷ xs) ys (v ∷ vs) t =
     let r = split_taken xs ys vs t.1 in
     record { front = v ∷ r.front; back = r.back; is = ap (λ ws. v ∷ ws) r.is; firsts = (t.0, r.firsts); lasts = r.lasts }
 
-pub join_taken : (xs ys : List (List IndexValue)) (vs ws : List IndexValue) → AreTaken xs vs → AreTaken ys ws → AreTaken (xs ++ ys) (vs ++ ws)
+pub join_taken : (xs ys : List (List IndexValue)) (vs ws : List IndexValue) → AreTaken xs vs → AreTaken ys ws → AreTaken (xs
+    ++ ys) (vs ++ ws)
 join_taken [] ys [] ws s t = t
 join_taken [] ys (v ∷ vs) ws s t = absurd s
 join_taken (values ∷ xs) ys [] ws s t = absurd s

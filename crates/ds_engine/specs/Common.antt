@@ -16,7 +16,8 @@ pub record IsCommonAfter (columns : List Column) (after : Option (List ℕ)) (li
   pub above : IsTrue (is_above after (place_of columns r))
 
 -- The rows, in order, are those whose places are the strings that the lists have in common above `after`.
-pub record AreCommonRows (columns : List Column) (after : Option (List ℕ)) (lists : List (List (List ℕ))) (sorted : List RowParts) : Type 0 where
+pub record AreCommonRows (columns : List Column) (after : Option (List ℕ)) (lists : List (List (List ℕ))) (sorted : List RowParts) : Type
+    0 where
   pub ascend : IsSorted bytes_cmp (map (place_of columns) sorted)
   pub common : All (IsCommonAfter columns after lists) sorted
   pub whole : (x : List ℕ) → IsCommon lists x → IsTrue (is_above after x) → Contains (map (place_of columns) sorted) x

@@ -45,7 +45,8 @@ abbrev pub BoundsTellRows : Type 0
 BoundsTellRows =
     (q : Branch) (end : Option Place) (r : RowParts) → IsLawfulBranch q → IsLawfulEnds q → IsRow (directions q.columns) r
     → in_range (low_of q) (high_of q end) (place_of q.columns r)
-    ≡ (is_within q.range (first_value r) && (cond (is_by_key q.columns) (is_under q.ancestor r.key) true && is_up_to end (place_of q.columns r)))
+    ≡ (is_within q.range (first_value r) && (cond (is_by_key q.columns) (is_under q.ancestor r.key) true
+    && is_up_to end (place_of q.columns r)))
 
 -- what an answer stands on: a lawful branch, a plan that suits it, tables at a stamp, and values and keys that have an encoding
 pub record IsPlanned (q : Branch) (defs : List IndexDef) (scans : List PlannedScan) (stamp : ℕ) (versions : List Version) : Type 0 where
@@ -83,4 +84,5 @@ ScansHaveFewStrings =
     → IsPlanned q defs scans stamp versions
     → (least_count (bytes_of start) (bytes_of stop) (plan_strings q defs scans stamp versions end)
     ≤ least_of (map (λ part. length (part_rows q start end stop (entities_at stamp versions) part)) (parts q)))
-    × (IsLean q defs scans → total_count (bytes_of start) (bytes_of stop) (plan_passed q defs scans stamp versions end) ≤ old q stamp versions)
+    × (IsLean q defs scans → total_count (bytes_of start) (bytes_of stop) (plan_passed q defs scans stamp versions end)
+    ≤ old q stamp versions)

@@ -142,7 +142,8 @@ fn put_property_front(
     prefix: &mut Buffer,
 ) -> Result<(), NoMemory>
     requires { prefix.old.bytes ≡ [] }
-    ensures { OnOk result (prefix.new.bytes ≡ index_front (ByProperty name.now descending) branch.now.namespace (unwrap_or branch.now.kind [])) }
+    ensures { OnOk result (prefix.new.bytes
+        ≡ index_front (ByProperty name.now descending) branch.now.namespace (unwrap_or branch.now.kind [])) }
 {
     put_tag(property_tag(descending), branch, prefix)?;
     put_kind(branch, prefix)?;

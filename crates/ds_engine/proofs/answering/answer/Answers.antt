@@ -26,7 +26,8 @@ first_common-requires-clause-rows g c = λ x common.
       lawful = c.in_ok-scans.ensures.lawful;
       ends = c.in_ok-scans.ensures.ends;
     } in
-    let listed = plan_strings_are g.T.Tables.definitions g.T.Tables.versions q defs scans c.args.at end c.args.tables.now c.as_mut_slice.result.now
+    let listed = plan_strings_are g.T.Tables.definitions g.T.Tables.versions q defs scans c.args.at end c.args.tables.now
+    c.as_mut_slice.result.now
     (c.as_mut_slice.ensures.value ∙ c.in_ok-scans.ensures.scans) c.requires.definitions in
     (of_branch q defs scans c.args.at versions end planned x (subst (λ (ls : List (List (List ℕ))). IsCommon ls x) listed common)).decodes
 
@@ -45,7 +46,8 @@ returns-clause-rows g c =
       lawful = c.in_ok-scans.ensures.lawful;
       ends = c.in_ok-scans.ensures.ends;
     } in
-    let listed = plan_strings_are g.T.Tables.definitions g.T.Tables.versions q defs scans c.args.at end c.args.tables.now c.as_mut_slice.result.now
+    let listed = plan_strings_are g.T.Tables.definitions g.T.Tables.versions q defs scans c.args.at end c.args.tables.now
+    c.as_mut_slice.result.now
     (c.as_mut_slice.ensures.value ∙ c.in_ok-scans.ensures.scans) c.requires.definitions in
     let sorted = rows_between q start end (entities_at c.args.at versions) in
     if_ok c.first_common.result c.first_common.ensures.rows (λ found rows. rows sorted
@@ -70,15 +72,19 @@ returns-clause-steps_bounded g c = λ lean.
     } in
     let made = c.as_mut_slice.ensures.value ∙ c.in_ok-scans.ensures.scans in
     let items = c.as_mut_slice.result.now in
-    let strings = plan_strings_are g.T.Tables.definitions g.T.Tables.versions q defs scans c.args.at end tables items made c.requires.definitions in
-    let passed = plan_passed_are g.T.Tables.definitions g.T.Tables.versions q defs scans c.args.at end tables items made c.requires.definitions in
+    let strings = plan_strings_are g.T.Tables.definitions g.T.Tables.versions q defs scans c.args.at end tables items made
+    c.requires.definitions in
+    let passed = plan_passed_are g.T.Tables.definitions g.T.Tables.versions q defs scans c.args.at end tables items made
+    c.requires.definitions in
     let many = as_many_scans q defs scans end (record { tables = tables; stamp = c.args.at }) items made in
     let sorted = rows_between q start end (entities_at c.args.at versions) in
     let common = subst (λ (ls : List (List (List ℕ))). AreCommonRows q.columns (bytes_of start) ls sorted) (sym strings)
     (plans_tell q defs scans c.args.at versions start end planned) in
     if_both c.first_common.result c.first_common.ensures.rows c.first_common.ensures.steps_when_done (λ found rows steps.
-    done_within q defs scans c.args.at versions start end planned lean c.args.most c.args.steps.now c.first_common.new.steps found (rows sorted common)
-    (moved_steps c.args.steps.now c.first_common.new.steps (λ n ss ps. walk_steps (is_wanted c.args.most (length found)) n (bytes_of start) (bytes_of (last_of None found)) ss ps)
+    done_within q defs scans c.args.at versions start end planned lean c.args.most c.args.steps.now c.first_common.new.steps found (rows
+    sorted common)
+    (moved_steps c.args.steps.now c.first_common.new.steps (λ n ss ps. walk_steps (is_wanted c.args.most (length found)) n (bytes_of
+    start) (bytes_of (last_of None found)) ss ps)
     _ _ _ _ _ _ many strings passed steps))
 
 pub returns-clause-steps_when_refused : goal.returns-clause-steps_when_refused
@@ -99,9 +105,12 @@ returns-clause-steps_when_refused g c = λ lean.
     } in
     let made = c.as_mut_slice.ensures.value ∙ c.in_ok-scans.ensures.scans in
     let items = c.as_mut_slice.result.now in
-    let strings = plan_strings_are g.T.Tables.definitions g.T.Tables.versions q defs scans c.args.at end tables items made c.requires.definitions in
-    let passed = plan_passed_are g.T.Tables.definitions g.T.Tables.versions q defs scans c.args.at end tables items made c.requires.definitions in
+    let strings = plan_strings_are g.T.Tables.definitions g.T.Tables.versions q defs scans c.args.at end tables items made
+    c.requires.definitions in
+    let passed = plan_passed_are g.T.Tables.definitions g.T.Tables.versions q defs scans c.args.at end tables items made
+    c.requires.definitions in
     let many = as_many_scans q defs scans end (record { tables = tables; stamp = c.args.at }) items made in
     on_err c.first_common.result c.first_common.ensures.steps_when_refused (λ steps.
     refused_within q defs scans c.args.at versions start end planned lean c.args.steps.now c.first_common.new.steps
-    (moved_steps c.args.steps.now c.first_common.new.steps (λ n ss ps. steps_to_end n (bytes_of start) ss ps) _ _ _ _ _ _ many strings passed steps))
+    (moved_steps c.args.steps.now c.first_common.new.steps (λ n ss ps. steps_to_end n (bytes_of start) ss ps) _ _ _ _ _ _ many strings
+    passed steps))

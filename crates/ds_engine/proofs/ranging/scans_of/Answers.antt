@@ -16,8 +16,13 @@ loop-planned-preserved g c =
     let at_i : s ≡ get_or scans i s = c.planned-item.is ∙ ap (λ (ss : List PlannedScan). get_or ss i s) same in
     record {
       made = one_more_made
-          (λ (p : PlannedScan). record { rows = record { tables = c.args.tables.now; stamp = c.args.at }; range = range_of c.args.branch.now c.args.defs.now (option_copied c.args.end) p })
-          scans i s c.loop-planned.scans.items c.push.new.self.items c.in_ok-scan.scan below at_i c.loop-planned.invariant.made c.in_ok-push.ensures.items
+          (λ (p : PlannedScan). record {
+            rows = record { tables = c.args.tables.now; stamp = c.args.at };
+            range = range_of
+                c.args.branch.now c.args.defs.now (option_copied c.args.end) p;
+          })
+          scans i s c.loop-planned.scans.items c.push.new.self.items c.in_ok-scan.scan below at_i c.loop-planned.invariant.made
+          c.in_ok-push.ensures.items
           (c.in_ok-scan.ensures ∙ (λ j. record {
             rows = c.new-rows.ensures j;
             range = record {

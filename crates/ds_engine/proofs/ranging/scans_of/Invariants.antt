@@ -8,6 +8,7 @@ use Rattle.ds_engine.proofs.ranging.scans_of.Given as goal
 
 abbrev pub invariant-loop-planned : goal.invariant-loop-planned
 invariant-loop-planned g l = record {
-  made : l.scans.items ≡ ranges_over (record { tables = l.tables; stamp = l.at }) l.branch l.defs (option_copied l.end) (take l.planned-index l.plan.scans);
+  made : l.scans.items ≡ ranges_over (record { tables = l.tables; stamp = l.at }) l.branch l.defs (option_copied l.end) (take
+      l.planned-index l.plan.scans);
   lawful : All (IsLawfulScan l.defs) (take l.planned-index l.plan.scans);
 }

@@ -8,7 +8,8 @@ use Rattle.ds_engine.proofs.reading.row_of.Goals.{then-not-is_key_name+in_ok-res
 
 pub put_value-requires : goal.put_value-requires
 put_value-requires c =
-    value_stands c.args.columns.now c.loop-column.column-index c.column-item.result (key_descends c.args.columns.now) c.loop-column.values.items
+    value_stands c.args.columns.now c.loop-column.column-index c.column-item.result (key_descends c.args.columns.now)
+    c.loop-column.values.items
     c.loop-column.rest.now c.requires.row c.loop-column-test.true c.column-item.is (c.loop-column.invariant c.requires)
     (sym c.is_key_name.ensures ∙ c.if-not-is_key_name.true)
 
@@ -25,11 +26,13 @@ loop-column-preserved c = λ r.
     elim c.if-not-is_key_name.branch [
       | then-not-is_key_name+in_ok-rest w ↦
           rw (ap (λ v. v.items) w.values-is, ap (λ b. b.now) w.rest-is)
-          (value_read columns i column kd values rest r.row below c.column-item.is left (sym c.is_key_name.ensures ∙ w.if-not-is_key_name.true)
+          (value_read columns i column kd values rest r.row below c.column-item.is left (sym c.is_key_name.ensures
+          ∙ w.if-not-is_key_name.true)
           w.put_value.new.values.items w.in_ok-rest.rest.now w.in_ok-rest.ensures)
       | else-not-is_key_name w ↦
           rw (ap (λ v. v.items) w.values-is, ap (λ b. b.now) w.rest-is)
-          (key_passed columns i column kd values rest r.row below c.column-item.is left (sym c.is_key_name.ensures ∙ w.if-not-is_key_name.false))
+          (key_passed columns i column kd values rest r.row below c.column-item.is left (sym c.is_key_name.ensures
+          ∙ w.if-not-is_key_name.false))
     ]
 
 pub key_of-requires : goal.key_of-requires
@@ -40,7 +43,8 @@ key_of-requires c =
 
 pub returns-clause-placed : goal.returns-clause-placed
 returns-clause-placed c =
-    row_read c.args.columns.now c.loop-column.column-index c.args.place.now c.loop-column.values.items c.loop-column.rest.now c.in_ok-key.key
+    row_read c.args.columns.now c.loop-column.column-index c.args.place.now c.loop-column.values.items c.loop-column.rest.now
+    c.in_ok-key.key
     (record { key = c.in_ok-key.key; values = c.from.result; place = record { bytes = c.in_ok-bytes.bytes } })
     c.loop-column-test.false c.requires (c.loop-column.invariant c.requires)
     (λ k p e. c.in_ok-key.ensures k p (e ∙ ap (λ d. key_encoding d k) (sym c.key_descends.ensures)))

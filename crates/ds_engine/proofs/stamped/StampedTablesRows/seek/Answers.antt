@@ -8,7 +8,8 @@ returns-clause-finds_the_first g c =
     let tables = c.self.inside.tables.now in
     rw (← c.self.view_is)
     (c.seek.ensures.finds_the_first
-    ∙ rows.finds (g.T.Tables.definitions tables) c.self.inside.at (g.T.Tables.versions tables) c.args.at_least.now (option_copied c.args.below))
+    ∙ rows.finds (g.T.Tables.definitions tables) c.self.inside.at (g.T.Tables.versions tables) c.args.at_least.now (option_copied
+    c.args.below))
 
 pub returns-clause-steps_bounded : goal.returns-clause-steps_bounded
 returns-clause-steps_bounded g c =
