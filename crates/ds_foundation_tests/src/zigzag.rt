@@ -240,6 +240,23 @@ fn walked<L: Ledger>(
     Ok((all, taken))
 }
 
+/// The first string above `after` that the scans have in common.
+fn first_common<S: Scan, L: Ledger>(
+    alloc: Global,
+    scans: &mut [S],
+    after: &[u8],
+    steps: &mut Steps<L>,
+) -> Result<Option<ByteString>, AllocError>
+    requires some { 0 < length scans.old }
+    requires its_ledger { L.name ≡ S.ledger }
+{
+    let mut join = Join::make(alloc, scans.len())?;
+    match join.next(scans, Some(after), steps)? {
+        None => Ok(None),
+        Some(found) => Ok(Some(ByteString::of(alloc, found)?)),
+    }
+}
+
 /// What one call of a join over the listings gives.
 fn joined<L: Ledger>(
     blank: Blank,
@@ -256,94 +273,115 @@ fn joined<L: Ledger>(
     if scans.is_empty() {
         return Ok(None);
     }
-    let mut join = Join::make(alloc, scans.len())?;
-    match join.next(scans.as_mut_slice(), Some(after), &mut steps)? {
-        None => Ok(None),
-        Some(found) => Ok(Some(ByteString::of(alloc, found)?)),
-    }
+    first_common(alloc, scans.as_mut_slice(), after, &mut steps)
 }
+
+/// Whether a walk over the listings gives this, and takes so many steps.
+fn walks(
+    alloc: Global,
+    words: &[&str],
+    after: Option<&[u8]>,
+    want: &str,
+    steps: u64,
+) -> Result<bool, AllocError> {
+    let (all, taken) = walked::<Brand>(Blank::new(1), alloc, words, after)?;
+    Ok(taken == steps && all.bytes() == want.as_bytes())
+}
+
+/// Three listings each, what a walk over them gives, and how many steps it takes.
+const THREE: [([&str; 3], &str, u64); 8] = [
+    (["a b c", "a b c", "a b c"], "a b c ", 10),
+    (["a b", "a c", "a d"], "a ", 7),
+    (["a m", "b m z", "c m"], "m ", 7),
+    (["a z", "b z", "c z"], "z ", 7),
+    (["a d", "b e", "c f"], "", 7),
+    (["a b", "", "a b"], "", 2),
+    (["a ab abc", "ab abc abcd", "a ab abc abcd"], "ab abc ", 8),
+    (["a b -b -b c", "-a b c", "b -c d"], "b ", 10),
+];
 
 #[test]
 fn walks_over_what_all_have(rt: HostRuntime) -> Result<(), Fail> {
-    for (words, want, steps) in [
-        (["a b c", "a b c", "a b c"], "a b c ", 10),
-        (["a b", "a c", "a d"], "a ", 7),
-        (["a m", "b m z", "c m"], "m ", 7),
-        (["a z", "b z", "c z"], "z ", 7),
-        (["a d", "b e", "c f"], "", 7),
-        (["a b", "", "a b"], "", 2),
-        (["a ab abc", "ab abc abcd", "a ab abc abcd"], "ab abc ", 8),
-        (["a b -b -b c", "-a b c", "b -c d"], "b ", 10),
-    ] {
-        let (all, taken) = walked::<Brand>(Blank::new(1), rt.alloc(), words.as_slice(), None)?;
-        assert_eq!(rt; all.bytes(), want.as_bytes(), "{words:?}");
-        assert_eq!(rt; taken, steps, "{words:?}");
+    for (words, want, steps) in THREE {
+        let holds = walks(rt.alloc(), words.as_slice(), None, want, steps)?;
+        assert!(rt; holds, "{words:?}");
     }
     Ok(())
 }
+
+/// The same of two listings.
+const TWO: [([&str; 2], &str, u64); 4] = [
+    (["a b c", "a b c"], "a b c ", 7),
+    (["a c e g", "b c f g"], "c g ", 9),
+    (["a b c d e f", "f"], "f ", 4),
+    (["a -b -b c", "b c"], "c ", 7),
+];
 
 #[test]
 fn counts_the_steps_of_two_scans(rt: HostRuntime) -> Result<(), Fail> {
-    for (words, steps) in [
-        (["a b c", "a b c"], 7),
-        (["a c e g", "b c f g"], 9),
-        (["a b c d e f", "f"], 4),
-        (["a -b -b c", "b c"], 7),
-    ] {
-        let (_, taken) = walked::<Brand>(Blank::new(1), rt.alloc(), words.as_slice(), None)?;
-        assert_eq!(rt; taken, steps, "{words:?}");
+    for (words, want, steps) in TWO {
+        let holds = walks(rt.alloc(), words.as_slice(), None, want, steps)?;
+        assert!(rt; holds, "{words:?}");
     }
     Ok(())
 }
+
+/// Where a walk over the listing `a b -c d` begins, what it gives, and how many steps it takes.
+const FROM_WITHIN: [(&str, &str, u64); 5] = [
+    ("", "a b d ", 5),
+    ("a", "b d ", 4),
+    ("b", "d ", 3),
+    ("c", "d ", 2),
+    ("d", "", 1),
+];
 
 #[test]
 fn walks_over_one_scan_from_within(rt: HostRuntime) -> Result<(), Fail> {
-    for (after, want, steps) in [
-        ("", "a b d ", 5),
-        ("a", "b d ", 4),
-        ("b", "d ", 3),
-        ("c", "d ", 2),
-        ("d", "", 1),
-    ] {
-        let (all, taken) = walked::<Brand>(
-            Blank::new(1),
-            rt.alloc(),
-            ["a b -c d"].as_slice(),
-            Some(after.as_bytes()),
-        )?;
-        assert_eq!(rt; all.bytes(), want.as_bytes(), "after {after}");
-        assert_eq!(rt; taken, steps, "after {after}");
+    let words = ["a b -c d"];
+    for (after, want, steps) in FROM_WITHIN {
+        let begin = Some(after.as_bytes());
+        let holds = walks(rt.alloc(), words.as_slice(), begin, want, steps)?;
+        assert!(rt; holds, "after {after}");
     }
     Ok(())
 }
 
+fn is_wanted(found: &Option<ByteString>, want: Option<&str>) -> bool {
+    match (found, want) {
+        (Some(found), Some(want)) => found.bytes() == want.as_bytes(),
+        (None, None) => true,
+        _ => false,
+    }
+}
+
+/// Whether one call of a join over the listings gives this.
+fn joins(
+    alloc: Global,
+    words: &[&str],
+    after: &str,
+    want: Option<&str>,
+) -> Result<bool, AllocError> {
+    let found = joined::<Brand>(Blank::new(1), alloc, words, after.as_bytes())?;
+    Ok(is_wanted(&found, want))
+}
+
+/// Strings, and what a join over `a b ca d e` and `b c ca e` gives above each.
+const ABOVE: [(&str, Option<&str>); 7] = [
+    ("", Some("b")),
+    ("a", Some("b")),
+    ("b", Some("ca")),
+    ("c", Some("ca")),
+    ("ca", Some("e")),
+    ("d", Some("e")),
+    ("e", None),
+];
+
 #[test]
 fn joins_above_any_string(rt: HostRuntime) -> Result<(), Fail> {
-    for (after, want) in [
-        ("", "b"),
-        ("a", "b"),
-        ("b", "ca"),
-        ("c", "ca"),
-        ("ca", "e"),
-        ("d", "e"),
-    ] {
-        let found = joined::<Brand>(
-            Blank::new(1),
-            rt.alloc(),
-            ["a b ca d e", "b c ca e"].as_slice(),
-            after.as_bytes(),
-        )?;
-        let Some(found) = found else {
-            panic!(rt; "nothing after {after}");
-        };
-        assert_eq!(rt; found.bytes(), want.as_bytes(), "after {after}");
+    let words = ["a b ca d e", "b c ca e"];
+    for (after, want) in ABOVE {
+        let holds = joins(rt.alloc(), words.as_slice(), after, want)?;
+        assert!(rt; holds, "after {after}");
     }
-    let none = joined::<Brand>(
-        Blank::new(1),
-        rt.alloc(),
-        ["a b ca d e", "b c ca e"].as_slice(),
-        b"e",
-    )?;
-    assert!(rt; none.is_none(), "nothing is after e");
     Ok(())
 }
