@@ -1,2 +1,5 @@
 mod Cores
+mod Gathers
+mod Legals
 mod Meetings
+mod Turns

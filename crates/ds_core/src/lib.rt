@@ -1,13 +1,25 @@
 //! The core: one store in one thread, and what each of sixteen clients has seen of it.
 //!
-//! What is said to a request and what that changes is planned in `ds_plans`. Begin with `whole`, which has `Core`: its clause `answered`
-//! says that the reply is the definitions' over every journal that begins with the new one. `meeting` has how the sessions meet.
+//! What is said to a request and what that changes is planned in `ds_plans`. Begin with `whole`, which has `Core`: it answers each request
+//! at once, and its clause `answered` says that the reply is the definitions' over every journal that begins with the new one. `meeting` has
+//! how the sessions meet. `run` takes single events instead, the atomic steps of a store that many clients use at once: `machine` opens
+//! requests and replies to them, `gathering` has what each step does, `finishing` the steps that are missing at the end.
 //!
 //! Of the definitions begin with `specs/Answered`: what an answer is, told of the store and of the sessions before and after, which is what
 //! the proof of the main theorem takes from this crate. `Cores` says what a core keeps.
 #![tactic(auto)]
 
+mod copying;
+pub mod event;
+mod finishing;
+mod gathering;
+mod machine;
 mod meeting;
+mod opened;
+mod running;
 mod whole;
 
+pub use ds_plans::Step;
+pub use event::{Event, Events, Replies, Requests, Transcript};
+pub use running::run;
 pub use whole::Core;

@@ -1,0 +1,10 @@
+use Rattle.ds_core.specs.Happenings.{GoesOn}
+use Rattle.ds_core.specs.Machines.{IsLegal, IsSameRun}
+use Rattle.ds_core.proofs.finishing.Machine.finish_client.Given as goal
+
+abbrev pub invariant-loop-shard : goal.invariant-loop-shard
+invariant-loop-shard l = record {
+  legal : IsLegal l.self;
+  same : IsSameRun l.fn.self l.self;
+  goes : GoesOn l.fn.self l.self;
+}

@@ -1,0 +1,141 @@
+-- What happens in a run over single events: the steps that were taken, what there was before and after each, and what was said.
+use Rattle.std.specs.Prelude.{◌≡◌, ℕ, ◌+◌, List, [], ◌∷◌, ◌++◌, Option, Some, None, All, flat_map, map, replicate, slice_get, slice_set, unwrap_or}
+use Rattle.std.specs.Option.{option_map}
+use Rattle.ds_base.specs.Limits.{greatest_client}
+use Rattle.ds_log.specs.declared.Commit.{Commit}
+use Rattle.ds_request.specs.declared.call.Request.{Request}
+use Rattle.ds_reply.specs.declared.reply.Reply.{Reply}
+use Rattle.ds_model.specs.Sessions.{first_id}
+use Rattle.ds_plans.specs.declared.gathered.Step.{Step}
+use Rattle.ds_core.specs.declared.event.Event.{Event}
+use Rattle.ds_core.specs.declared.event.Transcript.{Transcript}
+use Rattle.ds_core.specs.declared.opened.Open.{Open}
+use Rattle.ds_core.specs.Machines.{MachineParts}
+
+-- what there is at one moment: the commits, how many entries of each shard are applied, the id counter, and each client's open request
+pub record Moment : Type 0 where
+  pub journal : List Commit
+  pub counts : List ℕ
+  pub next : ℕ
+  pub asked : List (Option Request)
+
+-- a reply with its request
+pub record Said : Type 0 where
+  pub request : Request
+  pub reply : Reply
+
+-- one step of a client, the request that it was to open before it, what there was before both and after, and what was said
+pub record Happening : Type 0 where
+  pub step : Step
+  pub client : ℕ
+  pub begins : Option Request
+  pub before : Moment
+  pub after : Moment
+  pub said : Option Said
+
+-- the client's open request, else the one that the event begins
+abbrev pub opening : Option Request → Option Request → Option Request
+opening None begins = begins
+opening (Some r) begins = Some r
+
+abbrev pub asked_by : List (Option Request) → ℕ → Option Request
+asked_by asked client = unwrap_or (slice_get asked client) None
+
+-- the client's request stays open, or it is replied to and closed; those of other clients stay as they are
+abbrev pub Speaks : Option Said → Option Request → List (Option Request) → ℕ → List (Option Request) → Type 0
+Speaks None request before client after = after ≡ slice_set before client request
+Speaks (Some said) request before client after = (request ≡ Some said.request) × (after ≡ slice_set before client None)
+
+abbrev pub Happens : Happening → Type 0
+Happens h = Speaks h.said (opening (asked_by h.before.asked h.client) h.begins) h.before.asked h.client h.after.asked
+
+-- one after another, from one moment to another
+abbrev pub Follow : Moment → List Happening → Moment → Type 0
+Follow moment [] last = last ≡ moment
+Follow moment (h ∷ hs) last = (h.before ≡ moment) × Happens h × Follow h.after hs last
+
+abbrev pub event_of : Happening → Event
+event_of h = record { step = h.step; client = h.client; begins = h.begins }
+
+abbrev pub said_requests : Option Said → List Request
+said_requests None = []
+said_requests (Some said) = said.request ∷ []
+
+abbrev pub said_replies : Option Said → List Reply
+said_replies None = []
+said_replies (Some said) = said.reply ∷ []
+
+abbrev pub requests_in : List Happening → List Request
+requests_in = flat_map (λ h. said_requests h.said)
+
+abbrev pub replies_in : List Happening → List Reply
+replies_in = flat_map (λ h. said_replies h.said)
+
+-- no client has a request open
+abbrev pub none_asked : List (Option Request)
+none_asked = replicate (greatest_client + 1) None
+
+-- nothing is committed or applied, no id is drawn, and nothing asked
+abbrev pub first_moment : ℕ → Moment
+first_moment shards = record { journal = []; counts = replicate shards 0; next = first_id; asked = none_asked }
+
+-- The events' steps happen in their order and then others, which open no request, from nothing at all to the transcript's journal and no
+-- request open; and what was said, in this order, are the transcript's replies to its requests. So each request that was opened is
+-- replied to once, and no other is.
+pub record HasHappened (events : List Event) (shards : ℕ) (t : Transcript) : Type 0 where
+  pub happenings : List Happening
+  pub missing : List Event
+  pub last : Moment
+  pub taken : map event_of happenings ≡ events ++ missing
+  pub unasked : All (λ e. e.begins ≡ None) missing
+  pub follow : Follow (first_moment shards) happenings last
+  pub journal : last.journal ≡ t.journal
+  pub closed : last.asked ≡ none_asked
+  pub requests : t.requests ≡ requests_in happenings
+  pub replies : t.replies ≡ replies_in happenings
+
+-- ---- the steps of a machine
+
+-- what is asked by open requests
+abbrev pub asked_of : List (Option Open) → List (Option Request)
+asked_of = map (option_map (λ o. o.request))
+
+-- what there is in a machine
+abbrev pub moment_of : MachineParts → Moment
+moment_of m = record {
+  journal = m.state.store.journal;
+  counts = m.state.applied.counts;
+  next = m.state.store.next;
+  asked = asked_of m.opens;
+}
+
+-- a client's turn, in which it may open a request, and at most one reply is given
+pub record Turn (old new : MachineParts) (client : ℕ) (begins : Option Request) : Type 0 where
+  pub said : Option Said
+  pub speaks : Speaks said (opening (asked_by (asked_of old.opens) client) begins) (asked_of old.opens) client (asked_of new.opens)
+  pub requests : new.requests ≡ old.requests ++ said_requests said
+  pub replies : new.replies ≡ old.replies ++ said_replies said
+
+-- nothing is asked or said
+pub record IsSilent (old new : MachineParts) : Type 0 where
+  pub asked : asked_of new.opens ≡ asked_of old.opens
+  pub requests : new.requests ≡ old.requests
+  pub replies : new.replies ≡ old.replies
+
+-- nothing changes but how far the journal was looked at
+pub record IsStill (old new : MachineParts) : Type 0 where
+  pub rest : new ≡ record old { state = new.state }
+  pub store : new.state.store ≡ old.state.store
+  pub counts : new.state.applied.counts ≡ old.state.applied.counts
+
+-- how it came to what there is and to what was said so far
+pub record IsPast (shards : ℕ) (m : MachineParts) (hs : List Happening) : Type 0 where
+  pub follow : Follow (first_moment shards) hs (moment_of m)
+  pub requests : m.requests ≡ requests_in hs
+  pub replies : m.replies ≡ replies_in hs
+
+-- steps were taken that opened no request
+pub record GoesOn (old new : MachineParts) : Type 0 where
+  pub more : List Happening
+  pub unasked : All (λ h. h.begins ≡ None) more
+  pub past : (shards : ℕ) (hs : List Happening) → IsPast shards old hs → IsPast shards new (hs ++ more)

@@ -1,0 +1,101 @@
+-- What a machine of events keeps, and that what it has said so far is one legal round.
+use Rattle.std.specs.Prelude.{◌≡◌, ℕ, zero, suc, ◌+◌, ◌-◌, ◌≤◌, ◌<◌, List, [], ◌∷◌, ◌++◌, Option, Some, None, Ok, length, All, IsTrue, ⊤}
+use Rattle.std.specs.Prelude.{flat_map, get_or, replicate, slice_set, IfSome, IsPermutation}
+use Rattle.std.specs.List.{range_with_len}
+use Rattle.ds_base.specs.Limits.{greatest_client}
+use Rattle.ds_log.specs.declared.Commit.{Commit}
+use Rattle.ds_request.specs.declared.call.Request.{Request}
+use Rattle.ds_request.specs.Lawful.{IsLawfulCall}
+use Rattle.ds_reply.specs.declared.reply.Body.{Body}
+use Rattle.ds_reply.specs.declared.reply.Reply.{Reply}
+use Rattle.ds_model.specs.Asked.{has_shard}
+use Rattle.ds_model.specs.Legal.{acknowledged, accepted, printed_next}
+use Rattle.ds_model.specs.Sessions.{Session, first_id, first_sessions}
+use Rattle.ds_plans.specs.declared.effect.Effect.{Effect}
+use Rattle.ds_plans.specs.Due.{IsDuePlan, IsGathered, ids_of}
+use Rattle.ds_plans.specs.Effects.{store_after, session_after}
+use Rattle.ds_plans.specs.States.{StateParts, IsSession, world}
+use Rattle.ds_core.specs.declared.event.Event.{Event}
+use Rattle.ds_core.specs.declared.opened.Open.{Open}
+use Rattle.ds_core.specs.Rounds.{AreAnswered, AreNumbered, drawn_ids}
+
+-- the store with what its shards have applied, what each client has seen, its open request, and what was asked and said so far
+pub record MachineParts : Type 0 where
+  pub state : StateParts
+  pub sessions : List Session
+  pub opens : List (Option Open)
+  pub requests : List Request
+  pub replies : List Reply
+
+-- the ids that were drawn for an open request
+abbrev pub held_by : Option Open → List ℕ
+held_by None = []
+held_by (Some o) = ids_of o.request.call o.gathered
+
+abbrev pub held : List (Option Open) → List ℕ
+held = flat_map held_by
+
+-- a client's open request is lawful and its own, and what it has gathered is there
+abbrev pub IsOpen : StateParts → ℕ → Session → Option Open → Type 0
+IsOpen st client s None = ⊤
+IsOpen st client s (Some o) =
+    (o.request.client ≡ client) × IsLawfulCall o.request.call × IsTrue (has_shard st.store.shards o.request.call)
+    × IsGathered st s o.request.call o.gathered
+
+-- client by client, from one on
+abbrev pub AreOpen : StateParts → ℕ → List Session → List (Option Open) → Type 0
+AreOpen st client [] [] = ⊤
+AreOpen st client (s ∷ sessions) (o ∷ opens) = IsSession st s × IsOpen st client s o × AreOpen st (client + 1) sessions opens
+AreOpen st client _ _ = ⊥
+
+-- what was said so far is answers, over every journal that begins with the one now
+pub record IsLegal (m : MachineParts) : Type 0 where
+  pub clients : length m.sessions ≡ greatest_client + 1
+  pub opens : AreOpen m.state 0 m.sessions m.opens
+  pub answered : (window : Option ℕ) (more : List Commit)
+      → AreAnswered (world (record (m.state.store) { journal = m.state.store.journal ++ more }) window)
+      (first_sessions m.state.store.shards) m.requests m.replies m.sessions
+  pub numbered : AreNumbered 1 m.requests m.replies
+  pub acknowledges : flat_map acknowledged m.replies ≡ range_with_len 1 (length m.state.store.journal)
+  pub from_first : first_id ≤ m.state.store.next
+  pub draws : IsPermutation (drawn_ids m.requests m.replies ++ held m.opens) (range_with_len first_id (m.state.store.next - first_id))
+  pub accepts : All (λ id. id < m.state.store.next) (flat_map accepted m.replies)
+  pub prints : All (λ next. next ≤ m.state.store.next) (flat_map printed_next m.replies)
+
+-- a request that has gathered nothing
+abbrev pub just_opened : Request → ℕ → Open
+just_opened r shards = record { request = r; gathered = record { place = None; first = None; applied = None; views = replicate shards None } }
+
+-- this is said to the open request and changed by it, or there was no memory
+abbrev pub IsDueTo : StateParts → Session → ℕ → Option Open → Body → Effect → Type 0
+IsDueTo st s client None said change = ⊥
+IsDueTo st s client (Some o) said change = IsDuePlan st s client o.request.call (ids_of o.request.call o.gathered) said change
+
+-- the index definitions and the number of shards stay
+abbrev pub IsSameRun : MachineParts → MachineParts → Type 0
+IsSameRun old new =
+    (new.state.store.definitions ≡ old.state.store.definitions) × (new.state.store.shards ≡ old.state.store.shards)
+
+-- a request of this client that can be opened
+abbrev pub IsLawfulRequest : ℕ → ℕ → Request → Type 0
+IsLawfulRequest shards client r = (r.client ≡ client) × IsLawfulCall r.call × IsTrue (has_shard shards r.call)
+
+-- an event of one of the clients, whose request, if it begins one, is its client's
+abbrev pub IsLawfulEvent : ℕ → Event → Type 0
+IsLawfulEvent shards e = (e.client ≤ greatest_client) × IfSome e.begins (IsLawfulRequest shards e.client)
+
+-- ---- what a reply changes
+
+-- it takes effect on the store and on what its client has seen
+abbrev pub performed : Effect → ℕ → Session → MachineParts → MachineParts
+performed change client d m = record m {
+  state = record (m.state) { store = store_after change m.state.store };
+  sessions = slice_set m.sessions client (session_after change m.state.store (get_or m.sessions client d));
+}
+
+-- its request and it stand behind the others
+abbrev pub noted : ℕ → Request → Body → MachineParts → MachineParts
+noted client r said m = record m {
+  requests = m.requests ++ r ∷ [];
+  replies = m.replies ++ record { client = client; line = length m.replies + 1; body = said } ∷ [];
+}

@@ -1,0 +1,171 @@
+//! The missing steps of the requests that are open after the last event.
+ghost use Rattle.std.specs.Prelude.{◌≡◌, ◌≤◌, ◌<◌, None, length, All, IfOk, IfSome, OnOk, IsTrue};
+ghost use Rattle.ds_base.specs.Limits.{greatest_client};
+ghost use Rattle.ds_request.specs.Lawful.{IsLawfulCall};
+ghost use Rattle.ds_core.specs.Happenings.{GoesOn, IsStill};
+ghost use Rattle.ds_core.specs.Machines.{IsLegal, IsSameRun};
+
+use crate::copying::copy_call;
+use crate::machine::Machine;
+use crate::opened::{Open, ids_asked};
+use ds_base::limits::MAX_CLIENT;
+use ds_base::{Key, NoMemory, TryCopy};
+use ds_log::shard_of;
+use ds_plans::{Session, Step};
+use ds_protocol::{group_of, search_of};
+use ds_request::Call;
+use std::alloc::{AllocError, Global};
+
+impl Machine {
+    /// Takes the missing steps, client by client.
+    pub(crate) fn finish(&mut self, alloc: Global) -> Result<(), NoMemory>
+        requires legal { IsLegal self.old }
+        ensures legal { OnOk result (IsLegal self.new) }
+        ensures same { OnOk result (IsSameRun self.old self.new) }
+        ensures closed { OnOk result (All (λ o. o ≡ None) self.new.opens) }
+        ensures goes { OnOk result (GoesOn self.old self.new) }
+    {
+        for client in 0..MAX_CLIENT + 1 {
+            self.finish_client(alloc, client)?;
+        }
+        // nothing is missing then
+        if !all_closed(self.opens.as_slice()) {
+            return Err(AllocError);
+        }
+        Ok(())
+    }
+
+    /// Takes the missing steps of one client.
+    fn finish_client(&mut self, alloc: Global, client: u32) -> Result<(), NoMemory>
+        requires legal { IsLegal self.old }
+        requires client { client ≤ greatest_client }
+        ensures legal { OnOk result (IsLegal self.new) }
+        ensures same { OnOk result (IsSameRun self.old self.new) }
+        ensures goes { OnOk result (GoesOn self.old self.new) }
+    {
+        self.take_missing(alloc, client, Step::Touch)?;
+        let ids = ids_missing(&self.opens[client as usize]);
+        if ids >= 1 {
+            self.take(alloc, client, Step::Issue { count: ids })?;
+        }
+        for shard in 0..self.state.shards() {
+            self.view_missing(alloc, client, shard)?;
+        }
+        self.take_missing(alloc, client, Step::Commit)
+    }
+
+    fn take_missing(&mut self, alloc: Global, client: u32, step: Step) -> Result<(), NoMemory>
+        requires legal { IsLegal self.old }
+        requires client { client ≤ greatest_client }
+        ensures legal { OnOk result (IsLegal self.new) }
+        ensures same { OnOk result (IsSameRun self.old self.new) }
+        ensures goes { OnOk result (GoesOn self.old self.new) }
+    {
+        if self.has_open(client) {
+            self.take(alloc, client, step)?;
+        }
+        Ok(())
+    }
+
+    /// The View of a shard, and before it the Apply steps that it waits for.
+    fn view_missing(&mut self, alloc: Global, client: u32, shard: u32) -> Result<(), NoMemory>
+        requires legal { IsLegal self.old }
+        requires client { client ≤ greatest_client }
+        ensures legal { OnOk result (IsLegal self.new) }
+        ensures same { OnOk result (IsSameRun self.old self.new) }
+        ensures goes { OnOk result (GoesOn self.old self.new) }
+    {
+        let pending = self.pending(alloc, client, shard)?;
+        for _entry in 0..pending {
+            self.take_missing(alloc, client, Step::Apply { shard })?;
+        }
+        self.take_missing(alloc, client, Step::View { shard })
+    }
+
+    /// How many entries a shard has to apply before the client's open request can view it. A refusal is want of memory.
+    fn pending(&mut self, alloc: Global, client: u32, shard: u32) -> Result<u64, NoMemory>
+        requires legal { IsLegal self.old }
+        requires client { client ≤ greatest_client }
+        ensures legal { OnOk result (IsLegal self.new) }
+        ensures same { OnOk result (IsSameRun self.old self.new) }
+        ensures still { OnOk result (IsStill self.old self.new) }
+    {
+        let session = &self.sessions[client as usize];
+        match place_covered(
+            alloc,
+            session,
+            &self.opens[client as usize],
+            shard,
+            self.state.shards(),
+        )? {
+            Some(place) => self.state.entries_left(alloc, shard, place),
+            None => Ok(0),
+        }
+    }
+}
+
+/// Whether no client has a request open.
+fn all_closed(opens: &[Option<Open>]) -> bool
+    ensures { IsTrue result → All (λ o. o ≡ None) opens.now }
+{
+    for open in opens {
+        if open.is_some() {
+            return false;
+        }
+    }
+    true
+}
+
+/// How many ids the open request, if there is one, still waits for.
+fn ids_missing(open: &Option<Open>) -> u64 {
+    match open {
+        Some(open) if open.gathered.first().is_none() => ids_asked(&open.request.call),
+        _ => 0,
+    }
+}
+
+/// The place that a View of the shard has to cover for the open request; `None` where it waits for no such View. A refusal is want of
+/// memory.
+fn place_covered(
+    alloc: Global,
+    session: &Session,
+    open: &Option<Open>,
+    shard: u32,
+    shards: u32,
+) -> Result<Option<u64>, NoMemory>
+    requires { IfSome open.now (λ o. IsLawfulCall o.request.call) }
+{
+    let Some(open) = open else {
+        return Ok(None);
+    };
+    match &open.request.call {
+        Call::Settle => Ok(open.gathered.place()),
+        Call::Apply { shard: of } if *of == shard as u64 => Ok(open.gathered.place()),
+        call => match group_read(alloc, call)? {
+            Some(group) if shard_of(alloc, &group, shards)? == shard => Ok(place_read(
+                session, open, &group,
+            )),
+            _ => Ok(None),
+        },
+    }
+}
+
+fn place_read(session: &Session, open: &Open, group: &Key) -> Option<u64> {
+    match session.touch_place(group) {
+        Some(place) => Some(place),
+        None => open.gathered.place(),
+    }
+}
+
+/// The group that a strong read reads. A refusal is want of memory.
+fn group_read(alloc: Global, call: &Call) -> Result<Option<Key>, NoMemory>
+    requires { IsLawfulCall call.now }
+{
+    match call {
+        Call::Get { key } => Ok(Some(key.root(alloc)?)),
+        _ => match search_of(alloc, copy_call(alloc, call)?) {
+            Some(Ok(search)) => group_of(alloc, &search),
+            _ => Ok(None),
+        },
+    }
+}

@@ -1,0 +1,220 @@
+//! The machine of events: one store, and for each client what it has seen and its open request.
+ghost use Rattle.std.specs.Prelude.{◌≡◌, ◌≢◌, ◌≤◌, ◌<◌, [], false, None, Some, Option, get_or, is_some, length, slice_set, IfOk, OnOk, IsTrue};
+ghost use Rattle.ds_base.specs.Limits.{greatest_client, most_shards};
+ghost use Rattle.ds_model.specs.Sessions.{Session};
+ghost use Rattle.ds_plans.specs.Effects.{IsAllowed};
+ghost use Rattle.ds_core.specs.declared.opened.Open.{Open};
+ghost use Rattle.ds_core.specs.Happenings.{IsPast, Turn};
+ghost use Rattle.ds_core.specs.Machines.{IsDueTo, IsLawfulEvent, IsLawfulRequest, IsLegal, IsSameRun, noted, performed};
+
+use crate::event::{Event, Replies, Requests, Transcript};
+use crate::meeting::first_sessions;
+use crate::opened::{Open, none_open, open_request, plan_open, take_open};
+use ds_base::NoMemory;
+use ds_indexdef::Defs;
+use ds_plans::effect::Effect;
+use ds_plans::{Plan, Session, State, Step};
+use ds_reply::{Body, Reply};
+use ds_request::Request;
+use std::alloc::{AllocError, Global};
+use std::marker::Model;
+
+/// One store, sixteen clients with their open requests, and what was asked and said so far.
+#[derive(Drop)]
+pub(crate) struct Machine {
+    pub(crate) state: State,
+    pub(crate) sessions: Vec<Session>,
+    pub(crate) opens: Vec<Option<Open>>,
+    requests: Requests,
+    replies: Replies,
+}
+
+impl Model for Machine {
+    ghost use Rattle.ds_core.specs.Happenings.{IsPast, Turn};
+    ghost use Rattle.ds_core.specs.Machines.{MachineParts};
+
+    ghost Value = { MachineParts };
+
+    ghost view = { λ m. record {
+      state = m.state;
+      sessions = m.sessions.items;
+      opens = m.opens.items;
+      requests = m.requests;
+      replies = m.replies;
+    } };
+}
+
+impl Machine {
+    /// Nothing committed, nothing seen, nothing asked. A refusal is want of memory.
+    pub(crate) fn make(alloc: Global, shards: u32, defs: Defs) -> Result<Machine, NoMemory>
+        requires least { 1 ≤ shards }
+        requires most { shards ≤ most_shards }
+        ensures legal { IfOk result IsLegal }
+        ensures definitions { IfOk result (λ m. m.state.store.definitions ≡ defs) }
+        ensures shards { IfOk result (λ m. m.state.store.shards ≡ shards) }
+        ensures past { IfOk result (λ m. IsPast shards m []) }
+    {
+        let state = State::make(alloc, shards, defs)?;
+        let sessions = first_sessions(alloc, shards)?;
+        let opens = none_open(alloc)?;
+        Ok(Machine {
+            state,
+            sessions,
+            opens,
+            requests: Requests::new(alloc),
+            replies: Replies::new(alloc),
+        })
+    }
+
+    /// Opens the event's request, if its client has none open, and takes its step.
+    pub(crate) fn event(&mut self, alloc: Global, event: Event) -> Result<(), NoMemory>
+        requires legal { IsLegal self.old }
+        requires lawful { IsLawfulEvent self.old.state.store.shards event }
+        ensures legal { OnOk result (IsLegal self.new) }
+        ensures same { OnOk result (IsSameRun self.old self.new) }
+        ensures turn { OnOk result (Turn self.old self.new event.client event.begins) }
+    {
+        let Event {
+            step,
+            client,
+            begins,
+        } = event;
+        if let Some(request) = begins {
+            self.begin(alloc, client, request)?;
+        }
+        self.take(alloc, client, step)
+    }
+
+    /// Opens a request, if its client has none open, and replies where it needs no step.
+    fn begin(&mut self, alloc: Global, client: u32, request: Request) -> Result<(), NoMemory>
+        requires legal { IsLegal self.old }
+        requires client { client ≤ greatest_client }
+        requires lawful { IsLawfulRequest self.old.state.store.shards client request }
+        ensures legal { OnOk result (IsLegal self.new) }
+        ensures same { OnOk result (IsSameRun self.old self.new) }
+        ensures turn { OnOk result (Turn self.old self.new client (Some request)) }
+    {
+        if self.has_open(client) {
+            return Ok(());
+        }
+        let shards = self.state.shards();
+        open_request(alloc, &mut self.opens[client as usize], request, shards)?;
+        self.advance(alloc, client, Step::Touch)
+    }
+
+    /// Takes a step of a client, and replies where nothing is missing then.
+    pub(crate) fn take(&mut self, alloc: Global, client: u32, step: Step) -> Result<(), NoMemory>
+        requires legal { IsLegal self.old }
+        requires client { client ≤ greatest_client }
+        ensures legal { OnOk result (IsLegal self.new) }
+        ensures same { OnOk result (IsSameRun self.old self.new) }
+        ensures turn { OnOk result (Turn self.old self.new client None) }
+    {
+        self.gather(alloc, client, step)?;
+        self.advance(alloc, client, step)
+    }
+
+    /// Whether the client has a request open.
+    pub(crate) fn has_open(&self, client: u32) -> bool
+        requires client { client < length self.now.opens }
+        ensures { (e : Option Open) → result ≡ is_some (get_or self.now.opens client e) }
+    {
+        self.opens[client as usize].is_some()
+    }
+
+    /// Replies to the client's open request, where nothing is missing.
+    fn advance(&mut self, alloc: Global, client: u32, step: Step) -> Result<(), NoMemory>
+        requires legal { IsLegal self.old }
+        requires client { client ≤ greatest_client }
+        ensures legal { OnOk result (IsLegal self.new) }
+        ensures same { OnOk result (IsSameRun self.old self.new) }
+        ensures turn { OnOk result (Turn self.old self.new client None) }
+    {
+        let session = &self.sessions[client as usize];
+        let open = &self.opens[client as usize];
+        match plan_open(alloc, &mut self.state, session, client, open, step)? {
+            Some(plan) => self.say(alloc, client, plan),
+            None => Ok(()),
+        }
+    }
+
+    /// Says what is planned, and makes it so.
+    fn say(&mut self, alloc: Global, client: u32, plan: Plan) -> Result<(), NoMemory>
+        requires legal { IsLegal self.old }
+        requires client { client ≤ greatest_client }
+        requires due { (d : Session) (e : Option Open) → IsDueTo self.old.state (get_or self.old.sessions client d) client
+            (get_or self.old.opens client e) plan.body plan.effect }
+        ensures legal { OnOk result (IsLegal self.new) }
+        ensures same { OnOk result (IsSameRun self.old self.new) }
+        ensures turn { OnOk result (Turn self.old self.new client None) }
+    {
+        let Plan { body, effect } = plan;
+        if is_no_memory(&body) {
+            return Err(AllocError);
+        }
+        self.perform(alloc, client, effect)?;
+        match self.close(client) {
+            Some(open) => self.note(client, open.request, body),
+            None => Ok(()),
+        }
+    }
+
+    /// Closes the client's open request, if there is one.
+    fn close(&mut self, client: u32) -> Option<Open>
+        requires { client < length self.old.opens }
+        ensures was { (d : Option Open) → result ≡ get_or self.old.opens client d }
+        ensures closed { self.new ≡ record self.old { opens = slice_set self.old.opens client None } }
+    {
+        take_open(&mut self.opens[client as usize])
+    }
+
+    /// Takes effect. A refusal is want of memory.
+    fn perform(&mut self, alloc: Global, client: u32, effect: Effect) -> Result<(), NoMemory>
+        requires client { client < length self.old.sessions }
+        requires allowed { (d : Session) → IsAllowed effect self.old.state (get_or self.old.sessions client d) }
+        ensures { OnOk result ((d : Session) → self.new ≡ performed effect client d self.old) }
+    {
+        let session = &mut self.sessions[client as usize];
+        self.state.take(alloc, session, effect)
+    }
+
+    /// Puts a request and its reply behind the others.
+    fn note(&mut self, client: u32, request: Request, body: Body) -> Result<(), NoMemory>
+        ensures { OnOk result (self.new ≡ noted client request body self.old) }
+    {
+        let line = self.replies.len() as u64 + 1;
+        let reply = Reply { client, line, body };
+        if self.requests.push(request).is_err() || self.replies.push(reply).is_err() {
+            return Err(AllocError);
+        }
+        Ok(())
+    }
+
+    /// What was asked, said and committed.
+    pub(crate) fn end(self) -> Transcript
+        ensures requests { result.requests ≡ self.requests }
+        ensures replies { result.replies ≡ self.replies }
+        ensures journal { result.journal ≡ self.state.store.journal }
+    {
+        let Machine {
+            state,
+            requests,
+            replies,
+            ..
+        } = self;
+        Transcript {
+            requests,
+            replies,
+            journal: state.end(),
+        }
+    }
+}
+
+fn is_no_memory(body: &Body) -> bool
+    ensures { result ≡ false → body.now ≢ Body.NoMemory }
+{
+    match body {
+        Body::NoMemory => true,
+        _ => false,
+    }
+}

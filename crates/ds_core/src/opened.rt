@@ -1,0 +1,107 @@
+//! The open request of a client, and the plan of its reply.
+ghost use Rattle.std.specs.Prelude.{◌≡◌, ◌+◌, None, Some, replicate, IfOk, IfSome, OnOk};
+ghost use Rattle.ds_base.specs.Limits.{greatest_client};
+ghost use Rattle.ds_plans.specs.Due.{ids_asked};
+ghost use Rattle.ds_plans.specs.States.{IsSession};
+ghost use Rattle.ds_core.specs.Machines.{IsDueTo, IsOpen, just_opened};
+
+use crate::copying::copy_call;
+use ds_base::NoMemory;
+use ds_base::limits::MAX_CLIENT;
+use ds_plans::{Gathered, Plan, Session, State, Step};
+use ds_request::{Call, Request};
+use std::alloc::Global;
+
+/// A request that waits for steps of its client, and what it has gathered.
+#[derive(Drop)]
+pub(crate) struct Open {
+    pub(crate) request: Request,
+    pub(crate) gathered: Gathered,
+}
+
+/// No client has a request open. A refusal is want of memory.
+pub(crate) fn none_open(alloc: Global) -> Result<Vec<Option<Open>>, NoMemory>
+    ensures { IfOk result (λ opens. opens.items ≡ replicate (greatest_client + 1) None) }
+{
+    let mut opens = Vec::new(alloc);
+    for _client in 0..MAX_CLIENT + 1 {
+        opens.push(None)?;
+    }
+    Ok(opens)
+}
+
+/// Opens a request that has gathered nothing. A refusal is want of memory.
+pub(crate) fn open_request(
+    alloc: Global,
+    open: &mut Option<Open>,
+    request: Request,
+    shards: u32,
+) -> Result<(), NoMemory>
+    ensures { OnOk result (open.new ≡ Some (just_opened request shards)) }
+{
+    let gathered = Gathered::nothing(alloc, shards)?;
+    *open = Some(Open { request, gathered });
+    Ok(())
+}
+
+/// Closes the open request, if there is one.
+pub(crate) fn take_open(open: &mut Option<Open>) -> Option<Open>
+    ensures was { result ≡ open.old }
+    ensures closed { open.new ≡ None }
+{
+    open.take()
+}
+
+/// The plan of the reply to the open request, if there is one and nothing is missing. `Err` is want of memory.
+pub(crate) fn plan_open(
+    alloc: Global,
+    state: &mut State,
+    session: &Session,
+    client: u32,
+    open: &Option<Open>,
+    step: Step,
+) -> Result<Option<Plan>, NoMemory>
+    requires seen { IsSession state.old session.now }
+    requires lawful { IsOpen state.old client session.now open.now }
+    ensures plan { IfOk result (λ r. IfSome r (λ p. IsDueTo state.new session.now client open.now p.body p.effect)) }
+    ensures store { state.new.store ≡ state.old.store }
+    ensures counts { state.new.applied.counts ≡ state.old.applied.counts }
+{
+    match open {
+        Some(open) => plan_of(alloc, state, session, client, open, step),
+        None => Ok(None),
+    }
+}
+
+fn plan_of(
+    alloc: Global,
+    state: &mut State,
+    session: &Session,
+    client: u32,
+    open: &Open,
+    step: Step,
+) -> Result<Option<Plan>, NoMemory>
+    requires seen { IsSession state.old session.now }
+    requires lawful { IsOpen state.old client session.now (Some open.now) }
+    ensures plan { IfOk result (λ r. IfSome r (λ p. IsDueTo state.new session.now client (Some open.now) p.body p.effect)) }
+    ensures store { state.new.store ≡ state.old.store }
+    ensures counts { state.new.applied.counts ≡ state.old.applied.counts }
+{
+    let call = copy_call(alloc, &open.request.call)?;
+    Ok(state.plan_due(alloc, session, client, call, &open.gathered, step))
+}
+
+/// How many ids the request draws.
+pub(crate) fn ids_asked(call: &Call) -> u64
+    ensures { result ≡ ids_asked call.now }
+{
+    match call {
+        Call::Put {
+            key: _,
+            incomplete,
+            properties: _,
+        } if *incomplete => 1,
+        Call::AllocateIds { count } => *count,
+        _ => 0,
+    }
+}
