@@ -5,3 +5,5 @@ pub mod Machines
 pub mod Meetings
 pub mod Rounds
 pub mod Steps
+pub mod Timelines
+pub mod Witnesses
