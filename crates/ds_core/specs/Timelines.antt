@@ -12,7 +12,7 @@ use Rattle.ds_model.specs.Legal.{drawn_by_call}
 use Rattle.ds_model.specs.Sessions.{count_of, raised_at}
 use Rattle.ds_plans.specs.Due.{ids_asked}
 use Rattle.ds_plans.specs.declared.gathered.Step.{Step}
-use Rattle.ds_plans.specs.declared.gathered.Step.TheVariants as step
+use Rattle.ds_plans.specs.declared.gathered.Step.TheVariants as steps
 use Rattle.ds_core.specs.Happenings.{Happening, Moment, Said}
 
 -- ---- what a step changes
@@ -43,11 +43,11 @@ pub record Looks (m n : Moment) : Type 0 where
   pub next : n.next ≡ m.next
 
 abbrev pub Moves : ℕ → Step → Moment → Moment → Type 0
-Moves shards step.Commit m n = MayCommit m n
-Moves shards (step.Apply shard) m n = Applies shards shard m n
-Moves shards (step.View shard) m n = Looks m n
-Moves shards step.Touch m n = Looks m n
-Moves shards (step.Issue count) m n = MayDraw count m n
+Moves shards steps.Commit m n = MayCommit m n
+Moves shards (steps.Apply shard) m n = Applies shards shard m n
+Moves shards (steps.View shard) m n = Looks m n
+Moves shards steps.Touch m n = Looks m n
+Moves shards (steps.Issue count) m n = MayDraw count m n
 
 -- each step changes what such a step may
 abbrev pub AreMoves : ℕ → List Happening → Type 0
@@ -63,32 +63,32 @@ Occurs P (h ∷ hs) = P h ⊎ Occurs P hs
 
 -- at a Touch of the client the journal had this length
 abbrev pub IsTouch : ℕ → ℕ → Happening → Type 0
-IsTouch client place h = (h.client ≡ client) × (h.step ≡ step.Touch) × (length h.before.journal ≡ place)
+IsTouch client place h = (h.client ≡ client) × (h.step ≡ steps.Touch) × (length h.before.journal ≡ place)
 
 -- a Commit of the client added the commit of this number
 abbrev pub IsCommit : ℕ → ℕ → Happening → Type 0
 IsCommit client n h =
-    (h.client ≡ client) × (h.step ≡ step.Commit) × (length h.before.journal + 1 ≡ n) × (length h.after.journal ≡ n)
+    (h.client ≡ client) × (h.step ≡ steps.Commit) × (length h.before.journal + 1 ≡ n) × (length h.after.journal ≡ n)
 
 -- at a Commit of the client, which added none, the journal had this length
 abbrev pub IsCheck : ℕ → ℕ → Happening → Type 0
 IsCheck client place h =
-    (h.client ≡ client) × (h.step ≡ step.Commit) × (length h.before.journal ≡ place) × (length h.after.journal ≡ place)
+    (h.client ≡ client) × (h.step ≡ steps.Commit) × (length h.before.journal ≡ place) × (length h.after.journal ≡ place)
 
 -- at a View by the client, which changes nothing, the shard had applied so many entries
 abbrev pub IsView : ℕ → ℕ → ℕ → Happening → Type 0
-IsView client shard count h = (h.client ≡ client) × (h.step ≡ step.View shard) × (count_of h.after.counts shard ≡ count)
+IsView client shard count h = (h.client ≡ client) × (h.step ≡ steps.View shard) × (count_of h.after.counts shard ≡ count)
 
 -- an Apply by the client raised the shard's count to this one
 abbrev pub IsApply : ℕ → ℕ → ℕ → Happening → Type 0
 IsApply client shard count h =
-    (h.client ≡ client) × (h.step ≡ step.Apply shard) × (count_of h.before.counts shard < count)
+    (h.client ≡ client) × (h.step ≡ steps.Apply shard) × (count_of h.before.counts shard < count)
     × (count_of h.after.counts shard ≡ count)
 
 -- an Issue of the client drew so many ids from this one on
 abbrev pub IsIssue : ℕ → ℕ → ℕ → Happening → Type 0
 IsIssue client count first h =
-    (h.client ≡ client) × (h.step ≡ step.Issue count) × (h.before.next ≡ first) × (h.after.next ≡ first + count)
+    (h.client ≡ client) × (h.step ≡ steps.Issue count) × (h.before.next ≡ first) × (h.after.next ≡ first + count)
 
 -- each shard's count is that at a View by the client
 abbrev pub AreViews : List Happening → ℕ → List ℕ → Type 0
@@ -108,11 +108,11 @@ IsAppliedThen hs client false shard count = Occurs (IsView client shard count) h
 
 -- the numbers that a reply prints are those of steps of its client
 abbrev pub IsPrintedThen : List Happening → ℕ → Body → Type 0
-IsPrintedThen hs client (body.Put key at) = IsWrittenThen hs client at
-IsPrintedThen hs client (body.Delete key at) = IsWrittenThen hs client at
+IsPrintedThen hs client (body.Put key written) = IsWrittenThen hs client written
+IsPrintedThen hs client (body.Delete key written) = IsWrittenThen hs client written
 IsPrintedThen hs client (body.Get entity place) = Occurs (IsTouch client place) hs
-IsPrintedThen hs client (body.Query select results seen cursor) = IsSeenThen hs client seen
-IsPrintedThen hs client (body.Gql select results seen cursor) = IsSeenThen hs client seen
+IsPrintedThen hs client (body.Query select results looked cursor) = IsSeenThen hs client looked
+IsPrintedThen hs client (body.Gql select results looked cursor) = IsSeenThen hs client looked
 IsPrintedThen hs client (body.Commit n) = Occurs (IsCommit client n) hs
 IsPrintedThen hs client (body.Conflict commit group place) = Occurs (IsCheck client place) hs
 IsPrintedThen hs client (body.Settle place counts) = Occurs (IsTouch client place) hs × AreViews hs client counts

@@ -1,16 +1,20 @@
 -- What open requests have gathered and what transactions have touched comes from what happened; and what a machine's calls do to that.
-use Rattle.std.specs.Prelude.{◌≡◌, ◌⊎◌, ℕ, ◌+◌, List, [], ◌∷◌, ◌++◌, Option, Some, None, IfSome, length, slice_get, ⊤}
+use Rattle.std.specs.Prelude.{◌≡◌, ◌⊎◌, ℕ, ◌+◌, List, [], ◌∷◌, ◌++◌, Option, Some, None, IfSome, length, slice_get, ⊤, ⊥}
 use Rattle.ds_base.specs.Keys.{KeyParts}
 use Rattle.ds_log.specs.declared.Commit.{Commit}
 use Rattle.ds_request.specs.declared.call.Call.{Call}
 use Rattle.ds_request.specs.declared.call.Call.TheVariants as call
+use Rattle.ds_reply.specs.declared.reply.Body.{Body}
 use Rattle.ds_model.specs.Groups.{place_in}
 use Rattle.ds_model.specs.Sessions.{Session, count_of}
 use Rattle.ds_plans.specs.declared.gathered.Step.{Step}
-use Rattle.ds_plans.specs.declared.gathered.Step.TheVariants as step
+use Rattle.ds_plans.specs.declared.gathered.Step.TheVariants as steps
+use Rattle.ds_plans.specs.declared.effect.Effect.{Effect}
 use Rattle.ds_plans.specs.Due.{GatheredParts, ids_asked}
+use Rattle.ds_plans.specs.States.{StateParts}
+use Rattle.ds_plans.specs.Told.{IsTold}
 use Rattle.ds_core.specs.declared.opened.Open.{Open}
-use Rattle.ds_core.specs.Happenings.{Happening, Said, moment_of, said_requests, said_replies}
+use Rattle.ds_core.specs.Happenings.{Happening, Moment, Said, moment_of, said_requests, said_replies}
 use Rattle.ds_core.specs.Machines.{MachineParts}
 use Rattle.ds_core.specs.Timelines.{Occurs, IsTouch, IsCommit, IsCheck, IsView, IsApply, IsIssue, IsTimely, Moves}
 
@@ -35,19 +39,23 @@ IsTouchedThen hs client s = (group : KeyParts) (place : ℕ) → place_in s.tran
 
 -- of each client
 pub record AreWitnessed (hs : List Happening) (sessions : List Session) (opens : List (Option Open)) : Type 0 where
-  pub opens : (client : ℕ) (o : Open) → slice_get opens client ≡ Some (Some o) → IsGatheredThen hs client o.request.call o.gathered
+  pub gathered : (client : ℕ) (o : Open) → slice_get opens client ≡ Some (Some o) → IsGatheredThen hs client o.request.call o.gathered
   pub touched : (client : ℕ) (s : Session) → slice_get sessions client ≡ Some s → IsTouchedThen hs client s
 
 -- ---- what a machine's calls do
 
--- this happening is the step, with what there was before and is now
-pub record IsStepOf (h : Happening) (s : Step) (client : ℕ) (old new : MachineParts) : Type 0 where
+-- at this moment the store held these commits and id counter, and its shards had applied so many entries
+pub record IsStoreAt (t : Moment) (m : MachineParts) : Type 0 where
+  pub journal : t.journal ≡ m.state.store.journal
+  pub counts : t.counts ≡ m.state.applied.counts
+  pub next : t.next ≡ m.state.store.next
+
+-- this happening is the step of the client, with what there was before and is now
+pub record IsStepOf (h : Happening) (s : Step) (c : ℕ) (old new : MachineParts) : Type 0 where
   pub step : h.step ≡ s
-  pub client : h.client ≡ client
-  pub before : h.before ≡ moment_of old
-  pub journal : h.after.journal ≡ new.state.store.journal
-  pub counts : h.after.counts ≡ new.state.applied.counts
-  pub next : h.after.next ≡ new.state.store.next
+  pub client : h.client ≡ c
+  pub before : IsStoreAt h.before old
+  pub after : IsStoreAt h.after new
 
 -- this is what was said between
 abbrev pub IsSaid : Option Said → MachineParts → MachineParts → Type 0
@@ -59,23 +67,28 @@ pub record GathersAt (shards : ℕ) (s : Step) (client : ℕ) (old new : Machine
   pub journal : new.state.store.journal ≡ old.state.store.journal
   pub moves : Moves shards s (moment_of old) (moment_of new)
   pub sessions : new.sessions ≡ old.sessions
-  pub witnessed : (hs : List Happening) (h : Happening) → h.step ≡ s → h.client ≡ client → h.before ≡ moment_of old
+  pub witnessed : (hs : List Happening) (h : Happening) → h.step ≡ s → h.client ≡ client → IsStoreAt h.before old
       → h.after.counts ≡ new.state.applied.counts → h.after.next ≡ new.state.store.next
       → AreWitnessed hs old.sessions old.opens → AreWitnessed (hs ++ h ∷ []) new.sessions new.opens
 
 -- what the step itself is witness of, where a reply is given at it
 pub record IsOwn (hs : List Happening) (s : Step) (client : ℕ) (old new : MachineParts) : Type 0 where
-  pub commits : s ≡ step.Commit → length new.state.store.journal ≡ length old.state.store.journal + 1
+  pub commits : s ≡ steps.Commit → length new.state.store.journal ≡ length old.state.store.journal + 1
       → Occurs (IsCommit client (length old.state.store.journal + 1)) hs
-  pub checks : s ≡ step.Commit → new.state.store.journal ≡ old.state.store.journal
+  pub checks : s ≡ steps.Commit → new.state.store.journal ≡ old.state.store.journal
       → Occurs (IsCheck client (length old.state.store.journal)) hs
-  pub views : (shard : ℕ) → s ≡ step.View shard → Occurs (IsView client shard (count_of old.state.applied.counts shard)) hs
+  pub views : (shard : ℕ) → s ≡ steps.View shard → Occurs (IsView client shard (count_of old.state.applied.counts shard)) hs
+
+-- this is told to the open request and changed by it, by what it has gathered and the step just taken
+abbrev pub IsToldTo : StateParts → Session → Step → Option Open → Body → Effect → Type 0
+IsToldTo st s step None said change = ⊥
+IsToldTo st s step (Some o) said change = IsTold st s o.gathered step said change
 
 -- What a reply at a step changes: only at a Commit a commit is added. What is gathered and touched then still comes from what happened,
 -- and so do the numbers that it tells.
 pub record RepliesAt (s : Step) (client : ℕ) (old new : MachineParts) : Type 0 where
   pub journal : (new.state.store.journal ≡ old.state.store.journal)
-      ⊎ ((s ≡ step.Commit) × ((c : Commit) × (new.state.store.journal ≡ old.state.store.journal ++ c ∷ [])))
+      ⊎ ((s ≡ steps.Commit) × ((c : Commit) × (new.state.store.journal ≡ old.state.store.journal ++ c ∷ [])))
   pub counts : new.state.applied.counts ≡ old.state.applied.counts
   pub next : new.state.store.next ≡ old.state.store.next
   pub timely : (hs : List Happening) → IsOwn hs s client old new → AreWitnessed hs old.sessions old.opens
