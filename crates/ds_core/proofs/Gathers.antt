@@ -1,6 +1,6 @@
 -- What an open request gathers keeps what was said legal, and says nothing.
 use Rattle.std.proofs.Common.{◌≡◌, ◌⊎◌, inl, inr, ℕ, ◌+◌, ◌<◌, ◌≤◌, List, [], ◌∷◌, ◌++◌, length, refl, ap, sym, ◌∙◌, subst, arith}
-use Rattle.std.proofs.Common.{Option, Some, None, get_or}
+use Rattle.std.proofs.Common.{Option, Some, None, get_or, true, false}
 use Rattle.std.specs.Prelude.{All, IsTrue, slice_set}
 use Rattle.std.specs.List.{range_with_len}
 use Rattle.std.specs.Option.{option_map}
@@ -9,7 +9,7 @@ use Rattle.ds_base.specs.Limits.{first_drawn_id}
 use Rattle.ds_request.specs.declared.call.Call.{Call}
 use Rattle.ds_request.specs.declared.call.Call.TheVariants as call
 use Rattle.ds_model.specs.Asked.{has_shard}
-use Rattle.ds_model.specs.Sessions.{Session, count_of}
+use Rattle.ds_model.specs.Sessions.{Session, count_of, first_session}
 use Rattle.ds_plans.specs.Due.{GatheredParts, IsGathered, AppliedWithin, ids_asked, ids_of, ids_from}
 use Rattle.ds_plans.specs.States.{StoreParts, StateParts, IsSession, Grows, AreUpTo}
 use Rattle.ds_plans.proofs.Gatherings.{gathered-applied, gathered-first, gathered-nothing, gathered-place, gathered-view}
@@ -269,3 +269,10 @@ module _ (m : MachineParts) (legal : IsLegal m) (client : ℕ) (d : Session) (no
       holds =
           drawn_ids_are p.request.call (record (p.gathered) { first = Some m.state.store.next }) m.state.store.next count refl asks
           ∙ ap (λ ids. ids ++ range_with_len m.state.store.next count) (sym (ap held_by was ∙ none_ids p.request.call p.gathered first))
+
+-- nothing changes but how far the journal was looked at
+pub still-step : (m : MachineParts) → IsLegal m → (new : StateParts) → new.store ≡ m.state.store
+    → new.applied.counts ≡ m.state.applied.counts → IsLegal (record m { state = new })
+still-step m legal new store counts =
+    let stepped = raise-step m legal 0 (first_session 0) None (omega (arith, legal.clients)) new store
+    (subst (AreUpTo m.state.applied.counts) (sym counts) (up_to-same m.state.applied.counts)) in stepped.0

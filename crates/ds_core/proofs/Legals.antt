@@ -8,7 +8,7 @@ use Rattle.std.proofs.lemmas.List.{append-nil}
 use Rattle.std.proofs.lemmas.List.Elements.{All-nil, All-append}
 use Rattle.std.proofs.lemmas.List.Sorted.{IsPermutation-append, IsPermutation-append_comm, IsPermutation-append_left, IsPermutation-append_right}
 use Rattle.std.proofs.lemmas.List.Sorted.{IsPermutation-refl, IsPermutation-sym, IsPermutation-trans}
-use Rattle.ds_base.specs.Limits.{first_drawn_id, greatest_client}
+use Rattle.ds_base.specs.Limits.{first_drawn_id, greatest_client, most_shards}
 use Rattle.ds_indexdef.specs.declared.IndexDef.{IndexDef}
 use Rattle.ds_log.specs.declared.Commit.{Commit}
 use Rattle.ds_request.specs.declared.call.Call.{Call}
@@ -23,14 +23,14 @@ use Rattle.ds_model.specs.Legal.{acknowledged, acknowledged_in, accepted, accept
 use Rattle.ds_model.specs.Sessions.{Session, first_id, first_session, first_sessions}
 use Rattle.ds_model.specs.Worlds.{World}
 use Rattle.ds_plans.specs.declared.effect.Effect.{Effect}
-use Rattle.ds_plans.specs.Due.{IsDue, IsDuePlan, IsGathered, ids_of}
-use Rattle.ds_plans.specs.Effects.{IsAllowed, store_after, session_after}
+use Rattle.ds_plans.specs.Due.{IsDue, IsGathered, ids_of}
+use Rattle.ds_plans.specs.Effects.{store_after, session_after}
 use Rattle.ds_plans.specs.States.{StoreParts, StateParts, IsSession, Grows, AreUpTo, world}
 use Rattle.ds_plans.proofs.Gatherings.{due-said, gathered-grown}
 use Rattle.ds_plans.proofs.Grown.{session-grown, grows-after, session-after}
 use Rattle.ds_core.specs.declared.opened.Open.{Open}
 use Rattle.ds_core.specs.declared.event.Transcript.{Transcript}
-use Rattle.ds_core.specs.Machines.{MachineParts, IsDueTo, IsLegal, IsOpen, IsSameRun, AreOpen, held, held_by, noted, performed}
+use Rattle.ds_core.specs.Machines.{MachineParts, IsLegal, IsOpen, IsSameRun, AreOpen, held, held_by}
 use Rattle.ds_core.specs.Rounds.{AreAnswered, AreNumbered, IsLegalRound, drawn_ids}
 use Rattle.ds_core.proofs.Cores.{first-is, had-at, length-set}
 
@@ -176,9 +176,9 @@ none_held (suc n) = none_held n
 pub made-legal : (st : StateParts) (definitions : List IndexDef) (shards : ℕ) (sessions : List Session) (opens : List (Option Open))
     → st.store ≡ record { definitions = definitions; shards = shards; journal = []; next = first_drawn_id }
     → st.applied.counts ≡ replicate shards 0 → sessions ≡ first_sessions shards → opens ≡ replicate (greatest_client + 1) None
-    → (requests : List Request) (replies : List Reply) → requests ≡ [] → replies ≡ []
+    → 1 ≤ shards → shards ≤ most_shards → (requests : List Request) (replies : List Reply) → requests ≡ [] → replies ≡ []
     → IsLegal (record { state = st; sessions = sessions; opens = opens; requests = requests; replies = replies })
-made-legal st definitions shards sessions opens store counts firsts closed requests replies no_request no_reply =
+made-legal st definitions shards sessions opens store counts firsts closed least most requests replies no_request no_reply =
     subst IsLegal (λ i. record {
       state = st;
       sessions = sessions;
@@ -186,7 +186,10 @@ made-legal st definitions shards sessions opens store counts firsts closed reque
       requests = sym no_request i;
       replies = sym no_reply i;
     }) (
-    let next : st.store.next ≡ first_drawn_id = ap (λ (x : StoreParts). x.next) store in record {
+    let next : st.store.next ≡ first_drawn_id = ap (λ (x : StoreParts). x.next) store in
+    let many : st.store.shards ≡ shards = ap (λ (x : StoreParts). x.shards) store in record {
+      least = omega (arith, many, least);
+      most = omega (arith, many, most);
       clients = ap (λ (ss : List Session). length ss) firsts;
       opens = subst (λ ss. AreOpen st 0 ss opens) (sym firsts)
           (subst (λ os. AreOpen st 0 (first_sessions shards) os) (sym closed)
@@ -332,6 +335,8 @@ module _ (m : MachineParts) (legal : IsLegal m) (client : ℕ) (d : Session) (no
 
   pub said-legal : IsLegal machine_said
   said-legal = record {
+    least = omega (arith, due.shards, legal.least);
+    most = omega (arith, due.shards, legal.most);
     clients = length-set m.sessions client t ∙ legal.clients;
     opens = opens-set then 0 m.sessions m.opens client t None
         (opens-grown st then 0 m.sessions m.opens (grows-after e st) due.shards legal.opens)
@@ -356,33 +361,6 @@ module _ (m : MachineParts) (legal : IsLegal m) (client : ℕ) (d : Session) (no
         (all_both (λ next. next ≤ st.store.next) _ _ legal.prints due.prints));
   }
 
-due_told : (st : StateParts) (s : Session) (client : ℕ) (c : Call) (ids : List ℕ) (b : Body) (e : Effect) → b ≢ body.NoMemory
-    → IsDuePlan st s client c ids b e → IsDue st s client c ids b e
-due_told st s client c ids b e told (inl is) = absurd (told is)
-due_told st s client c ids b e told (inr due) = due
-
-pub due_to : (st : StateParts) (s : Session) (client : ℕ) (p : Option Open) (o : Open) (b : Body) (e : Effect) → b ≢ body.NoMemory
-    → p ≡ Some o → IsDueTo st s client p b e → IsDue st s client o.request.call (ids_of o.request.call o.gathered) b e
-due_to st s client p o b e told has due =
-    due_told st s client o.request.call (ids_of o.request.call o.gathered) b e told (subst (λ q. IsDueTo st s client q b e) has due)
-
--- what is due may take effect
-pub due_allowed : (st : StateParts) (s : Session) (client : ℕ) (p : Option Open) (b : Body) (e : Effect) → b ≢ body.NoMemory
-    → IsDueTo st s client p b e → IsAllowed e st s
-due_allowed st s client None b e told due = absurd due
-due_allowed st s client (Some o) b e told due =
-    (due_told st s client o.request.call (ids_of o.request.call o.gathered) b e told due).allowed
-
-pub say-legal : (m new : MachineParts) (client : ℕ) (d : Session) (none : Option Open) (o : Open) (b : Body) (e : Effect) → IsLegal m
-    → client < length m.sessions → get_or m.opens client none ≡ Some o → b ≢ body.NoMemory
-    → IsDueTo m.state (get_or m.sessions client d) client (get_or m.opens client none) b e
-    → new ≡ noted client o.request b (record (performed e client d m) { opens = slice_set m.opens client None })
-    → IsLegal new × IsSameRun m new
-say-legal m new client d none o b e legal below has told due is =
-    let now = due_to m.state (get_or m.sessions client d) client (get_or m.opens client none) o b e told has due in
-    subst (λ n. IsLegal n × IsSameRun m n) (sym is)
-    (said-legal m legal client d none o b e below has told now, (now.definitions, now.shards))
-
 -- ---- a step, by which the state grows and a request gathers something
 
 module _ (m : MachineParts) (legal : IsLegal m) (new : StateParts) (client : ℕ) (d : Session) (none o : Option Open)
@@ -399,6 +377,8 @@ module _ (m : MachineParts) (legal : IsLegal m) (new : StateParts) (client : ℕ
       → held_by o ≡ held_by (get_or m.opens client none) ++ range_with_len m.state.store.next count
       → IsLegal machine_stepped
   stepped-legal count drawn is holds = record {
+    least = omega (arith, shards, legal.least);
+    most = omega (arith, shards, legal.most);
     clients = legal.clients;
     opens = opens-put new 0 m.sessions m.opens client d o (opens-grown m.state new 0 m.sessions m.opens grows shards legal.opens)
         (subst (λ n. IsOpen new n (get_or m.sessions client d) o) (let same : client ≡ 0 + client = omega arith in same) is);

@@ -1,5 +1,9 @@
+mod Clients
 mod Cores
 mod Gathers
 mod Legals
 mod Meetings
+mod Places
+mod Runs
+mod Says
 mod Turns

@@ -285,3 +285,11 @@ pub turn-ok : {A E : Type 0} (r : Result A E) (a b c : MachineParts) (client : �
     → Turn a b client begins → OnOk r (Turn b c client None) → OnOk r (Turn a c client begins)
 turn-ok (Ok x) a b c client begins below first second = turn-then a b c client begins below first second
 turn-ok (Err e) a b c client begins below first second = tt
+
+pub goes-ok : {A E : Type 0} (r : Result A E) (a b c : MachineParts) → GoesOn a b → OnOk r (GoesOn b c) → OnOk r (GoesOn a c)
+goes-ok (Ok x) a b c first second = goes-then a b c first second
+goes-ok (Err e) a b c first second = tt
+
+pub still-goes-ok : {A E : Type 0} (r : Result A E) (m n : MachineParts) → OnOk r (IsStill m n) → OnOk r (GoesOn m n)
+still-goes-ok (Ok x) m n still = goes-still m n still
+still-goes-ok (Err e) m n still = tt

@@ -2,7 +2,7 @@
 use Rattle.std.specs.Prelude.{◌≡◌, ℕ, zero, suc, ◌+◌, ◌-◌, ◌≤◌, ◌<◌, List, [], ◌∷◌, ◌++◌, Option, Some, None, Ok, length, All, IsTrue, ⊤}
 use Rattle.std.specs.Prelude.{flat_map, get_or, replicate, slice_set, IfSome, IsPermutation}
 use Rattle.std.specs.List.{range_with_len}
-use Rattle.ds_base.specs.Limits.{greatest_client}
+use Rattle.ds_base.specs.Limits.{greatest_client, most_shards}
 use Rattle.ds_log.specs.declared.Commit.{Commit}
 use Rattle.ds_request.specs.declared.call.Request.{Request}
 use Rattle.ds_request.specs.Lawful.{IsLawfulCall}
@@ -50,6 +50,8 @@ AreOpen st client _ _ = ⊥
 
 -- what was said so far is answers, over every journal that begins with the one now
 pub record IsLegal (m : MachineParts) : Type 0 where
+  pub least : 1 ≤ m.state.store.shards
+  pub most : m.state.store.shards ≤ most_shards
   pub clients : length m.sessions ≡ greatest_client + 1
   pub opens : AreOpen m.state 0 m.sessions m.opens
   pub answered : (window : Option ℕ) (more : List Commit)

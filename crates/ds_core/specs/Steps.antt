@@ -1,15 +1,26 @@
 -- What an open request gathers by a step of its client.
-use Rattle.std.specs.Prelude.{◌≡◌, ◌⊎◌, ℕ, ◌+◌, ◌≤◌, ◌<◌, Option, Some, None, slice_set}
+use Rattle.std.specs.Prelude.{◌≡◌, ◌⊎◌, ℕ, ◌+◌, Option, Some, None, slice_set}
 use Rattle.std.specs.Option.{option_map}
-use Rattle.ds_base.specs.Limits.{greatest_id}
+use Rattle.ds_base.specs.Keys.{KeyParts}
 use Rattle.ds_request.specs.declared.call.Call.TheVariants as call
+use Rattle.ds_model.specs.Groups.{place_in}
+use Rattle.ds_model.specs.Sessions.{Session}
 use Rattle.ds_plans.specs.Due.{GatheredParts, ids_asked}
-use Rattle.ds_plans.specs.States.{StoreParts, StateParts}
+use Rattle.ds_plans.specs.States.{StateParts}
 use Rattle.ds_core.specs.declared.opened.Open.{Open}
 
 -- the open request has gathered this
 abbrev pub with_gathered : GatheredParts → Open → Open
 with_gathered g o = record o { gathered = g }
+
+-- a place up to which a request reads: that of its Touch, or one at which its client's transaction touched a group
+abbrev pub IsReadPlace : Session → GatheredParts → ℕ → Type 0
+IsReadPlace s g place = (g.place ≡ Some place) ⊎ ((group : KeyParts) × (place_in s.transaction group ≡ Some place))
+
+-- such a place of the open request
+abbrev pub ReadsUpTo : Session → Option Open → ℕ → Type 0
+ReadsUpTo s None place = ⊥
+ReadsUpTo s (Some o) place = IsReadPlace s o.gathered place
 
 -- the first Touch counts
 abbrev pub first_place : ℕ → Option ℕ → Option ℕ

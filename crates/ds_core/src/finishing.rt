@@ -1,9 +1,10 @@
 //! The missing steps of the requests that are open after the last event.
 ghost use Rattle.std.specs.Prelude.{◌≡◌, ◌≤◌, ◌<◌, None, length, All, IfOk, IfSome, OnOk, IsTrue};
-ghost use Rattle.ds_base.specs.Limits.{greatest_client};
+ghost use Rattle.ds_base.specs.Limits.{greatest_client, most_shards};
 ghost use Rattle.ds_request.specs.Lawful.{IsLawfulCall};
 ghost use Rattle.ds_core.specs.Happenings.{GoesOn, IsStill};
 ghost use Rattle.ds_core.specs.Machines.{IsLegal, IsSameRun};
+ghost use Rattle.ds_core.specs.Steps.{IsReadPlace, ReadsUpTo};
 
 use crate::copying::copy_call;
 use crate::machine::Machine;
@@ -71,6 +72,7 @@ impl Machine {
     fn view_missing(&mut self, alloc: Global, client: u32, shard: u32) -> Result<(), NoMemory>
         requires legal { IsLegal self.old }
         requires client { client ≤ greatest_client }
+        requires shard { shard < self.old.state.store.shards }
         ensures legal { OnOk result (IsLegal self.new) }
         ensures same { OnOk result (IsSameRun self.old self.new) }
         ensures goes { OnOk result (GoesOn self.old self.new) }
@@ -86,6 +88,7 @@ impl Machine {
     fn pending(&mut self, alloc: Global, client: u32, shard: u32) -> Result<u64, NoMemory>
         requires legal { IsLegal self.old }
         requires client { client ≤ greatest_client }
+        requires shard { shard < self.old.state.store.shards }
         ensures legal { OnOk result (IsLegal self.new) }
         ensures same { OnOk result (IsSameRun self.old self.new) }
         ensures still { OnOk result (IsStill self.old self.new) }
@@ -133,7 +136,10 @@ fn place_covered(
     shard: u32,
     shards: u32,
 ) -> Result<Option<u64>, NoMemory>
-    requires { IfSome open.now (λ o. IsLawfulCall o.request.call) }
+    requires lawful { IfSome open.now (λ o. IsLawfulCall o.request.call) }
+    requires least { 1 ≤ shards }
+    requires most { shards ≤ most_shards }
+    ensures { IfOk result (λ r. IfSome r (ReadsUpTo session.now open.now)) }
 {
     let Some(open) = open else {
         return Ok(None);
@@ -150,7 +156,9 @@ fn place_covered(
     }
 }
 
-fn place_read(session: &Session, open: &Open, group: &Key) -> Option<u64> {
+fn place_read(session: &Session, open: &Open, group: &Key) -> Option<u64>
+    ensures { IfSome result (IsReadPlace session.now open.now.gathered) }
+{
     match session.touch_place(group) {
         Some(place) => Some(place),
         None => open.gathered.place(),

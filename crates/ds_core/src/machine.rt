@@ -180,11 +180,16 @@ impl Machine {
 
     /// Puts a request and its reply behind the others.
     fn note(&mut self, client: u32, request: Request, body: Body) -> Result<(), NoMemory>
+        requires many { length self.old.requests ≡ length self.old.replies }
         ensures { OnOk result (self.new ≡ noted client request body self.old) }
     {
-        let line = self.replies.len() as u64 + 1;
+        if self.requests.push(request).is_err() {
+            return Err(AllocError);
+        }
+        // one more than the replies before it
+        let line = self.requests.len() as u64;
         let reply = Reply { client, line, body };
-        if self.requests.push(request).is_err() || self.replies.push(reply).is_err() {
+        if self.replies.push(reply).is_err() {
             return Err(AllocError);
         }
         Ok(())

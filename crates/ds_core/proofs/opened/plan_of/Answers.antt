@@ -21,5 +21,5 @@ plan_due-requires-clause-gathered c =
 
 pub returns-clause-plan : goal.returns-clause-plan
 returns-clause-plan c =
-    subst (λ (x : Call). IfSome c.plan_due.result (λ (p : Plan). IsDuePlan c.plan_due.new.state c.args.session.now c.args.client x
+    subst (λ (x : Call). IfSome c.plan_due.result (λ (p : Plan). IsDuePlan c.plan_due.new.self c.args.session.now c.args.client x
     (ids_of x c.args.open.now.gathered) p.body p.effect)) c.in_ok-call.ensures c.plan_due.ensures.plan
