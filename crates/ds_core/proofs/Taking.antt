@@ -22,7 +22,8 @@ use Rattle.ds_core.specs.Timelines.{IsCheck, IsCommit, IsTimely, IsView, Moves, 
 use Rattle.ds_core.specs.Witnesses.{AreWitnessed, GathersAt, IsGatheredThen, IsOwn, IsSaid, IsStepOf, IsToldTo, OpensAt, RepliesAt, TakesAt}
 use Rattle.ds_core.proofs.Occurring.{nothing-gathered, occurs-last, some-is, witnessed-open}
 use Rattle.ds_core.proofs.Timing.{silent-timely, timely-more, told-replies}
-use Rattle.ds_core.proofs.Legals.{due_to, open-at, opens-many}
+use Rattle.ds_core.proofs.Legals.{open-at, opens-many}
+use Rattle.ds_core.proofs.Says.{due_to}
 
 -- ---- what a step changes
 

@@ -62,7 +62,7 @@ module _ (hs : List Happening) (h : Happening) (client : ℕ) where
       → IsOpenThen (hs ++ h ∷ []) client new
   viewed-then shard n old new is (inl same) was = kept-then old new same was
   viewed-then shard n None new is (inr now) was = kept-then None new now was
-  viewed-then shard n (Some o) new is (inr now) was p has =
+  viewed-then shard n (Some o) new is (inr now) was = λ p has.
       let before = gathered-more hs (h ∷ []) client o.request.call o.gathered (was o refl) in
       subst (λ (q : Open). IsGatheredThen (hs ++ h ∷ []) client q.request.call q.gathered)
       (some-is (with_gathered (record (o.gathered) { views = slice_set o.gathered.views shard (Some n) }) o) p (sym now ∙ has))
@@ -82,7 +82,7 @@ module _ (hs : List Happening) (h : Happening) (client : ℕ) where
   applied-then : (shard n : ℕ) (old new : Option Open) → IsApply client shard n h → AppliedTo shard n old new → IsOpenThen hs client old
       → IsOpenThen (hs ++ h ∷ []) client new
   applied-then shard n old new is (inl same) was = kept-then old new same was
-  applied-then shard n old new is (inr (o, had, of, now)) was p has =
+  applied-then shard n old new is (inr (o, had, of, now)) was = λ p has.
       let before = gathered-more hs (h ∷ []) client o.request.call o.gathered (was o had) in
       subst (λ (q : Open). IsGatheredThen (hs ++ h ∷ []) client q.request.call q.gathered)
       (some-is (with_gathered (record (o.gathered) { applied = Some n }) o) p (sym now ∙ has))
@@ -97,7 +97,7 @@ module _ (hs : List Happening) (h : Happening) (client : ℕ) where
       → DrawnTo count st old new now → IsOpenThen hs client old → IsOpenThen (hs ++ h ∷ []) client now
   drawn-then count st new old now (inr same) drawn was = kept-then old now same was
   drawn-then count st new old now (inl is) (inl kept) was = kept-then old now kept.1 was
-  drawn-then count st new old now (inl is) (inr (o, had, asks, none, drawn, given)) was p has =
+  drawn-then count st new old now (inl is) (inr (o, had, asks, none, drawn, given)) was = λ p has.
       let before = gathered-more hs (h ∷ []) client o.request.call o.gathered (was o had) in
       subst (λ (q : Open). IsGatheredThen (hs ++ h ∷ []) client q.request.call q.gathered)
       (some-is (with_gathered (record (o.gathered) { first = Some st.store.next }) o) p (sym given ∙ has))

@@ -1,5 +1,5 @@
 -- What open requests have gathered and what transactions have touched comes from what happened; and what a machine's calls do to that.
-use Rattle.std.specs.Prelude.{◌≡◌, ◌⊎◌, ℕ, ◌+◌, List, [], ◌∷◌, ◌++◌, Option, Some, None, IfSome, length, slice_get, ⊤, ⊥}
+use Rattle.std.specs.Prelude.{◌≡◌, ◌⊎◌, ℕ, ◌+◌, List, [], ◌∷◌, ◌++◌, Option, Some, None, IfSome, length, slice_get, ⊤}
 use Rattle.ds_base.specs.Keys.{KeyParts}
 use Rattle.ds_log.specs.declared.Commit.{Commit}
 use Rattle.ds_request.specs.declared.call.Call.{Call}
