@@ -1,6 +1,6 @@
 -- What has occurred stays so, and what open requests have gathered and transactions have touched comes from it still.
 use Rattle.std.proofs.Common.{◌≡◌, ◌⊎◌, inl, inr, ℕ, zero, suc, ◌+◌, ◌<◌, List, [], ◌∷◌, ◌++◌, length, map, refl, ap, sym, ◌∙◌, subst, arith}
-use Rattle.std.proofs.Common.{Option, Some, None}
+use Rattle.std.proofs.Common.{Option, Some, None, append_assoc}
 use Rattle.std.specs.Prelude.{IfSome, slice_get, slice_set, unwrap_or, replicate}
 use Rattle.ds_base.specs.Limits.{greatest_client}
 use Rattle.ds_request.specs.declared.call.Call.{Call}
@@ -10,7 +10,7 @@ use Rattle.ds_model.specs.Sessions.{Session, count_of, first_session, first_sess
 use Rattle.ds_plans.specs.Due.{GatheredParts, ids_asked}
 use Rattle.ds_core.specs.declared.opened.Open.{Open}
 use Rattle.ds_core.specs.Happenings.{Happening}
-use Rattle.ds_core.specs.Timelines.{Occurs, IsTouch, IsView, IsApply, IsIssue, AreViews}
+use Rattle.ds_core.specs.Timelines.{AreMoves, AreTimely, AreViews, IsApply, IsIssue, IsTimely, IsTouch, IsView, Moves, Occurs}
 use Rattle.ds_core.specs.Witnesses.{AreWitnessed, IsGatheredThen, IsRaisedThen, IsTouchedThen}
 
 -- ---- what has occurred
@@ -139,3 +139,16 @@ none-witnessed sessions opens shards n firsts closed = record {
       let none : None ≡ Some place = ap (λ (t : Session). place_in t.transaction group) first ∙ has in
       cc;
 }
+
+-- ---- one more happening
+
+pub moves-then : (shards : ℕ) (hs : List Happening) (h : Happening) → AreMoves shards hs → Moves shards h.step h.before h.after
+    → AreMoves shards (hs ++ h ∷ [])
+moves-then shards [] h are is = (is, tt)
+moves-then shards (x ∷ hs) h are is = (are.0, moves-then shards hs h are.1 is)
+
+pub timely-then : (past hs : List Happening) (h : Happening) → AreTimely past hs → IsTimely (past ++ (hs ++ h ∷ [])) h.said
+    → AreTimely past (hs ++ h ∷ [])
+timely-then past [] h are is = (is, tt)
+timely-then past (x ∷ hs) h are is =
+    (are.0, timely-then (past ++ x ∷ []) hs h are.1 (subst (λ xs. IsTimely xs h.said) (sym (append_assoc past (x ∷ []) (hs ++ h ∷ []))) is))

@@ -5,7 +5,8 @@ use Rattle.std.proofs.lemmas.List.{append-nil}
 use Rattle.std.proofs.lemmas.List.Elements.{All-head, All-rest}
 use Rattle.ds_base.specs.Limits.{greatest_client}
 use Rattle.ds_core.specs.declared.event.Event.{Event}
-use Rattle.ds_core.specs.Happenings.{Happening, IsPast, Turn, event_of}
+use Rattle.ds_core.specs.Courses.{IsPast}
+use Rattle.ds_core.specs.Happenings.{Happening, Turn, event_of}
 use Rattle.ds_core.specs.Machines.{MachineParts, IsLawfulEvent, IsLegal, IsSameRun}
 use Rattle.ds_core.proofs.Turns.{event-then, happened, past-then}
 

@@ -13,11 +13,15 @@ use Rattle.ds_plans.specs.declared.gathered.Step.{Step}
 use Rattle.ds_core.specs.declared.event.Event.{Event}
 use Rattle.ds_core.specs.declared.event.Transcript.{Transcript}
 use Rattle.ds_core.specs.declared.opened.Open.{Open}
-use Rattle.ds_core.specs.Happenings.{Moment, Said, Happening, Happens, Follow, Speaks, Turn, IsPast, IsSilent, IsStill}
+use Rattle.ds_core.specs.Courses.{GoesOn, HasHappened, IsPast}
+use Rattle.ds_core.specs.Happenings.{Moment, Said, Happening, Happens, Follow, Speaks, Turn, IsSilent, IsStill}
 use Rattle.ds_core.specs.Happenings.{asked_by, asked_of, opening, first_moment, moment_of}
-use Rattle.ds_core.specs.Happenings.{GoesOn, HasHappened, event_of, none_asked, said_requests, said_replies, requests_in, replies_in}
-use Rattle.ds_core.specs.Machines.{MachineParts}
-use Rattle.ds_plans.specs.States.{StateParts}
+use Rattle.ds_core.specs.Happenings.{event_of, none_asked, said_requests, said_replies, requests_in, replies_in}
+use Rattle.ds_core.specs.Machines.{MachineParts, IsSameRun}
+use Rattle.ds_core.specs.Timelines.{AreTimely, Moves}
+use Rattle.ds_core.specs.Witnesses.{AreWitnessed, IsStepOf, TakesAt}
+use Rattle.ds_core.proofs.Occurring.{moves-then, timely-then}
+use Rattle.ds_plans.specs.States.{StateParts, StoreParts}
 
 -- ---- what is asked
 
@@ -180,14 +184,26 @@ happened old new step client begins turn = record {
 }
 
 pub past-then : (shards : ℕ) (old new : MachineParts) (step : Step) (client : ℕ) (begins : Option Request) (hs : List Happening)
-    (turn : Turn old new client begins) → IsPast shards old hs
+    (turn : Turn old new client begins) → TakesAt old.state.store.shards step client old new → IsSameRun old new → IsPast shards old hs
     → IsPast shards new (hs ++ happened old new step client begins turn ∷ [])
-past-then shards old new step client begins hs turn past =
-    let h = happened old new step client begins turn in record {
+past-then shards old new step client begins hs turn takes same past =
+    let h = happened old new step client begins turn in
+    let of : IsStepOf h step client old new = record {
+      step = refl;
+      client = refl;
+      before = record { journal = refl; counts = refl; next = refl };
+      after = record { journal = refl; counts = refl; next = refl };
+    } in
+    let now = takes.timely hs h of past.witnessed in record {
+      room = same.1 ∙ past.room;
       follow = follow-then (first_moment shards) (moment_of old) hs h past.follow refl turn.speaks;
       requests = turn.requests ∙ ap (λ xs. xs ++ said_requests turn.said) past.requests
           ∙ sym (each-said (λ x. said_requests x.said) hs h);
       replies = turn.replies ∙ ap (λ xs. xs ++ said_replies turn.said) past.replies ∙ sym (each-said (λ x. said_replies x.said) hs h);
+      moves = moves-then shards hs h past.moves
+          (subst (λ n. Moves n step (moment_of old) (moment_of new)) past.room takes.moves);
+      timely = timely-then [] hs h past.timely (now.1 turn.said (turn.requests, turn.replies));
+      witnessed = now.0;
     }
 
 -- ---- steps that open no request
@@ -210,18 +226,23 @@ goes-still m n still = record {
   more = [];
   unasked = All-nil (λ (h : Happening). h.begins ≡ None);
   past = λ shards hs past. subst (IsPast shards n) (sym (append-nil hs)) (record {
+    room = ap (λ (x : StoreParts). x.shards) still.store ∙ past.room;
     follow = subst (λ moment. Follow (first_moment shards) hs moment) (sym (moment-still m n still)) past.follow;
     requests = ap (λ (x : MachineParts). x.requests) still.rest ∙ past.requests;
     replies = ap (λ (x : MachineParts). x.replies) still.rest ∙ past.replies;
+    moves = past.moves;
+    timely = past.timely;
+    witnessed = subst (λ (x : MachineParts). AreWitnessed hs x.sessions x.opens) (sym still.rest) past.witnessed;
   });
 }
 
-pub goes-turn : (m n : MachineParts) (step : Step) (client : ℕ) → Turn m n client None → GoesOn m n
-goes-turn m n step client turn = record {
+pub goes-turn : (m n : MachineParts) (step : Step) (client : ℕ) → Turn m n client None → TakesAt m.state.store.shards step client m n
+    → IsSameRun m n → GoesOn m n
+goes-turn m n step client turn takes same = record {
   more = happened m n step client None turn ∷ [];
   unasked = All-cons (λ (h : Happening). h.begins ≡ None) (happened m n step client None turn) [] refl
       (All-nil (λ (h : Happening). h.begins ≡ None));
-  past = λ shards hs past. past-then shards m n step client None hs turn past;
+  past = λ shards hs past. past-then shards m n step client None hs turn takes same past;
 }
 
 pub goes-then : (a b c : MachineParts) → GoesOn a b → GoesOn b c → GoesOn a c
@@ -267,6 +288,8 @@ has-happened old m hs events shards t past taken goes closed many requests repli
       closed = all_closed m.opens (greatest_client + 1) many closed;
       requests = requests ∙ now.requests;
       replies = replies ∙ now.replies;
+      moves = now.moves;
+      timely = now.timely;
     }
 
 -- an event more

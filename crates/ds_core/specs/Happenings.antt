@@ -79,21 +79,6 @@ none_asked = replicate (greatest_client + 1) None
 abbrev pub first_moment : ℕ → Moment
 first_moment shards = record { journal = []; counts = replicate shards 0; next = first_id; asked = none_asked }
 
--- The events' steps happen in their order and then others, which open no request, from nothing at all to the transcript's journal and no
--- request open; and what was said, in this order, are the transcript's replies to its requests. So each request that was opened is
--- replied to once, and no other is.
-pub record HasHappened (events : List Event) (shards : ℕ) (t : Transcript) : Type 0 where
-  pub happenings : List Happening
-  pub missing : List Event
-  pub last : Moment
-  pub taken : map event_of happenings ≡ events ++ missing
-  pub unasked : All (λ e. e.begins ≡ None) missing
-  pub follow : Follow (first_moment shards) happenings last
-  pub journal : last.journal ≡ t.journal
-  pub closed : last.asked ≡ none_asked
-  pub requests : t.requests ≡ requests_in happenings
-  pub replies : t.replies ≡ replies_in happenings
-
 -- ---- the steps of a machine
 
 -- what is asked by open requests
@@ -127,15 +112,3 @@ pub record IsStill (old new : MachineParts) : Type 0 where
   pub rest : new ≡ record old { state = new.state }
   pub store : new.state.store ≡ old.state.store
   pub counts : new.state.applied.counts ≡ old.state.applied.counts
-
--- how it came to what there is and to what was said so far
-pub record IsPast (shards : ℕ) (m : MachineParts) (hs : List Happening) : Type 0 where
-  pub follow : Follow (first_moment shards) hs (moment_of m)
-  pub requests : m.requests ≡ requests_in hs
-  pub replies : m.replies ≡ replies_in hs
-
--- steps were taken that opened no request
-pub record GoesOn (old new : MachineParts) : Type 0 where
-  pub more : List Happening
-  pub unasked : All (λ h. h.begins ≡ None) more
-  pub past : (shards : ℕ) (hs : List Happening) → IsPast shards old hs → IsPast shards new (hs ++ more)

@@ -2,7 +2,8 @@
 ghost use Rattle.std.specs.Prelude.{◌≡◌, ◌≤◌, ◌<◌, None, length, All, IfOk, IfSome, OnOk, IsTrue};
 ghost use Rattle.ds_base.specs.Limits.{greatest_client, most_shards};
 ghost use Rattle.ds_request.specs.Lawful.{IsLawfulCall};
-ghost use Rattle.ds_core.specs.Happenings.{GoesOn, IsStill};
+ghost use Rattle.ds_core.specs.Courses.{GoesOn};
+ghost use Rattle.ds_core.specs.Happenings.{IsStill};
 ghost use Rattle.ds_core.specs.Machines.{IsLegal, IsSameRun};
 ghost use Rattle.ds_core.specs.Steps.{IsReadPlace, ReadsUpTo};
 

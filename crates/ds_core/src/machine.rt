@@ -4,7 +4,8 @@ ghost use Rattle.ds_base.specs.Limits.{greatest_client, most_shards};
 ghost use Rattle.ds_model.specs.Sessions.{Session};
 ghost use Rattle.ds_plans.specs.Effects.{IsAllowed};
 ghost use Rattle.ds_core.specs.declared.opened.Open.{Open};
-ghost use Rattle.ds_core.specs.Happenings.{IsPast, Turn};
+ghost use Rattle.ds_core.specs.Courses.{IsPast};
+ghost use Rattle.ds_core.specs.Happenings.{Turn};
 ghost use Rattle.ds_core.specs.Machines.{IsDueTo, IsLawfulEvent, IsLawfulRequest, IsLegal, IsSameRun, noted, performed};
 
 use crate::event::{Event, Replies, Requests, Transcript};
@@ -30,7 +31,6 @@ pub(crate) struct Machine {
 }
 
 impl Model for Machine {
-    ghost use Rattle.ds_core.specs.Happenings.{IsPast, Turn};
     ghost use Rattle.ds_core.specs.Machines.{MachineParts};
 
     ghost Value = { MachineParts };

@@ -1,7 +1,7 @@
 //! A run of the machine over single events.
 ghost use Rattle.std.specs.Prelude.{◌≤◌, All, IfOk};
 ghost use Rattle.ds_base.specs.Limits.{most_shards};
-ghost use Rattle.ds_core.specs.Happenings.{HasHappened};
+ghost use Rattle.ds_core.specs.Courses.{HasHappened};
 ghost use Rattle.ds_core.specs.Machines.{IsLawfulEvent};
 ghost use Rattle.ds_core.specs.Rounds.{IsLegalRound};
 

@@ -1,6 +1,7 @@
 use Rattle.std.proofs.Common.{◌≡◌, ◌++◌, List, map}
 use Rattle.std.specs.Prelude.{All}
-use Rattle.ds_core.specs.Happenings.{Happening, IsPast, event_of}
+use Rattle.ds_core.specs.Courses.{IsPast}
+use Rattle.ds_core.specs.Happenings.{Happening, event_of}
 use Rattle.ds_core.specs.Machines.{IsLawfulEvent, IsLegal}
 use Rattle.ds_core.proofs.running.run.Given as goal
 

@@ -1,4 +1,4 @@
-use Rattle.ds_core.specs.Happenings.{GoesOn}
+use Rattle.ds_core.specs.Courses.{GoesOn}
 use Rattle.ds_core.specs.Machines.{IsLegal, IsSameRun}
 use Rattle.ds_core.proofs.finishing.Machine.finish.Given as goal
 
