@@ -3,7 +3,12 @@ mod Cores
 mod Gathers
 mod Legals
 mod Meetings
+mod Occurring
 mod Places
 mod Runs
 mod Says
+mod Taking
+mod TimedSteps
+mod Timing
 mod Turns
+mod Witnessing

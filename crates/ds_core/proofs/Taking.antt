@@ -23,7 +23,7 @@ use Rattle.ds_core.specs.Witnesses.{AreWitnessed, GathersAt, IsGatheredThen, IsO
 use Rattle.ds_core.proofs.Occurring.{nothing-gathered, occurs-last, some-is, witnessed-open}
 use Rattle.ds_core.proofs.Timing.{silent-timely, timely-more, told-replies}
 use Rattle.ds_core.proofs.Legals.{open-at, opens-many}
-use Rattle.ds_core.proofs.Says.{due_to}
+use Rattle.ds_core.proofs.Says.{closing, due_to}
 
 -- ---- what a step changes
 
@@ -275,3 +275,34 @@ pub takes-ok : {A E : Type 0} (r : Result A E) (shards : ℕ) (s : Step) (client
     → GathersAt shards s client old mid → IsSilent old mid → OnOk r (RepliesAt s client mid new) → OnOk r (TakesAt shards s client old new)
 takes-ok (Ok x) shards s client old mid new gathers silent replies = takes-then shards s client old mid new gathers silent replies
 takes-ok (Err e) shards s client old mid new gathers silent replies = tt
+
+pub replies-ok : {A E : Type 0} (r : Result A E) (s : Step) (client : ℕ) (m n o : MachineParts) → IsStill m n → OnOk r (RepliesAt s client n o)
+    → OnOk r (RepliesAt s client m o)
+replies-ok (Ok x) s client m n o still replies = replies-still s client m n o still replies
+replies-ok (Err e) s client m n o still replies = tt
+
+pub opens-ok : {A E : Type 0} (r : Result A E) (m new : MachineParts) (client : ℕ) (req : Request) (shards : ℕ)
+    → OnOk r (RepliesAt steps.Touch client (record m { opens = slice_set m.opens client (Some (just_opened req shards)) }) new)
+    → OnOk r (OpensAt m new)
+opens-ok (Ok x) m new client req shards replies = opens-then m new client req shards replies
+opens-ok (Err e) m new client req shards replies = tt
+
+pub takes-opened-ok : {A E : Type 0} (r : Result A E) (s : Step) (client : ℕ) (old mid new : MachineParts) (begins : Option Request)
+    → OpensAt old mid → Turn old mid client begins → IsSameRun old mid → OnOk r (TakesAt mid.state.store.shards s client mid new)
+    → OnOk r (Turn mid new client None) → OnOk r (TakesAt old.state.store.shards s client old new)
+takes-opened-ok (Ok x) s client old mid new begins opened first same takes second =
+    takes-opened old.state.store.shards s client old mid new begins opened first
+    (subst (λ n. TakesAt n s client mid new) same.1 takes) second
+takes-opened-ok (Err e) s client old mid new begins opened first same takes second = tt
+
+-- a reply is said, taken effect and noted
+pub say-timed-ok : {A E : Type 0} (r : Result A E) (m p q new : MachineParts) (client : ℕ) (d : Session) (o : Open) (b : Body) (e : Effect)
+    (step : Step) → IsLegal m → client < length m.sessions → b ≢ body.NoMemory
+    → IsDueTo m.state (get_or m.sessions client d) client (get_or m.opens client None) b e
+    → IsToldTo m.state (get_or m.sessions client d) step (get_or m.opens client None) b e
+    → p ≡ performed e client d m → q ≡ closing client p → Some o ≡ get_or p.opens client None
+    → OnOk r (new ≡ noted client o.request b q) → OnOk r (RepliesAt step client m new)
+say-timed-ok (Err x) m p q new client d o b e step legal below memory due told performs closes has is = tt
+say-timed-ok (Ok x) m p q new client d o b e step legal below memory due told performs closes has is =
+    say-timed m new client d None o b e step legal below (ap (λ (x : MachineParts). get_or x.opens client None) (sym performs) ∙ sym has)
+    memory due told (is ∙ ap (noted client o.request b) (closes ∙ ap (closing client) performs))

@@ -7,6 +7,7 @@ ghost use Rattle.ds_plans.specs.Due.{ids_asked};
 ghost use Rattle.ds_core.specs.Happenings.{IsSilent};
 ghost use Rattle.ds_core.specs.Machines.{IsLegal, IsSameRun};
 ghost use Rattle.ds_core.specs.Steps.{AppliedTo, DrawnTo, ViewedTo, first_place, touched};
+ghost use Rattle.ds_core.specs.Witnesses.{GathersAt};
 
 use crate::machine::Machine;
 use crate::opened::{Open, ids_asked};
@@ -23,6 +24,7 @@ impl Machine {
         ensures legal { OnOk result (IsLegal self.new) }
         ensures same { OnOk result (IsSameRun self.old self.new) }
         ensures silent { OnOk result (IsSilent self.old self.new) }
+        ensures timed { OnOk result (GathersAt self.old.state.store.shards step client self.old self.new) }
     {
         match step {
             Step::Commit => Ok(()),
@@ -45,6 +47,7 @@ impl Machine {
         ensures legal { IsLegal self.new }
         ensures same { IsSameRun self.old self.new }
         ensures silent { IsSilent self.old self.new }
+        ensures timed { GathersAt self.old.state.store.shards Step.Touch client self.old self.new }
     {
         let length = self.state.length();
         touch_open(&mut self.opens[client as usize], length);
@@ -56,6 +59,7 @@ impl Machine {
         ensures legal { OnOk result (IsLegal self.new) }
         ensures same { OnOk result (IsSameRun self.old self.new) }
         ensures silent { OnOk result (IsSilent self.old self.new) }
+        ensures timed { OnOk result (GathersAt self.old.state.store.shards (Step.View shard) client self.old self.new) }
     {
         if shard >= self.state.shards() {
             return Ok(());
@@ -75,14 +79,17 @@ impl Machine {
         ensures legal { OnOk result (IsLegal self.new) }
         ensures same { OnOk result (IsSameRun self.old self.new) }
         ensures silent { OnOk result (IsSilent self.old self.new) }
+        ensures timed { OnOk result (GathersAt self.old.state.store.shards (Step.Apply shard) client self.old self.new) }
     {
         if shard >= self.state.shards() {
             return Ok(());
         }
-        if self.state.apply_pending(alloc, shard)? {
-            let count = self.state.count(shard);
-            apply_open(&mut self.opens[client as usize], shard, count);
+        let applied = self.state.apply_pending(alloc, shard)?;
+        if !applied {
+            return Ok(());
         }
+        let count = self.state.count(shard);
+        apply_open(&mut self.opens[client as usize], shard, count);
         Ok(())
     }
 
@@ -92,6 +99,7 @@ impl Machine {
         ensures legal { IsLegal self.new }
         ensures same { IsSameRun self.old self.new }
         ensures silent { IsSilent self.old self.new }
+        ensures timed { GathersAt self.old.state.store.shards (Step.Issue count) client self.old self.new }
     {
         draw_open(&mut self.state, &mut self.opens[client as usize], count);
     }

@@ -2,11 +2,13 @@
 ghost use Rattle.std.specs.Prelude.{◌≡◌, ◌≢◌, ◌≤◌, ◌<◌, [], false, None, Some, Option, get_or, is_some, length, slice_set, IfOk, OnOk, IsTrue};
 ghost use Rattle.ds_base.specs.Limits.{greatest_client, most_shards};
 ghost use Rattle.ds_model.specs.Sessions.{Session};
+ghost use Rattle.ds_plans.specs.declared.gathered.Step.{Step};
 ghost use Rattle.ds_plans.specs.Effects.{IsAllowed};
 ghost use Rattle.ds_core.specs.declared.opened.Open.{Open};
 ghost use Rattle.ds_core.specs.Courses.{IsPast};
 ghost use Rattle.ds_core.specs.Happenings.{Turn};
 ghost use Rattle.ds_core.specs.Machines.{IsDueTo, IsLawfulEvent, IsLawfulRequest, IsLegal, IsSameRun, noted, performed};
+ghost use Rattle.ds_core.specs.Witnesses.{IsToldTo, OpensAt, RepliesAt, TakesAt};
 
 use crate::event::{Event, Replies, Requests, Transcript};
 use crate::meeting::first_sessions;
@@ -73,6 +75,7 @@ impl Machine {
         ensures legal { OnOk result (IsLegal self.new) }
         ensures same { OnOk result (IsSameRun self.old self.new) }
         ensures turn { OnOk result (Turn self.old self.new event.client event.begins) }
+        ensures timed { OnOk result (TakesAt self.old.state.store.shards event.step event.client self.old self.new) }
     {
         let Event {
             step,
@@ -93,6 +96,7 @@ impl Machine {
         ensures legal { OnOk result (IsLegal self.new) }
         ensures same { OnOk result (IsSameRun self.old self.new) }
         ensures turn { OnOk result (Turn self.old self.new client (Some request)) }
+        ensures timed { OnOk result (OpensAt self.old self.new) }
     {
         if self.has_open(client) {
             return Ok(());
@@ -109,6 +113,7 @@ impl Machine {
         ensures legal { OnOk result (IsLegal self.new) }
         ensures same { OnOk result (IsSameRun self.old self.new) }
         ensures turn { OnOk result (Turn self.old self.new client None) }
+        ensures timed { OnOk result (TakesAt self.old.state.store.shards step client self.old self.new) }
     {
         self.gather(alloc, client, step)?;
         self.advance(alloc, client, step)
@@ -129,6 +134,7 @@ impl Machine {
         ensures legal { OnOk result (IsLegal self.new) }
         ensures same { OnOk result (IsSameRun self.old self.new) }
         ensures turn { OnOk result (Turn self.old self.new client None) }
+        ensures timed { OnOk result (RepliesAt step client self.old self.new) }
     {
         let session = &self.sessions[client as usize];
         let open = &self.opens[client as usize];
@@ -147,6 +153,8 @@ impl Machine {
         ensures legal { OnOk result (IsLegal self.new) }
         ensures same { OnOk result (IsSameRun self.old self.new) }
         ensures turn { OnOk result (Turn self.old self.new client None) }
+        ensures timed { (step : Step) → ((d : Session) (e : Option Open) → IsToldTo self.old.state (get_or self.old.sessions client d) step
+            (get_or self.old.opens client e) plan.body plan.effect) → OnOk result (RepliesAt step client self.old self.new) }
     {
         let Plan { body, effect } = plan;
         if is_no_memory(&body) {

@@ -4,6 +4,7 @@ ghost use Rattle.ds_base.specs.Limits.{greatest_client};
 ghost use Rattle.ds_plans.specs.Due.{ids_asked};
 ghost use Rattle.ds_plans.specs.States.{IsSession};
 ghost use Rattle.ds_core.specs.Machines.{IsDueTo, IsOpen, just_opened};
+ghost use Rattle.ds_core.specs.Witnesses.{IsToldTo};
 
 use crate::copying::copy_call;
 use ds_base::NoMemory;
@@ -64,6 +65,7 @@ pub(crate) fn plan_open(
     requires seen { IsSession state.old session.now }
     requires lawful { IsOpen state.old client session.now open.now }
     ensures plan { IfOk result (λ r. IfSome r (λ p. IsDueTo state.new session.now client open.now p.body p.effect)) }
+    ensures told { IfOk result (λ r. IfSome r (λ p. IsToldTo state.new session.now step open.now p.body p.effect)) }
     ensures store { state.new.store ≡ state.old.store }
     ensures counts { state.new.applied.counts ≡ state.old.applied.counts }
 {
@@ -84,6 +86,7 @@ fn plan_of(
     requires seen { IsSession state.old session.now }
     requires lawful { IsOpen state.old client session.now (Some open.now) }
     ensures plan { IfOk result (λ r. IfSome r (λ p. IsDueTo state.new session.now client (Some open.now) p.body p.effect)) }
+    ensures told { IfOk result (λ r. IfSome r (λ p. IsToldTo state.new session.now step (Some open.now) p.body p.effect)) }
     ensures store { state.new.store ≡ state.old.store }
     ensures counts { state.new.applied.counts ≡ state.old.applied.counts }
 {

@@ -1,5 +1,6 @@
 use Rattle.std.proofs.Common.{◌<◌, length, arith}
 use Rattle.ds_core.proofs.Legals.{opens-many, same-ok}
+use Rattle.ds_core.proofs.Taking.{takes-ok}
 use Rattle.ds_core.proofs.Turns.{turn-ok, turn-silent}
 use Rattle.ds_core.proofs.machine.Machine.take.Goals as goal
 
@@ -14,3 +15,8 @@ returns-clause-turn c =
     omega (arith, many, c.requires.legal.clients, c.requires.client)) in
     turn-ok c.advance.result c.args.self.now c.gather.new.self c.advance.new.self c.args.client _ below
     (turn-silent c.args.self.now c.gather.new.self c.args.client c.in_ok-gather.ensures.silent) c.advance.ensures.turn
+
+pub returns-clause-timed : goal.returns-clause-timed
+returns-clause-timed c =
+    takes-ok c.advance.result c.args.self.now.state.store.shards c.args.step c.args.client c.args.self.now c.gather.new.self
+    c.advance.new.self c.in_ok-gather.ensures.timed c.in_ok-gather.ensures.silent c.advance.ensures.timed
