@@ -1,7 +1,8 @@
 -- Each opened request is replied to once.
 use Rattle.std.proofs.Common.{◌≡◌, ℕ, zero, suc, ◌+◌, ◌<◌, List, [], ◌∷◌, ◌++◌, length, map, refl, ap, sym, ◌∙◌, subst, arith}
 use Rattle.std.proofs.Common.{Option, Some, None, get_or, append_assoc}
-use Rattle.ds_base.specs.Limits.{greatest_client}
+use Rattle.ds_base.specs.Limits.{first_drawn_id, greatest_client}
+use Rattle.ds_indexdef.specs.declared.IndexDef.{IndexDef}
 use Rattle.std.proofs.lemmas.List.Elements.{All-append, All-cons, All-nil}
 use Rattle.std.specs.Prelude.{Err, Ok, OnOk, Result, All, flat_map, replicate, slice_get, slice_set, unwrap_or}
 use Rattle.std.specs.Option.{option_map}
@@ -17,7 +18,8 @@ use Rattle.ds_core.specs.Happenings.{Moment, Said, Happening, Happens, Follow, S
 use Rattle.ds_core.specs.Happenings.{asked_by, asked_of, opening, first_moment, moment_of}
 use Rattle.ds_core.specs.Happenings.{GoesOn, HasHappened, event_of, none_asked, said_requests, said_replies, requests_in, replies_in}
 use Rattle.ds_core.specs.Machines.{MachineParts}
-use Rattle.ds_plans.specs.States.{StateParts}
+use Rattle.ds_model.specs.Sessions.{Session}
+use Rattle.ds_plans.specs.States.{StateParts, StoreParts}
 
 -- ---- what is asked
 
@@ -158,6 +160,28 @@ turn-then a b c client begins below first second = by first.said second.said fir
           ∙ sym (opening-none (asked_by (asked_of b.opens) client)) ∙ two.0 in
           cc
 
+-- ---- nothing has happened
+
+none-asked : (n : ℕ) → asked_of (replicate n None) ≡ replicate n None
+none-asked zero = refl
+none-asked (suc n) = ap (λ rs. None ∷ rs) (none-asked n)
+
+pub made-past : (st : StateParts) (definitions : List IndexDef) (shards : ℕ) (sessions : List Session) (opens : List (Option Open))
+    (requests : List Request) (replies : List Reply)
+    → st.store ≡ record { definitions = definitions; shards = shards; journal = []; next = first_drawn_id }
+    → st.applied.counts ≡ replicate shards 0 → opens ≡ replicate (greatest_client + 1) None → requests ≡ [] → replies ≡ []
+    → IsPast shards (record { state = st; sessions = sessions; opens = opens; requests = requests; replies = replies }) []
+made-past st definitions shards sessions opens requests replies store counts closed no_request no_reply = record {
+  follow = λ i. record {
+    journal = ap (λ (x : StoreParts). x.journal) store i;
+    counts = counts i;
+    next = ap (λ (x : StoreParts). x.next) store i;
+    asked = (ap asked_of closed ∙ none-asked (greatest_client + 1)) i;
+  };
+  requests = no_request;
+  replies = no_reply;
+}
+
 -- ---- a turn more
 
 follow-then : (a b : Moment) (hs : List Happening) (h : Happening) → Follow a hs b → h.before ≡ b → Happens h
@@ -290,6 +314,7 @@ pub goes-ok : {A E : Type 0} (r : Result A E) (a b c : MachineParts) → GoesOn 
 goes-ok (Ok x) a b c first second = goes-then a b c first second
 goes-ok (Err e) a b c first second = tt
 
-pub still-goes-ok : {A E : Type 0} (r : Result A E) (m n : MachineParts) → OnOk r (IsStill m n) → OnOk r (GoesOn m n)
-still-goes-ok (Ok x) m n still = goes-still m n still
-still-goes-ok (Err e) m n still = tt
+pub goes-turn-ok : {A E : Type 0} (r : Result A E) (m n : MachineParts) (step : Step) (client : ℕ) → OnOk r (Turn m n client None)
+    → OnOk r (GoesOn m n)
+goes-turn-ok (Ok x) m n step client turn = goes-turn m n step client turn
+goes-turn-ok (Err e) m n step client turn = tt

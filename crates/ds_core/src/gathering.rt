@@ -79,10 +79,12 @@ impl Machine {
         if shard >= self.state.shards() {
             return Ok(());
         }
-        if self.state.apply_pending(alloc, shard)? {
-            let count = self.state.count(shard);
-            apply_open(&mut self.opens[client as usize], shard, count);
+        let applied = self.state.apply_pending(alloc, shard)?;
+        if !applied {
+            return Ok(());
         }
+        let count = self.state.count(shard);
+        apply_open(&mut self.opens[client as usize], shard, count);
         Ok(())
     }
 

@@ -1,0 +1,7 @@
+use Rattle.std.proofs.Common.{refl}
+use Rattle.ds_core.proofs.Turns.{turn-silent}
+use Rattle.ds_core.proofs.machine.Machine.begin_if.Goals as goal
+
+pub returns-in-None-clause-turn : goal.returns-in-None-clause-turn
+returns-in-None-clause-turn c =
+    turn-silent c.args.self.now c.args.self.now c.args.client (record { asked = refl; requests = refl; replies = refl })
