@@ -279,8 +279,7 @@ pub open-step : (m : MachineParts) → IsLegal m → (client : ℕ) (d : Session
 open-step m legal client d none r below many lawful closed =
     let had = open-at m.state 0 m.sessions m.opens client d none legal.opens below in
     stepped-legal m legal m.state client d none (Some (just_opened r m.state.store.shards)) below
-    (grows_planned m.state m.state refl (up_to-same m.state.applied.counts)) refl refl refl 0 (omega arith)
-    (
+    (grows_planned m.state m.state refl (up_to-same m.state.applied.counts)) refl refl refl 0 (omega arith) (
       lawful.0,
       lawful.1,
       lawful.2,

@@ -1,4 +1,5 @@
-use Rattle.std.proofs.Common.{arith, refl}
+use Rattle.std.proofs.Common.{ap, arith, refl}
+use Rattle.ds_core.specs.Machines.{MachineParts}
 use Rattle.ds_core.proofs.Legals.{same-run}
 use Rattle.ds_core.proofs.Turns.{goes-none, goes-then}
 use Rattle.ds_core.proofs.machine.Machine.view_each.Goals as goal
@@ -23,4 +24,10 @@ loop-shard-preserved c =
 
 pub view_missing-requires-clause-shard : goal.view_missing-requires-clause-shard
 view_missing-requires-clause-shard c =
-    omega (arith, c.loop-shard-test.true, c.shards-shards.ensures.value, c.loop-shard.invariant.same.1)
+    omega (
+      arith,
+      c.loop-shard-test.true,
+      c.shards-shards.ensures.value,
+      c.loop-shard.invariant.same.1,
+      ap (λ (x : MachineParts). x.state.store.shards) c.self.view_is,
+    )

@@ -22,10 +22,10 @@ loop-entry-preserved c =
 
 pub returns-clause-same : goal.returns-clause-same
 returns-clause-same c =
-    same-ok c.take_missing.result c.args.self.now c.loop-entry.self c.take_missing.new.self c.loop-entry.invariant.same
-    c.take_missing.ensures.same
+    same-ok c.take_missing-2.result c.args.self.now c.loop-entry.self c.take_missing-2.new.self c.loop-entry.invariant.same
+    c.take_missing-2.ensures.same
 
 pub returns-clause-goes : goal.returns-clause-goes
 returns-clause-goes c =
-    goes-ok c.take_missing.result c.args.self.now c.loop-entry.self c.take_missing.new.self c.loop-entry.invariant.goes
-    c.take_missing.ensures.goes
+    goes-ok c.take_missing-2.result c.args.self.now c.loop-entry.self c.take_missing-2.new.self c.loop-entry.invariant.goes
+    c.take_missing-2.ensures.goes
