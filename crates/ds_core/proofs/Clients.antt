@@ -20,6 +20,9 @@ pub client-open : (m : MachineParts) → IsLegal m → (client : ℕ) → client
 client-open m legal client bound =
     let many = opens-many m.state 0 m.sessions m.opens legal.opens in omega (arith, many, legal.clients, bound)
 
+pub many-opens : (m : MachineParts) → IsLegal m → length m.opens ≡ greatest_client + 1
+many-opens m legal = opens-many m.state 0 m.sessions m.opens legal.opens ∙ legal.clients
+
 -- its session and its open request
 pub own-at : (m : MachineParts) → IsLegal m → (client : ℕ) → client ≤ greatest_client → (d : Session) (e : Option Open)
     → IsSession m.state (get_or m.sessions client d) × IsOpen m.state client (get_or m.sessions client d) (get_or m.opens client e)

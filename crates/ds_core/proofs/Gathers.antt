@@ -8,8 +8,9 @@ use Rattle.std.proofs.lemmas.List.{append-nil}
 use Rattle.ds_base.specs.Limits.{first_drawn_id}
 use Rattle.ds_request.specs.declared.call.Call.{Call}
 use Rattle.ds_request.specs.declared.call.Call.TheVariants as call
+use Rattle.ds_request.specs.declared.call.Request.{Request}
 use Rattle.ds_model.specs.Asked.{has_shard}
-use Rattle.ds_model.specs.Sessions.{Session, count_of, first_session}
+use Rattle.ds_model.specs.Sessions.{Session, count_of}
 use Rattle.ds_plans.specs.Due.{GatheredParts, IsGathered, AppliedWithin, ids_asked, ids_of, ids_from}
 use Rattle.ds_plans.specs.States.{StoreParts, StateParts, IsSession, Grows, AreUpTo}
 use Rattle.ds_plans.proofs.Gatherings.{gathered-applied, gathered-first, gathered-nothing, gathered-place, gathered-view}
@@ -18,7 +19,7 @@ use Rattle.ds_plans.proofs.Grown.{up_to-same}
 use Rattle.ds_plans.proofs.ReadPlans.{up_to-count}
 use Rattle.ds_core.specs.declared.opened.Open.{Open}
 use Rattle.ds_core.specs.Happenings.{IsSilent, asked_of}
-use Rattle.ds_core.specs.Machines.{MachineParts, IsLegal, IsOpen, IsSameRun, held_by, just_opened}
+use Rattle.ds_core.specs.Machines.{MachineParts, IsLawfulRequest, IsLegal, IsOpen, IsSameRun, held_by, just_opened}
 use Rattle.ds_core.specs.Steps.{AppliedTo, DrawnTo, ViewedTo, first_place, touched, with_gathered}
 use Rattle.ds_core.proofs.Legals.{machine_stepped, open-at, opens-many, set-same, stepped-legal, open-grown}
 use Rattle.ds_core.proofs.Turns.{asked-same}
@@ -270,9 +271,19 @@ module _ (m : MachineParts) (legal : IsLegal m) (client : ℕ) (d : Session) (no
           drawn_ids_are p.request.call (record (p.gathered) { first = Some m.state.store.next }) m.state.store.next count refl asks
           ∙ ap (λ ids. ids ++ range_with_len m.state.store.next count) (sym (ap held_by was ∙ none_ids p.request.call p.gathered first))
 
--- nothing changes but how far the journal was looked at
-pub still-step : (m : MachineParts) → IsLegal m → (new : StateParts) → new.store ≡ m.state.store
-    → new.applied.counts ≡ m.state.applied.counts → IsLegal (record m { state = new })
-still-step m legal new store counts =
-    let stepped = raise-step m legal 0 (first_session 0) None (omega (arith, legal.clients)) new store
-    (subst (AreUpTo m.state.applied.counts) (sym counts) (up_to-same m.state.applied.counts)) in stepped.0
+-- a request is opened, which has gathered nothing
+pub open-step : (m : MachineParts) → IsLegal m → (client : ℕ) (d : Session) (none : Option Open) (r : Request)
+    → client < length m.sessions → length m.state.applied.counts ≡ m.state.store.shards
+    → IsLawfulRequest m.state.store.shards client r → held_by (get_or m.opens client none) ≡ []
+    → IsLegal (record m { opens = slice_set m.opens client (Some (just_opened r m.state.store.shards)) })
+open-step m legal client d none r below many lawful closed =
+    let had = open-at m.state 0 m.sessions m.opens client d none legal.opens below in
+    stepped-legal m legal m.state client d none (Some (just_opened r m.state.store.shards)) below
+    (grows_planned m.state m.state refl (up_to-same m.state.applied.counts)) refl refl refl 0 (omega arith) (
+      lawful.0,
+      lawful.1,
+      lawful.2,
+      gathered-nothing m.state (get_or m.sessions client d) r.call m.state.store.shards many had.0.counts_within,
+    )
+    (none_ids r.call (just_opened r m.state.store.shards).gathered refl
+    ∙ sym (append-nil (held_by (get_or m.opens client none)) ∙ closed))

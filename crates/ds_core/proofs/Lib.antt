@@ -1,5 +1,6 @@
 mod Clients
 mod Cores
+mod GatheredSteps
 mod Gathers
 mod Legals
 mod Meetings

@@ -22,11 +22,6 @@ pub place-own : (s : Session) (g : GatheredParts) (r : Option ℕ) → r ≡ g.p
 place-own s g None is = tt
 place-own s g (Some place) is = inl (sym is)
 
-pub place-touched : (s : Session) (g : GatheredParts) (group : KeyParts) (r : Option ℕ) → r ≡ place_in s.transaction group
-    → IfSome r (IsReadPlace s g)
-place-touched s g group None is = tt
-place-touched s g group (Some place) is = inr (group, sym is)
-
 touched-within : (n : ℕ) (g : KeyParts) (ts : List Touch) (place : ℕ) → All (λ (t : Touch). t.place ≤ n) ts → Some place ≡ touch_place g ts
     → place ≤ n
 touched-within n g [] place all is = cc

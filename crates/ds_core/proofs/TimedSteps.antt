@@ -1,16 +1,23 @@
 -- A step of a client as the machine takes it: what is gathered comes from it.
-use Rattle.std.proofs.Common.{◌≡◌, ℕ, ◌+◌, ◌<◌, ◌≤◌, true, length, ap, sym, ◌∙◌, subst, arith, Option, Some, None, get_or}
+use Rattle.std.proofs.Common.{◌≡◌, ℕ, ◌+◌, ◌<◌, ◌≤◌, true, length, refl, ap, sym, ◌∙◌, subst, arith, Option, Some, None, get_or}
 use Rattle.std.specs.Prelude.{Err, Ok, OnOk, Result, slice_set}
+use Rattle.std.proofs.lemmas.List.{get_or_default}
 use Rattle.ds_base.specs.Limits.{greatest_client}
-use Rattle.ds_model.specs.Sessions.{count_of}
+use Rattle.ds_request.specs.declared.call.Request.{Request}
+use Rattle.ds_reply.specs.declared.reply.Body.{Body}
+use Rattle.ds_model.specs.Sessions.{Session, count_of}
+use Rattle.ds_plans.specs.declared.effect.Effect.{Effect}
 use Rattle.ds_plans.specs.Due.{counts_applied, is_pending}
 use Rattle.ds_plans.specs.States.{StateParts}
+use Rattle.ds_plans.specs.declared.gathered.Step.{Step}
 use Rattle.ds_plans.specs.declared.gathered.Step.TheVariants as steps
 use Rattle.ds_core.specs.declared.opened.Open.{Open}
-use Rattle.ds_core.specs.Machines.{MachineParts, IsLegal}
+use Rattle.ds_core.specs.Happenings.{IsStill}
+use Rattle.ds_core.specs.Machines.{MachineParts, IsLegal, just_opened}
 use Rattle.ds_core.specs.Steps.{AppliedTo, DrawnTo, ViewedTo, touched}
-use Rattle.ds_core.specs.Witnesses.{GathersAt}
-use Rattle.ds_core.proofs.Clients.{client-open}
+use Rattle.ds_core.specs.Witnesses.{GathersAt, IsToldTo, OpensAt, RepliesAt}
+use Rattle.ds_core.proofs.Clients.{client-below, client-open}
+use Rattle.ds_core.proofs.Taking.{opens-ok}
 use Rattle.ds_core.proofs.Witnessing.{apply-gathers, apply-none, apply-quiet, issue-gathers, touch-gathers, view-gathers}
 
 -- `m` are the parts of the machine as it was
@@ -67,3 +74,26 @@ module _ (was m : MachineParts) (is : m ≡ was) (legal : IsLegal was) (client :
       subst (λ x. GathersAt x.state.store.shards (steps.Issue count) client x
       (record m { state = st; opens = slice_set m.opens client new })) is
       (issue-gathers m client old new below m.state.store.shards count st (subst (λ o. DrawnTo count m.state o st new) had drawn))
+
+  -- nothing changes but how far the journal was looked at
+  pub timed-still : (st : StateParts) → st.store ≡ m.state.store → st.applied.counts ≡ m.state.applied.counts
+      → IsStill was (record m { state = st })
+  timed-still st store counts =
+      subst (λ x. IsStill x (record m { state = st })) is (record { rest = refl; store = store; counts = counts })
+
+  -- what is told to the client's open request is told at any default
+  pub timed-told : (st : StateParts) (s : Session) (o : Option Open) (step : Step) (b : Body) (e : Effect) → s ≡ get_or m.sessions client s
+      → o ≡ get_or m.opens client o → IsToldTo st s step o b e
+      → (d : Session) (p : Option Open) → IsToldTo st (get_or m.sessions client d) step (get_or m.opens client p) b e
+  timed-told st s o step b e had asked told d p =
+      subst (λ t. IsToldTo st t step (get_or m.opens client p) b e)
+      (had ∙ get_or_default m.sessions client s d (client-below m (subst IsLegal (sym is) legal) client bound))
+      (subst (λ q. IsToldTo st s step q b e) (asked ∙ get_or_default m.opens client o p below) told)
+
+  pub timed-open : {A E : Type 0} (r : Result A E) (after : MachineParts) (req : Request) (n : ℕ) (new : Option Open)
+      → new ≡ Some (just_opened req n) → OnOk r (RepliesAt steps.Touch client (record m { opens = slice_set m.opens client new }) after)
+      → OnOk r (OpensAt was after)
+  timed-open r after req n new now replies =
+      subst (λ x. OnOk r (OpensAt x after)) is
+      (opens-ok r m after client req n
+      (subst (λ o. OnOk r (RepliesAt steps.Touch client (record m { opens = slice_set m.opens client o }) after)) now replies))

@@ -1,7 +1,8 @@
 -- Each opened request is replied to once.
 use Rattle.std.proofs.Common.{◌≡◌, ℕ, zero, suc, ◌+◌, ◌<◌, List, [], ◌∷◌, ◌++◌, length, map, refl, ap, sym, ◌∙◌, subst, arith}
 use Rattle.std.proofs.Common.{Option, Some, None, get_or, append_assoc}
-use Rattle.ds_base.specs.Limits.{greatest_client}
+use Rattle.ds_base.specs.Limits.{first_drawn_id, greatest_client}
+use Rattle.ds_indexdef.specs.declared.IndexDef.{IndexDef}
 use Rattle.std.proofs.lemmas.List.Elements.{All-append, All-cons, All-nil}
 use Rattle.std.specs.Prelude.{Err, Ok, OnOk, Result, All, flat_map, replicate, slice_get, slice_set, unwrap_or}
 use Rattle.std.specs.Option.{option_map}
@@ -16,11 +17,12 @@ use Rattle.ds_core.specs.declared.opened.Open.{Open}
 use Rattle.ds_core.specs.Courses.{GoesOn, HasHappened, IsPast}
 use Rattle.ds_core.specs.Happenings.{Moment, Said, Happening, Happens, Follow, Speaks, Turn, IsSilent, IsStill}
 use Rattle.ds_core.specs.Happenings.{asked_by, asked_of, opening, first_moment, moment_of}
+use Rattle.ds_model.specs.Sessions.{Session, first_sessions}
 use Rattle.ds_core.specs.Happenings.{event_of, none_asked, said_requests, said_replies, requests_in, replies_in}
 use Rattle.ds_core.specs.Machines.{MachineParts, IsSameRun}
 use Rattle.ds_core.specs.Timelines.{AreTimely, Moves}
 use Rattle.ds_core.specs.Witnesses.{AreWitnessed, IsStepOf, TakesAt}
-use Rattle.ds_core.proofs.Occurring.{moves-then, timely-then}
+use Rattle.ds_core.proofs.Occurring.{moves-then, none-witnessed, timely-then}
 use Rattle.ds_plans.specs.States.{StateParts, StoreParts}
 
 -- ---- what is asked
@@ -161,6 +163,33 @@ turn-then a b c client begins below first second = by first.said second.said fir
           let gone : None ≡ Some z.request = sym (asked-set was client None within) ∙ ap (λ xs. asked_by xs client) (sym one.1)
           ∙ sym (opening-none (asked_by (asked_of b.opens) client)) ∙ two.0 in
           cc
+
+-- ---- nothing has happened
+
+none-asked : (n : ℕ) → asked_of (replicate n None) ≡ replicate n None
+none-asked zero = refl
+none-asked (suc n) = ap (λ rs. None ∷ rs) (none-asked n)
+
+pub made-past : (st : StateParts) (definitions : List IndexDef) (shards : ℕ) (sessions : List Session) (opens : List (Option Open))
+    (requests : List Request) (replies : List Reply)
+    → st.store ≡ record { definitions = definitions; shards = shards; journal = []; next = first_drawn_id }
+    → st.applied.counts ≡ replicate shards 0 → sessions ≡ first_sessions shards → opens ≡ replicate (greatest_client + 1) None
+    → requests ≡ [] → replies ≡ []
+    → IsPast shards (record { state = st; sessions = sessions; opens = opens; requests = requests; replies = replies }) []
+made-past st definitions shards sessions opens requests replies store counts firsts closed no_request no_reply = record {
+  room = ap (λ (x : StoreParts). x.shards) store;
+  follow = λ i. record {
+    journal = ap (λ (x : StoreParts). x.journal) store i;
+    counts = counts i;
+    next = ap (λ (x : StoreParts). x.next) store i;
+    asked = (ap asked_of closed ∙ none-asked (greatest_client + 1)) i;
+  };
+  requests = no_request;
+  replies = no_reply;
+  moves = tt;
+  timely = tt;
+  witnessed = none-witnessed sessions opens shards (greatest_client + 1) firsts closed;
+}
 
 -- ---- a turn more
 
@@ -313,6 +342,7 @@ pub goes-ok : {A E : Type 0} (r : Result A E) (a b c : MachineParts) → GoesOn 
 goes-ok (Ok x) a b c first second = goes-then a b c first second
 goes-ok (Err e) a b c first second = tt
 
-pub still-goes-ok : {A E : Type 0} (r : Result A E) (m n : MachineParts) → OnOk r (IsStill m n) → OnOk r (GoesOn m n)
-still-goes-ok (Ok x) m n still = goes-still m n still
-still-goes-ok (Err e) m n still = tt
+pub goes-turn-ok : {A E : Type 0} (r : Result A E) (m n : MachineParts) (step : Step) (client : ℕ) → OnOk r (Turn m n client None)
+    → OnOk r (TakesAt m.state.store.shards step client m n) → OnOk r (IsSameRun m n) → OnOk r (GoesOn m n)
+goes-turn-ok (Ok x) m n step client turn takes same = goes-turn m n step client turn takes same
+goes-turn-ok (Err e) m n step client turn takes same = tt

@@ -2,6 +2,7 @@
 ghost use Rattle.std.specs.Prelude.{◌≡◌, ◌≤◌, ◌<◌, None, length, All, IfOk, IfSome, OnOk, IsTrue};
 ghost use Rattle.ds_base.specs.Limits.{greatest_client, most_shards};
 ghost use Rattle.ds_request.specs.Lawful.{IsLawfulCall};
+ghost use Rattle.ds_model.specs.Sessions.{Session as SessionParts};
 ghost use Rattle.ds_core.specs.Courses.{GoesOn};
 ghost use Rattle.ds_core.specs.Happenings.{IsStill};
 ghost use Rattle.ds_core.specs.Machines.{IsLegal, IsSameRun};
@@ -31,10 +32,17 @@ impl Machine {
             self.finish_client(alloc, client)?;
         }
         // nothing is missing then
-        if !all_closed(self.opens.as_slice()) {
+        if !self.is_closed() {
             return Err(AllocError);
         }
         Ok(())
+    }
+
+    /// Whether no client has a request open.
+    fn is_closed(&self) -> bool
+        ensures { IsTrue result → All (λ o. o ≡ None) self.now.opens }
+    {
+        all_closed(self.opens.as_slice())
     }
 
     /// Takes the missing steps of one client.
@@ -46,14 +54,39 @@ impl Machine {
         ensures goes { OnOk result (GoesOn self.old self.new) }
     {
         self.take_missing(alloc, client, Step::Touch)?;
+        self.issue_missing(alloc, client)?;
+        self.view_each(alloc, client)?;
+        self.take_missing(alloc, client, Step::Commit)
+    }
+
+    /// The Issue of the ids that the client's open request waits for.
+    fn issue_missing(&mut self, alloc: Global, client: u32) -> Result<(), NoMemory>
+        requires legal { IsLegal self.old }
+        requires client { client ≤ greatest_client }
+        ensures legal { OnOk result (IsLegal self.new) }
+        ensures same { OnOk result (IsSameRun self.old self.new) }
+        ensures goes { OnOk result (GoesOn self.old self.new) }
+    {
         let ids = ids_missing(&self.opens[client as usize]);
-        if ids >= 1 {
-            self.take(alloc, client, Step::Issue { count: ids })?;
+        if ids == 0 {
+            return Ok(());
         }
-        for shard in 0..self.state.shards() {
+        self.take(alloc, client, Step::Issue { count: ids })
+    }
+
+    /// The missing View of each shard.
+    fn view_each(&mut self, alloc: Global, client: u32) -> Result<(), NoMemory>
+        requires legal { IsLegal self.old }
+        requires client { client ≤ greatest_client }
+        ensures legal { OnOk result (IsLegal self.new) }
+        ensures same { OnOk result (IsSameRun self.old self.new) }
+        ensures goes { OnOk result (GoesOn self.old self.new) }
+    {
+        let shards = self.state.shards();
+        for shard in 0..shards {
             self.view_missing(alloc, client, shard)?;
         }
-        self.take_missing(alloc, client, Step::Commit)
+        Ok(())
     }
 
     fn take_missing(&mut self, alloc: Global, client: u32, step: Step) -> Result<(), NoMemory>
@@ -142,12 +175,27 @@ fn place_covered(
     requires most { shards ≤ most_shards }
     ensures { IfOk result (λ r. IfSome r (ReadsUpTo session.now open.now)) }
 {
-    let Some(open) = open else {
-        return Ok(None);
-    };
+    match open {
+        Some(open) => place_of(alloc, session, open, shard, shards),
+        None => Ok(None),
+    }
+}
+
+fn place_of(
+    alloc: Global,
+    session: &Session,
+    open: &Open,
+    shard: u32,
+    shards: u32,
+) -> Result<Option<u64>, NoMemory>
+    requires lawful { IsLawfulCall open.now.request.call }
+    requires least { 1 ≤ shards }
+    requires most { shards ≤ most_shards }
+    ensures { IfOk result (λ r. IfSome r (IsReadPlace session.now open.now.gathered)) }
+{
     match &open.request.call {
-        Call::Settle => Ok(open.gathered.place()),
-        Call::Apply { shard: of } if *of == shard as u64 => Ok(open.gathered.place()),
+        Call::Settle => Ok(place_touched(open)),
+        Call::Apply { shard: of } if *of == shard as u64 => Ok(place_touched(open)),
         call => match group_read(alloc, call)? {
             Some(group) if shard_of(alloc, &group, shards)? == shard => Ok(place_read(
                 session, open, &group,
@@ -157,12 +205,20 @@ fn place_covered(
     }
 }
 
+/// The place of the request's Touch.
+fn place_touched(open: &Open) -> Option<u64>
+    ensures { (s : SessionParts) → IfSome result (IsReadPlace s open.now.gathered) }
+{
+    open.gathered.place()
+}
+
+/// The place at which the group is read: that of its touch by the client's transaction, else that of the request's Touch.
 fn place_read(session: &Session, open: &Open, group: &Key) -> Option<u64>
     ensures { IfSome result (IsReadPlace session.now open.now.gathered) }
 {
     match session.touch_place(group) {
         Some(place) => Some(place),
-        None => open.gathered.place(),
+        None => place_touched(open),
     }
 }
 

@@ -1,5 +1,5 @@
 //! The machine of events: one store, and for each client what it has seen and its open request.
-ghost use Rattle.std.specs.Prelude.{◌≡◌, ◌≢◌, ◌≤◌, ◌<◌, [], false, None, Some, Option, get_or, is_some, length, slice_set, IfOk, OnOk, IsTrue};
+ghost use Rattle.std.specs.Prelude.{◌≡◌, ◌≢◌, ◌≤◌, ◌<◌, [], false, None, Some, Option, get_or, is_some, length, slice_set, IfOk, IfSome, OnOk, IsTrue};
 ghost use Rattle.ds_base.specs.Limits.{greatest_client, most_shards};
 ghost use Rattle.ds_model.specs.Sessions.{Session};
 ghost use Rattle.ds_plans.specs.declared.gathered.Step.{Step};
@@ -82,10 +82,29 @@ impl Machine {
             client,
             begins,
         } = event;
-        if let Some(request) = begins {
-            self.begin(alloc, client, request)?;
-        }
+        self.begin_if(alloc, client, begins)?;
         self.take(alloc, client, step)
+    }
+
+    /// Opens the request, if there is one.
+    fn begin_if(
+        &mut self,
+        alloc: Global,
+        client: u32,
+        begins: Option<Request>,
+    ) -> Result<(), NoMemory>
+        requires legal { IsLegal self.old }
+        requires client { client ≤ greatest_client }
+        requires lawful { IfSome begins (IsLawfulRequest self.old.state.store.shards client) }
+        ensures legal { OnOk result (IsLegal self.new) }
+        ensures same { OnOk result (IsSameRun self.old self.new) }
+        ensures turn { OnOk result (Turn self.old self.new client begins) }
+        ensures timed { OnOk result (OpensAt self.old self.new) }
+    {
+        match begins {
+            Some(request) => self.begin(alloc, client, request),
+            None => Ok(()),
+        }
     }
 
     /// Opens a request, if its client has none open, and replies where it needs no step.

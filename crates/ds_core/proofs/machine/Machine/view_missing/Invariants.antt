@@ -1,6 +1,6 @@
 use Rattle.ds_core.specs.Courses.{GoesOn}
 use Rattle.ds_core.specs.Machines.{IsLegal, IsSameRun}
-use Rattle.ds_core.proofs.finishing.Machine.view_missing.Given as goal
+use Rattle.ds_core.proofs.machine.Machine.view_missing.Given as goal
 
 abbrev pub invariant-loop-entry : goal.invariant-loop-entry
 invariant-loop-entry l = record {

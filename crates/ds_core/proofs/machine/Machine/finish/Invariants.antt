@@ -1,6 +1,6 @@
 use Rattle.ds_core.specs.Courses.{GoesOn}
 use Rattle.ds_core.specs.Machines.{IsLegal, IsSameRun}
-use Rattle.ds_core.proofs.finishing.Machine.finish.Given as goal
+use Rattle.ds_core.proofs.machine.Machine.finish.Given as goal
 
 abbrev pub invariant-loop-client : goal.invariant-loop-client
 invariant-loop-client l = record {

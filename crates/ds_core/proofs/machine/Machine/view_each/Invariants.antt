@@ -1,6 +1,6 @@
 use Rattle.ds_core.specs.Courses.{GoesOn}
 use Rattle.ds_core.specs.Machines.{IsLegal, IsSameRun}
-use Rattle.ds_core.proofs.finishing.Machine.finish_client.Given as goal
+use Rattle.ds_core.proofs.machine.Machine.view_each.Given as goal
 
 abbrev pub invariant-loop-shard : goal.invariant-loop-shard
 invariant-loop-shard l = record {

@@ -1,0 +1,35 @@
+use Rattle.std.proofs.Common.{◌<◌, arith, length, subst, sym}
+use Rattle.ds_core.specs.Machines.{MachineParts}
+use Rattle.ds_core.proofs.Clients.{client-open}
+use Rattle.ds_core.proofs.GatheredSteps.{called-touch}
+use Rattle.ds_core.proofs.TimedSteps.{timed-touch}
+use Rattle.ds_core.proofs.machine.Machine.gather_place.Goals as goal
+
+pub index_mut-requires : goal.index_mut-requires
+index_mut-requires c =
+    let there = subst (λ (x : MachineParts). c.args.client < length x.opens) (sym c.self.view_is)
+    (client-open c.args.self.now c.requires.legal c.args.client c.requires.client) in
+    omega (arith, there, c.self.inside.opens.ok.0)
+
+pub returns-clause-legal : goal.returns-clause-legal
+returns-clause-legal c =
+    let quietly = called-touch _ _ c.self.view_is c.requires.legal c.args.client c.requires.client c.length-length.result
+    c.index_mut.result.now c.touch_open.new.open c.length-length.ensures c.index_mut.ensures.value c.touch_open.ensures in
+    quietly.0
+
+pub returns-clause-same : goal.returns-clause-same
+returns-clause-same c =
+    let quietly = called-touch _ _ c.self.view_is c.requires.legal c.args.client c.requires.client c.length-length.result
+    c.index_mut.result.now c.touch_open.new.open c.length-length.ensures c.index_mut.ensures.value c.touch_open.ensures in
+    quietly.1
+
+pub returns-clause-silent : goal.returns-clause-silent
+returns-clause-silent c =
+    let quietly = called-touch _ _ c.self.view_is c.requires.legal c.args.client c.requires.client c.length-length.result
+    c.index_mut.result.now c.touch_open.new.open c.length-length.ensures c.index_mut.ensures.value c.touch_open.ensures in
+    quietly.2
+
+pub returns-clause-timed : goal.returns-clause-timed
+returns-clause-timed c =
+    timed-touch _ _ c.self.view_is c.requires.legal c.args.client c.requires.client c.length-length.result c.index_mut.result.now
+    c.touch_open.new.open c.length-length.ensures c.index_mut.ensures.value c.touch_open.ensures
