@@ -7,20 +7,20 @@ use Rattle.ds_plans.proofs.Plans.{memory_as}
 use Rattle.ds_plans.proofs.QueryPlans.{group_found, view_by_key}
 use Rattle.ds_plans.proofs.state.State.find_in_group.Goals as goal
 
-pub returns-in_default : goal.returns-in_default
-returns-in_default c = λ call of. memory_as c.args.self.now c.args.session.now c.args.client call c.no_memory.result.body
+pub returns-in_default-clause-plan : goal.returns-in_default-clause-plan
+returns-in_default-clause-plan c = λ call of. memory_as c.args.self.now c.args.session.now c.args.client call c.no_memory.result.body
     c.no_memory.result.effect c.no_memory.ensures.body c.no_memory.ensures.effect
 
-pub returns-in_default-entities : goal.returns-in_default-entities
-returns-in_default-entities c = λ call of. memory_as c.args.self.now c.args.session.now c.args.client call _ _
+pub returns-in_default-entities-clause-plan : goal.returns-in_default-entities-clause-plan
+returns-in_default-entities-clause-plan c = λ call of. memory_as c.args.self.now c.args.session.now c.args.client call _ _
     c.no_memory-in_default-entities.ensures.body c.no_memory-in_default-entities.ensures.effect
 
 pub find-requires-clause-by_key : goal.find-requires-clause-by_key
 find-requires-clause-by_key c = view_by_key _ c.self.inside.applied.lists c.args.read.shard c.args.read.entries
     (ap (map (λ e. e.now)) c.as_slice.ensures.value ∙ c.in-Ok-entities.ensures ∙ c.in-Ok.ensures)
 
-pub returns-in-Ok-find : goal.returns-in-Ok-find
-returns-in-Ok-find c = λ call of.
+pub returns-in-Ok-find-clause-plan : goal.returns-in-Ok-find-clause-plan
+returns-in-Ok-find-clause-plan c = λ call of.
     group_found c.args.self.now c.args.session.now c.args.client call c.args.search of c.args.ready c.requires.prepared
     (subst IsState c.self.view_is c.self.invariant) c.args.read c.requires.reached
     c.in-Ok-find.body (c.in-Ok-find.ensures.found
@@ -28,6 +28,6 @@ returns-in-Ok-find c = λ call of.
     (ap (map (λ e. e.now)) c.as_slice.ensures.value ∙ c.in-Ok-entities.ensures ∙ c.in-Ok.ensures
     ∙ ap (λ (st : StateParts). shard_view st.applied.lists c.args.read.shard c.args.read.entries) c.self.view_is))
 
-pub returns : goal.returns
-returns c = λ call of. memory_as c.args.self.now c.args.session.now c.args.client call _ _ c.no_memory-in-Err.ensures.body
+pub returns-clause-plan : goal.returns-clause-plan
+returns-clause-plan c = λ call of. memory_as c.args.self.now c.args.session.now c.args.client call _ _ c.no_memory-in-Err.ensures.body
     c.no_memory-in-Err.ensures.effect

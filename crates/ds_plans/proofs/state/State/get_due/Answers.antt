@@ -18,4 +18,4 @@ returns-in-Some-clause-plan c =
 pub returns-in-Ok-Some-clause-plan : goal.returns-in-Ok-Some-clause-plan
 returns-in-Ok-Some-clause-plan c =
     inr (due_of c.reached_by.new.self c.args.session.now c.args.client (call.Get c.args.key.now) c.get_reached.result.body
-    c.get_reached.result.effect c.get_reached.ensures refl)
+    c.get_reached.result.effect c.get_reached.ensures.plan refl)

@@ -11,13 +11,13 @@ returns-in-Err-clause-plan c = λ call of. memory_as c.args.self.now c.args.sess
 pub find_in_all_at-requires-clause-shown : goal.find_in_all_at-requires-clause-shown
 find_in_all_at-requires-clause-shown c =
     (gathered_counts c.args.self.now c.args.session.now c.requires.gathered.0 c.args.gathered.now _ c.in-Ok-Some.counts
-    c.requires.gathered.1 c.in-Ok-Some.field-0-is c.in-Ok-Some.ensures).0
+    c.requires.gathered.1 c.in-Ok-Some.field-0-is c.in-Ok-Some.ensures.viewed).0
 
 pub find_in_all_at-requires-clause-within : goal.find_in_all_at-requires-clause-within
 find_in_all_at-requires-clause-within c =
     subst (AreUpTo c.in-Ok-Some.counts) (sym c.pull.ensures.counts)
     (gathered_counts c.args.self.now c.args.session.now c.requires.gathered.0 c.args.gathered.now _ c.in-Ok-Some.counts
-    c.requires.gathered.1 c.in-Ok-Some.field-0-is c.in-Ok-Some.ensures).1
+    c.requires.gathered.1 c.in-Ok-Some.field-0-is c.in-Ok-Some.ensures.viewed).1
 
 pub returns-in-Err-pull-clause-plan : goal.returns-in-Err-pull-clause-plan
 returns-in-Err-pull-clause-plan c = λ call of. memory_as c.pull.new.self c.args.session.now c.args.client call _ _

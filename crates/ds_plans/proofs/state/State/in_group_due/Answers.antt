@@ -24,7 +24,7 @@ find_in_group-requires-clause-reached c =
     (unrefused_group _ c.in_default.ensures.told)
     (subst (λ (st : StoreParts). ReadsAt st.journal c.args.session.now c.args.group c.in-Ok-Some.read.place)
     (sym c.reached_by.ensures.store)
-    (subst (λ m. ReadsAt c.args.self.now.store.journal c.args.session.now c.args.group m) (sym place) c.in-Some-place_due.ensures))
+    (subst (λ m. ReadsAt c.args.self.now.store.journal c.args.session.now c.args.group m) (sym place) c.in-Some-place_due.ensures.stands))
     (subst (λ o. IfSome o (λ (r : GroupRead). IsReached c.reached_by.new.self c.args.group r)) c.in-Ok-Some.field-0-is
     c.in-Ok-Some.ensures.reached)
 

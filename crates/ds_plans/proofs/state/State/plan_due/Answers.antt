@@ -10,11 +10,11 @@ returns-in-Begin-clause-plan c =
     subst (λ (x : Call). IsDuePlan c.args.self.now c.args.session.now c.args.client x (ids_of x c.args.gathered.now)
     c.plan_begin.result.body c.plan_begin.result.effect) (sym c.in-Begin.is)
     (inr (due_of c.args.self.now c.args.session.now c.args.client (call.Begin c.in-Begin.xg) c.plan_begin.result.body
-    c.plan_begin.result.effect c.plan_begin.ensures refl))
+    c.plan_begin.result.effect c.plan_begin.ensures.plan refl))
 
 pub returns-in-Rollback-clause-plan : goal.returns-in-Rollback-clause-plan
 returns-in-Rollback-clause-plan c =
     subst (λ (x : Call). IsDuePlan c.args.self.now c.args.session.now c.args.client x (ids_of x c.args.gathered.now)
     c.plan_rollback.result.body c.plan_rollback.result.effect) (sym c.in-Rollback.is)
     (inr (due_of c.args.self.now c.args.session.now c.args.client call.Rollback c.plan_rollback.result.body
-    c.plan_rollback.result.effect c.plan_rollback.ensures refl))
+    c.plan_rollback.result.effect c.plan_rollback.ensures.plan refl))

@@ -5,9 +5,9 @@ use Rattle.ds_plans.proofs.state.State.settle_due.Goals as goal
 pub settle_at-requires-clause-seen : goal.settle_at-requires-clause-seen
 settle_at-requires-clause-seen c =
     (gathered_counts c.args.self.now c.args.session.now call.Settle c.args.gathered.now _ c.in-Ok-Some.counts c.requires.gathered
-    c.in-Ok-Some.field-0-is c.in-Ok-Some.ensures).0
+    c.in-Ok-Some.field-0-is c.in-Ok-Some.ensures.viewed).0
 
 pub settle_at-requires-clause-within : goal.settle_at-requires-clause-within
 settle_at-requires-clause-within c =
     (gathered_counts c.args.self.now c.args.session.now call.Settle c.args.gathered.now _ c.in-Ok-Some.counts c.requires.gathered
-    c.in-Ok-Some.field-0-is c.in-Ok-Some.ensures).1
+    c.in-Ok-Some.field-0-is c.in-Ok-Some.ensures.viewed).1
