@@ -2,6 +2,7 @@
 use Rattle.std.proofs.Common.{◌≡◌, ◌⊎◌, inl, inr, ℕ, ◌+◌, Bool, true, false, List, [], ◌∷◌, ◌++◌, length, map, cond, refl, ap, sym, ◌∙◌, subst}
 use Rattle.std.proofs.Common.{Option, Some, None, arith}
 use Rattle.std.specs.Prelude.{IfSome, IsTrue, Err, Ok, Result, ◌&&◌, ◌||◌, is_some}
+use Rattle.std.proofs.lemmas.Bool.{eqb-true}
 use Rattle.ds_base.specs.declared.results.Item.{Item}
 use Rattle.ds_base.specs.declared.results.Seen.{Seen}
 use Rattle.ds_base.specs.KeyOrder.{same_key}
@@ -36,6 +37,7 @@ use Rattle.ds_plans.specs.Effects.{ids_drawn, store_after, session_after, with_w
 use Rattle.ds_plans.specs.Queries.{told_over}
 use Rattle.ds_plans.specs.States.{StoreParts, StateParts}
 use Rattle.ds_plans.specs.Taken.{is_commit, is_view, is_placed, is_write_due}
+use Rattle.ds_plans.specs.Transactions.{HasTouched}
 use Rattle.ds_plans.specs.Told.{AreNumbersOf, IsPlaceOf, IsSeenBy, IsTold, StandsOncePlaced, ToldAlways, ToldAtPlace, ToldOnceDue}
 use Rattle.ds_plans.specs.Told.{WriteToldOnceDue, is_refusal, is_silent, tells_no_step}
 
@@ -45,7 +47,16 @@ pub commit-is : (step : Step) → is_commit step ≡ true → step ≡ steps.Com
 commit-is steps.Commit is = refl
 commit-is _ is = cc
 
+pub view-is : (shard : ℕ) (step : Step) → is_view shard step ≡ true → step ≡ steps.View shard
+view-is shard (steps.View viewed) is = ap steps.View (eqb-true viewed shard is)
+view-is shard steps.Commit is = cc
+view-is shard _ is = cc
+
 -- ---- places
+
+pub has-transaction : (o : Option Transaction) (ts : List Touch) → HasTouched o ts → is_some o ≡ true
+has-transaction None ts has = absurd has
+has-transaction (Some t) ts has = refl
 
 -- a touch adds no place but its own
 pushed : (g h : KeyParts) (m p : ℕ) (ts : List Touch) → touch_place g (ts ++ record { group = h; place = m } ∷ []) ≡ Some p

@@ -1,5 +1,5 @@
 -- A search that is refused is told no number of a step.
-use Rattle.std.proofs.Common.{◌≡◌, ◌⊎◌, inl, inr, Bool, true, List, [], ◌∷◌, cond, refl, ap, sym, ◌∙◌, subst, Option, Some, None, ℕ}
+use Rattle.std.proofs.Common.{◌≡◌, ◌⊎◌, inl, inr, Bool, true, false, List, [], ◌∷◌, cond, refl, ap, sym, ◌∙◌, subst, Option, Some, None, ℕ}
 use Rattle.std.specs.Prelude.{IfSome, Err, Ok, Result, is_some, nat_le, length}
 use Rattle.ds_base.specs.Keys.{KeyParts, root_of}
 use Rattle.ds_base.specs.Limits.{most_groups}
@@ -59,9 +59,9 @@ missing-bare definitions [] = tt
 missing-bare definitions (q ∷ qs) =
     first-bare (missing_body (missing_of q definitions)) (missing_refusal definitions qs ∷ []) (by (missing_of q definitions))
     (first-bare (missing_refusal definitions qs) [] (missing-bare definitions qs) tt) where
-  by : (o : Option Missing) → IsBare (missing_body o)
-  by None = tt
-  by (Some m) = refl
+      by : (o : Option Missing) → IsBare (missing_body o)
+      by None = tt
+      by (Some m) = refl
 
 new-bare : (several full none : Bool) (g : Option KeyParts)
     → IsBare (cond several (cond full (Some body.TooManyGroups) None) (cond none None (Some (body.SecondGroup g))))
@@ -105,7 +105,7 @@ unread-bare c b (inl memory) = ap tells_no_step memory
 unread-bare (call.Query namespace kind ancestor filters orders select offset limit start end cursor) b (inr is) = cc
 unread-bare (call.Gql namespace text args names start end cursor) b (inr is) =
     by (statement_search namespace start end cursor) (statement_of text (record { args = args; names = names })) is where
-  by : (f : Statement → Asked.Search) (r : Result Statement ℕ) → Some (gql_search f r) ≡ Some (Err b) → tells_no_step b ≡ true
-  by f (Ok s) is = cc
-  by f (Err place) is = (let e : b ≡ body.BadGql place = cc in ap tells_no_step e)
+      by : (f : Statement → Asked.Search) (r : Result Statement ℕ) → Some (gql_search f r) ≡ Some (Err b) → tells_no_step b ≡ true
+      by f (Ok s) is = cc
+      by f (Err place) is = (let e : b ≡ body.BadGql place = cc in ap tells_no_step e)
 unread-bare _ b (inr is) = cc

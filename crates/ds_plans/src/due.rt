@@ -11,7 +11,7 @@ ghost use Rattle.ds_plans.specs.declared.gathered.Step.{Step};
 ghost use Rattle.ds_plans.specs.Due.{AreCovering, GatheredParts, IsDuePlan, IsGathered, ids_of};
 ghost use Rattle.ds_plans.specs.Reads.{IsPulled};
 ghost use Rattle.ds_plans.specs.States.{AreUpTo, IsSession};
-ghost use Rattle.ds_plans.specs.Told.{IsTold, ToldByNumbers, ToldSettled};
+ghost use Rattle.ds_plans.specs.Told.{AreViewsOf, IsTold, ToldByNumbers, ToldSettled};
 
 use crate::effect::{CountSeen, CountsSeen, Effect, Plan};
 use crate::gathered::{Gathered, Step};
@@ -71,7 +71,7 @@ impl State {
     fn commit_due(&self, alloc: Global, session: &Session, client: u32, step: Step) -> Option<Plan>
         requires { IsSession self.now session.now }
         ensures plan { IfSome result (λ p. IsDuePlan self.now session.now client Call.Commit [] p.body p.effect) }
-        ensures told { IfSome result (λ p. (g : GatheredParts) → IsTold self.now session.now g step p.body p.effect) }
+        ensures told { (g : GatheredParts) → IfSome result (λ p. IsTold self.now session.now g step p.body p.effect) }
     {
         if step.is_commit() || !session.in_transaction() {
             return Some(self.plan_commit(alloc, session, client));
@@ -122,7 +122,7 @@ impl State {
         requires seen { IsSession self.old session.now }
         requires gathered { IsGathered self.old session.now Call.Settle gathered.now }
         ensures plan { IfSome result (λ p. IsDuePlan self.new session.now client Call.Settle [] p.body p.effect) }
-        ensures told { IfSome result (λ p. (step : Step) → IsTold self.new session.now gathered.now step p.body p.effect) }
+        ensures told { (step : Step) → IfSome result (λ p. IsTold self.new session.now gathered.now step p.body p.effect) }
         ensures store { self.new.store ≡ self.old.store }
         ensures counts { self.new.applied.counts ≡ self.old.applied.counts }
     {
@@ -153,7 +153,8 @@ impl State {
         requires seen { AreUpTo session.now.counts counts }
         requires within { AreUpTo counts self.old.applied.counts }
         ensures plan { IfSome result (λ p. IsDuePlan self.new session.now client Call.Settle [] p.body p.effect) }
-        ensures told { IfSome result (λ p. ToldSettled self.new session.now place counts p.body p.effect) }
+        ensures told { (g : GatheredParts) (step : Step) → g.place ≡ Some place → AreViewsOf g counts
+            → IfSome result (λ p. IsTold self.new session.now g step p.body p.effect) }
         ensures store { self.new.store ≡ self.old.store }
         ensures counts { self.new.applied.counts ≡ self.old.applied.counts }
     {

@@ -204,7 +204,7 @@ impl State {
         requires seen { IsSession self.old session.now }
         requires gathered { (call : Call) × IsGathered self.old session.now call gathered.now }
         ensures plan { IfSome result (λ p. (call : Call) → IsSearchOf call search → IsPlan self.new session.now client call p.body p.effect) }
-        ensures told { IfSome result (λ p. (step : Step) → IsTold self.new session.now gathered.now step p.body p.effect) }
+        ensures told { (step : Step) → IfSome result (λ p. IsTold self.new session.now gathered.now step p.body p.effect) }
         ensures store { self.new.store ≡ self.old.store }
         ensures counts { self.new.applied.counts ≡ self.old.applied.counts }
     {

@@ -64,7 +64,8 @@ impl State {
         requires outside { session.now.transaction ≡ None }
         requires seen { IsSession self.now session.now }
         ensures plan { IfSome result (λ p. IsWritePlan self.now session.now client write drawn p.at p.effect) }
-        ensures told { IfSome result (λ p. (touch : Option ℕ) → WriteToldOnceDue self.now session.now touch drawn (group_of write) p.at p.effect) }
+        ensures told { (touch : Option ℕ)
+            → IfSome result (λ p. WriteToldOnceDue self.now session.now touch drawn (group_of write) p.at p.effect) }
     {
         let next = next_above(write.key().elems().as_slice());
         let Ok(draft) = draft_of(alloc, client, write) else {

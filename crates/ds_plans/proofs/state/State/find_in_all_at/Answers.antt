@@ -4,6 +4,13 @@ use Rattle.ds_model.specs.Sessions.{counted_place}
 use Rattle.ds_plans.specs.States.{StateParts, AreUpTo, IsState}
 use Rattle.ds_plans.proofs.DuePlans.{all_found_at, counts-listed}
 use Rattle.ds_plans.proofs.Plans.{memory_as}
+use Rattle.std.proofs.Common.{refl}
+use Rattle.ds_base.specs.declared.results.Seen.TheVariants as seen
+use Rattle.ds_applied.specs.AppliedLists.{shard_views}
+use Rattle.ds_applied.specs.ByKey.{sorted_by_key}
+use Rattle.ds_plans.specs.declared.effect.Effect.TheVariants as effect
+use Rattle.ds_plans.specs.Told.{AreViewsOf}
+use Rattle.ds_plans.proofs.ToldPlans.{kept-told, search-numbers}
 use Rattle.ds_plans.proofs.state.State.find_in_all_at.Goals as goal
 
 pub returns-in_default-clause-plan : goal.returns-in_default-clause-plan
@@ -47,3 +54,11 @@ returns-in-Ok-find_at_counts-clause-plan c = λ call of.
 pub returns-clause-plan : goal.returns-clause-plan
 returns-clause-plan c = λ call of. memory_as c.args.self.now c.args.session.now c.args.client call c.no_memory-in-Err.result.body
     c.no_memory-in-Err.result.effect c.no_memory-in-Err.ensures.body c.no_memory-in-Err.ensures.effect
+
+pub returns-in-Ok-find_at_counts-clause-told : goal.returns-in-Ok-find_at_counts-clause-told
+returns-in-Ok-find_at_counts-clause-told c = λ g step viewed.
+    kept-told c.args.self.now c.args.session.now c.in-Ok-find_at_counts.body g step
+    (effect.SeeCounts (record { commit = c.counted_place-commit.result; counts = c.args.counts }))
+    (search-numbers c.args.self.now c.args.session.now g step c.args.search c.args.ready.normal c.args.ready.window
+    (sorted_by_key (shard_views c.args.self.now.applied.lists c.in-Ok.told)) (seen.Counts c.in-Ok.told) c.in-Ok-find_at_counts.body
+    c.in-Ok-find_at_counts.ensures.found (subst (AreViewsOf g) (sym c.in-Ok.ensures.copied) viewed)) refl refl

@@ -5,6 +5,7 @@ use Rattle.ds_plans.specs.Queries.{told_over}
 use Rattle.ds_plans.specs.States.{StateParts, IsState}
 use Rattle.ds_plans.proofs.Plans.{memory_as}
 use Rattle.ds_plans.proofs.QueryPlans.{group_found, view_by_key}
+use Rattle.ds_plans.proofs.ToldPlans.{read-told, search-numbers}
 use Rattle.ds_plans.proofs.state.State.find_in_group.Goals as goal
 
 pub returns-in_default-clause-plan : goal.returns-in_default-clause-plan
@@ -31,3 +32,9 @@ returns-in-Ok-find-clause-plan c = λ call of.
 pub returns-clause-plan : goal.returns-clause-plan
 returns-clause-plan c = λ call of. memory_as c.args.self.now c.args.session.now c.args.client call _ _ c.no_memory-in-Err.ensures.body
     c.no_memory-in-Err.ensures.effect
+
+pub returns-in-Ok-find-clause-told : goal.returns-in-Ok-find-clause-told
+returns-in-Ok-find-clause-told c = λ g step place.
+    read-told c.args.self.now c.args.session.now c.in-Ok-find.body g step c.args.read
+    (search-numbers c.args.self.now c.args.session.now g step c.args.search c.args.ready.normal c.args.ready.window
+    (map (λ e. e.now) c.as_slice.result.now) (seen.Place c.args.read.place) c.in-Ok-find.body c.in-Ok-find.ensures.found place) place

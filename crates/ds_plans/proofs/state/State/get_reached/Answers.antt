@@ -5,6 +5,8 @@ use Rattle.ds_model.specs.Results.{entity_of}
 use Rattle.ds_plans.specs.States.{StateParts, IsState}
 use Rattle.ds_plans.proofs.Plans.{memory_as}
 use Rattle.ds_plans.proofs.ReadPlans.{get_planned}
+use Rattle.ds_reply.specs.declared.reply.Body.TheVariants as body
+use Rattle.ds_plans.proofs.ToldPlans.{read-told}
 use Rattle.ds_plans.proofs.state.State.get_reached.Goals as goal
 
 pub returns-in_default-clause-plan : goal.returns-in_default-clause-plan
@@ -22,3 +24,7 @@ returns-clause-plan c =
     c.args.read c.requires.reached c.requires.stands c.requires.allowed c.in-Ok-copy_found.entity
     (c.in-Ok-copy_found.ensures ∙ c.get.ensures ∙ ap (λ es. entity_of es c.args.key.now)
     (c.in-Ok.ensures ∙ ap (λ (st : StateParts). shard_view st.applied.lists c.args.read.shard c.args.read.entries) c.self.view_is))
+
+pub returns-clause-told : goal.returns-clause-told
+returns-clause-told c = λ g step place.
+    read-told c.args.self.now c.args.session.now (body.Get c.in-Ok-copy_found.entity c.args.read.place) g step c.args.read place place

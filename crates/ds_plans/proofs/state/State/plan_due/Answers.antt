@@ -18,3 +18,15 @@ returns-in-Rollback-clause-plan c =
     c.plan_rollback.result.body c.plan_rollback.result.effect) (sym c.in-Rollback.is)
     (inr (due_of c.args.self.now c.args.session.now c.args.client call.Rollback c.plan_rollback.result.body
     c.plan_rollback.result.effect c.plan_rollback.ensures.plan refl))
+
+pub returns-in-Begin-clause-told : goal.returns-in-Begin-clause-told
+returns-in-Begin-clause-told c = c.plan_begin.ensures.told c.args.gathered.now c.args.step
+
+pub returns-in-Rollback-clause-told : goal.returns-in-Rollback-clause-told
+returns-in-Rollback-clause-told c = c.plan_rollback.ensures.told c.args.gathered.now c.args.step
+
+pub returns-in-Commit-clause-told : goal.returns-in-Commit-clause-told
+returns-in-Commit-clause-told c = c.commit_due.ensures.told c.args.gathered.now
+
+pub returns-in-Settle-clause-told : goal.returns-in-Settle-clause-told
+returns-in-Settle-clause-told c = c.settle_due.ensures.told c.args.step
