@@ -8,6 +8,8 @@ mod PutPlans
 mod QueryPlans
 mod Raises
 pub mod ReadPlans
+mod ToldPlans
+mod ToldRefusals
 mod TransactionPlans
 mod TransactionRefusals
 mod WriteAnswers

@@ -46,7 +46,7 @@ inside-fine None is = cc
 inside-fine (Some t) is = refl
 
 -- the place of a conflict is that of the check
-conflict-place : (last : KeyParts → Option ℕ) (place i : ℕ) (touched : List Touch) (x : Conflict)
+pub conflict-place : (last : KeyParts → Option ℕ) (place i : ℕ) (touched : List Touch) (x : Conflict)
     → conflict_from last place i touched ≡ Some x → x.place ≡ place
 conflict-place last place i [] x is = cc
 conflict-place last place i (t ∷ ts) x is = by (after_place t.place (last t.group)) is (conflict-place last place (i + 1) ts x) where

@@ -5,5 +5,7 @@ pub mod Queries
 pub mod Reads
 pub mod Refused
 pub mod States
+pub mod Taken
+pub mod Told
 pub mod Transactions
 pub mod WritePlans

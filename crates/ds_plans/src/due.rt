@@ -7,9 +7,11 @@ ghost use Rattle.ds_model.specs.Asked.{has_shard};
 ghost use Rattle.ds_model.specs.Answers.{AppliedCount};
 ghost use Rattle.ds_model.specs.Groups.{IsSeenPlace};
 ghost use Rattle.ds_model.specs.Sessions.{count_of};
-ghost use Rattle.ds_plans.specs.Due.{AreCovering, IsDuePlan, IsGathered, ids_of};
+ghost use Rattle.ds_plans.specs.declared.gathered.Step.{Step};
+ghost use Rattle.ds_plans.specs.Due.{AreCovering, GatheredParts, IsDuePlan, IsGathered, ids_of};
 ghost use Rattle.ds_plans.specs.Reads.{IsPulled};
 ghost use Rattle.ds_plans.specs.States.{AreUpTo, IsSession};
+ghost use Rattle.ds_plans.specs.Told.{AreViewsOf, IsTold, ToldByNumbers, ToldSettled};
 
 use crate::effect::{CountSeen, CountsSeen, Effect, Plan};
 use crate::gathered::{Gathered, Step};
@@ -39,6 +41,7 @@ impl State {
         requires seen { IsSession self.old session.now }
         requires gathered { IsGathered self.old session.now call gathered.now }
         ensures plan { IfSome result (λ p. IsDuePlan self.new session.now client call (ids_of call gathered.now) p.body p.effect) }
+        ensures told { IfSome result (λ p. IsTold self.new session.now gathered.now step p.body p.effect) }
         ensures store { self.new.store ≡ self.old.store }
         ensures counts { self.new.applied.counts ≡ self.old.applied.counts }
     {
@@ -67,7 +70,8 @@ impl State {
     /// A commit waits for a Commit.
     fn commit_due(&self, alloc: Global, session: &Session, client: u32, step: Step) -> Option<Plan>
         requires { IsSession self.now session.now }
-        ensures { IfSome result (λ p. IsDuePlan self.now session.now client Call.Commit [] p.body p.effect) }
+        ensures plan { IfSome result (λ p. IsDuePlan self.now session.now client Call.Commit [] p.body p.effect) }
+        ensures told { (g : GatheredParts) → IfSome result (λ p. IsTold self.now session.now g step p.body p.effect) }
     {
         if step.is_commit() || !session.in_transaction() {
             return Some(self.plan_commit(alloc, session, client));
@@ -87,8 +91,9 @@ impl State {
         requires some { 1 ≤ count }
         requires seen { IsSession self.now session.now }
         requires gathered { IsGathered self.now session.now (Call.AllocateIds count) gathered.now }
-        ensures { IfSome result (λ p. IsDuePlan self.now session.now client (Call.AllocateIds count)
+        ensures plan { IfSome result (λ p. IsDuePlan self.now session.now client (Call.AllocateIds count)
             (ids_of (Call.AllocateIds count) gathered.now) p.body p.effect) }
+        ensures told { IfSome result (λ p. IsTold self.now session.now gathered.now step p.body p.effect) }
     {
         let next = self.book.next();
         match gathered.first() {
@@ -117,6 +122,7 @@ impl State {
         requires seen { IsSession self.old session.now }
         requires gathered { IsGathered self.old session.now Call.Settle gathered.now }
         ensures plan { IfSome result (λ p. IsDuePlan self.new session.now client Call.Settle [] p.body p.effect) }
+        ensures told { (step : Step) → IfSome result (λ p. IsTold self.new session.now gathered.now step p.body p.effect) }
         ensures store { self.new.store ≡ self.old.store }
         ensures counts { self.new.applied.counts ≡ self.old.applied.counts }
     {
@@ -147,6 +153,8 @@ impl State {
         requires seen { AreUpTo session.now.counts counts }
         requires within { AreUpTo counts self.old.applied.counts }
         ensures plan { IfSome result (λ p. IsDuePlan self.new session.now client Call.Settle [] p.body p.effect) }
+        ensures told { (g : GatheredParts) (step : Step) → g.place ≡ Some place → AreViewsOf g counts
+            → IfSome result (λ p. IsTold self.new session.now g step p.body p.effect) }
         ensures store { self.new.store ≡ self.old.store }
         ensures counts { self.new.applied.counts ≡ self.old.applied.counts }
     {
@@ -189,7 +197,8 @@ impl State {
         requires within { AreUpTo counts self.now.applied.counts }
         requires pulled { IsPulled self.now }
         requires covering { AreCovering self.now place counts }
-        ensures { IsDuePlan self.now session.now client Call.Settle [] result.body result.effect }
+        ensures plan { IsDuePlan self.now session.now client Call.Settle [] result.body result.effect }
+        ensures told { ToldSettled self.now session.now place counts result.body result.effect }
     {
         let Ok(applied) = counts.copy(alloc) else {
             return Plan::no_memory();
@@ -222,6 +231,7 @@ impl State {
         requires seen { IsSession self.old session.now }
         requires gathered { IsGathered self.old session.now (Call.Apply shard) gathered.now }
         ensures plan { IfSome result (λ p. IsDuePlan self.new session.now client (Call.Apply shard) [] p.body p.effect) }
+        ensures told { IfSome result (λ p. IsTold self.new session.now gathered.now step p.body p.effect) }
         ensures store { self.new.store ≡ self.old.store }
         ensures counts { self.new.applied.counts ≡ self.old.applied.counts }
     {
@@ -255,7 +265,9 @@ impl State {
         requires outside { session.now.transaction ≡ None }
         requires place { IsSeenPlace self.now.store.journal session.now place }
         requires pulled { IsPulled self.now }
-        ensures { IfSome result (λ p. IsDuePlan self.now session.now client (Call.Apply shard) [] p.body p.effect) }
+        requires touched { gathered.now.place ≡ Some place }
+        ensures plan { IfSome result (λ p. IsDuePlan self.now session.now client (Call.Apply shard) [] p.body p.effect) }
+        ensures told { IfSome result (λ p. IsTold self.now session.now gathered.now step p.body p.effect) }
     {
         let up_to = self.applied.entries_up_to(shard, place);
         let applied = self.applied.count(shard);
@@ -286,7 +298,8 @@ impl State {
         requires within { count ≤ count_of self.now.applied.counts shard }
         requires applied { AppliedCount applied (count_of session.now.counts shard)
             (entries_by self.now.store.journal self.now.store.shards shard place) count }
-        ensures { IsDuePlan self.now session.now client (Call.Apply shard) [] result.body result.effect }
+        ensures plan { IsDuePlan self.now session.now client (Call.Apply shard) [] result.body result.effect }
+        ensures told { ToldByNumbers self.now session.now (Body.Apply applied count place shard) result.body result.effect }
     {
         // for the proof alone: no more is applied than there is
         let _applied = self.applied.count(shard);

@@ -6,10 +6,12 @@ ghost use Rattle.ds_request.specs.declared.call.Call.{Call};
 ghost use Rattle.ds_request.specs.Lawful.{IsLawfulCall};
 ghost use Rattle.ds_model.specs.Groups.{ReadsAt};
 ghost use Rattle.ds_protocol.specs.Searches.{IsLawfulSearch, IsSearchOf};
+ghost use Rattle.ds_plans.specs.declared.gathered.Step.{Step};
 ghost use Rattle.ds_plans.specs.Due.{IsDuePlan, IsGathered, ids_of};
 ghost use Rattle.ds_plans.specs.Queries.{IsPrepared};
 ghost use Rattle.ds_plans.specs.Reads.{IsPulled, IsReached};
 ghost use Rattle.ds_plans.specs.States.{AreUpTo, IsSession};
+ghost use Rattle.ds_plans.specs.Told.{IsPlaceOf, IsTold, ToldAtCounts};
 ghost use Rattle.ds_plans.specs.Answered.{IsPlan};
 
 use crate::effect::{CountsSeen, Effect, GroupRead, Plan};
@@ -36,6 +38,7 @@ impl State {
         requires seen { IsSession self.old session.now }
         requires gathered { IsGathered self.old session.now (Call.Get key.now) gathered.now }
         ensures plan { IfSome result (λ p. IsDuePlan self.new session.now client (Call.Get key.now) [] p.body p.effect) }
+        ensures told { IfSome result (λ p. IsTold self.new session.now gathered.now step p.body p.effect) }
         ensures store { self.new.store ≡ self.old.store }
         ensures counts { self.new.applied.counts ≡ self.old.applied.counts }
     {
@@ -59,7 +62,8 @@ impl State {
     fn place_due(&self, session: &Session, group: &Key, gathered: &Gathered) -> Option<u64>
         requires seen { IsSession self.now session.now }
         requires gathered { (call : Call) × IsGathered self.now session.now call gathered.now }
-        ensures { IfSome result (λ m. ReadsAt self.now.store.journal session.now group.now m) }
+        ensures stands { IfSome result (λ m. ReadsAt self.now.store.journal session.now group.now m) }
+        ensures told { IfSome result (IsPlaceOf session.now gathered.now) }
     {
         match session.touch_place(group) {
             Some(place) => Some(place),
@@ -109,6 +113,7 @@ impl State {
         requires seen { IsSession self.old session.now }
         requires gathered { IsGathered self.old session.now call gathered.now }
         ensures plan { IfSome result (λ p. IsDuePlan self.new session.now client call (ids_of call gathered.now) p.body p.effect) }
+        ensures told { IfSome result (λ p. IsTold self.new session.now gathered.now step p.body p.effect) }
         ensures store { self.new.store ≡ self.old.store }
         ensures counts { self.new.applied.counts ≡ self.old.applied.counts }
     {
@@ -133,6 +138,7 @@ impl State {
         requires seen { IsSession self.old session.now }
         requires gathered { (call : Call) × IsGathered self.old session.now call gathered.now }
         ensures plan { IfSome result (λ p. (call : Call) → IsSearchOf call search → IsPlan self.new session.now client call p.body p.effect) }
+        ensures told { IfSome result (λ p. IsTold self.new session.now gathered.now step p.body p.effect) }
         ensures store { self.new.store ≡ self.old.store }
         ensures counts { self.new.applied.counts ≡ self.old.applied.counts }
     {
@@ -166,6 +172,7 @@ impl State {
         requires seen { IsSession self.old session.now }
         requires gathered { (call : Call) × IsGathered self.old session.now call gathered.now }
         ensures plan { IfSome result (λ p. (call : Call) → IsSearchOf call search → IsPlan self.new session.now client call p.body p.effect) }
+        ensures told { IfSome result (λ p. IsTold self.new session.now gathered.now step p.body p.effect) }
         ensures store { self.new.store ≡ self.old.store }
         ensures counts { self.new.applied.counts ≡ self.old.applied.counts }
     {
@@ -197,6 +204,7 @@ impl State {
         requires seen { IsSession self.old session.now }
         requires gathered { (call : Call) × IsGathered self.old session.now call gathered.now }
         ensures plan { IfSome result (λ p. (call : Call) → IsSearchOf call search → IsPlan self.new session.now client call p.body p.effect) }
+        ensures told { (step : Step) → IfSome result (λ p. IsTold self.new session.now gathered.now step p.body p.effect) }
         ensures store { self.new.store ≡ self.old.store }
         ensures counts { self.new.applied.counts ≡ self.old.applied.counts }
     {
@@ -227,7 +235,8 @@ impl State {
         requires shown { AreUpTo session.now.counts counts }
         requires within { AreUpTo counts self.now.applied.counts }
         requires pulled { IsPulled self.now }
-        ensures { (call : Call) → IsSearchOf call search → IsPlan self.now session.now client call result.body result.effect }
+        ensures plan { (call : Call) → IsSearchOf call search → IsPlan self.now session.now client call result.body result.effect }
+        ensures told { ToldAtCounts self.now session.now counts result.body result.effect }
     {
         let Ok(told) = counts.copy(alloc) else {
             return Plan::no_memory();

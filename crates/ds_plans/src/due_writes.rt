@@ -1,14 +1,17 @@
 //! The replies to open puts and deletes, as soon as nothing is missing.
-ghost use Rattle.std.specs.Prelude.{◌≡◌, ◌≤◌, ◌∷◌, [], true, false, None, Some, IfSome, IsTrue};
+ghost use Rattle.std.specs.Prelude.{◌≡◌, ◌≤◌, ◌∷◌, [], true, false, None, Some, IfOk, IfSome, IsTrue};
 ghost use Rattle.ds_base.specs.Entities.{EntityParts};
-ghost use Rattle.ds_base.specs.Keys.{ends_in_id};
+ghost use Rattle.ds_base.specs.Keys.{ends_in_id, root_of};
 ghost use Rattle.ds_log.specs.declared.Write.TheVariants as write;
 ghost use Rattle.ds_request.specs.declared.call.Call.{Call};
 ghost use Rattle.ds_request.specs.Entities.{IsPut};
+ghost use Rattle.ds_model.specs.Groups.{IsSeenPlace};
 ghost use Rattle.ds_plans.specs.Due.{IsDuePlan, IsGathered, ids_of};
 ghost use Rattle.ds_plans.specs.Effects.{store_after};
 ghost use Rattle.ds_plans.specs.Answered.{IsPlan};
 ghost use Rattle.ds_plans.specs.States.{IsSession};
+ghost use Rattle.ds_plans.specs.Taken.{is_write_due};
+ghost use Rattle.ds_plans.specs.Told.{IsTold, ToldAlways, is_silent};
 ghost use Rattle.ds_plans.specs.WritePlans.{IsChecked, IsWritable, SaysWrite};
 
 use crate::effect::{Effect, Plan};
@@ -16,7 +19,7 @@ use crate::gathered::{Gathered, Step};
 use crate::session::Session;
 use crate::state::State;
 use ds_base::limits::MAX_ID;
-use ds_base::{Entity, Key, Properties};
+use ds_base::{Entity, Key, NoMemory, Properties};
 use ds_reply::Body;
 use std::alloc::Global;
 
@@ -36,8 +39,9 @@ impl State {
         requires put { IsPut key incomplete properties }
         requires seen { IsSession self.now session.now }
         requires gathered { IsGathered self.now session.now (Call.Put key incomplete properties) gathered.now }
-        ensures { IfSome result (λ p. IsDuePlan self.now session.now client (Call.Put key incomplete properties)
+        ensures plan { IfSome result (λ p. IsDuePlan self.now session.now client (Call.Put key incomplete properties)
             (ids_of (Call.Put key incomplete properties) gathered.now) p.body p.effect) }
+        ensures told { IfSome result (λ p. IsTold self.now session.now gathered.now step p.body p.effect) }
     {
         match self.check_put(alloc, session, client, key, incomplete, properties) {
             Ok(entity) => self.entity_due(
@@ -49,9 +53,11 @@ impl State {
 
     /// A put that is refused. Where an id was drawn for it, it was not refused before, and so it isn't now.
     fn refused_due(&self, session: &Session, client: u32, gathered: &Gathered, plan: Plan) -> Plan
-        requires { store_after plan.effect self.now.store ≡ self.now.store }
-        ensures { (call : Call) → IsPlan self.now session.now client call plan.body plan.effect
+        requires unchanged { store_after plan.effect self.now.store ≡ self.now.store }
+        requires silent { IsTrue (is_silent plan.body plan.effect) }
+        ensures plan { (call : Call) → IsPlan self.now session.now client call plan.body plan.effect
             → IsDuePlan self.now session.now client call (ids_of call gathered.now) result.body result.effect }
+        ensures told { ToldAlways self.now session.now result.body result.effect }
     {
         match gathered.first() {
             Some(_) => Plan::no_memory(),
@@ -74,8 +80,9 @@ impl State {
         requires ends_in_id { IsTrue incomplete → IsTrue (ends_in_id entity.key.elems) }
         requires seen { IsSession self.now session.now }
         requires gathered { IsGathered self.now session.now (Call.Put entity.key incomplete entity.properties) gathered.now }
-        ensures { IfSome result (λ p. IsDuePlan self.now session.now client (Call.Put entity.key incomplete entity.properties)
+        ensures plan { IfSome result (λ p. IsDuePlan self.now session.now client (Call.Put entity.key incomplete entity.properties)
             (ids_of (Call.Put entity.key incomplete entity.properties) gathered.now) p.body p.effect) }
+        ensures told { IfSome result (λ p. IsTold self.now session.now gathered.now step p.body p.effect) }
     {
         if incomplete {
             self.completed_due(alloc, session, client, entity, gathered, step)
@@ -97,13 +104,38 @@ impl State {
         requires checked { IsChecked self.now session.now entity.key false entity.properties entity }
         requires seen { IsSession self.now session.now }
         requires gathered { IsGathered self.now session.now (Call.Put entity.key false entity.properties) gathered.now }
-        ensures { IfSome result (λ p. IsDuePlan self.now session.now client (Call.Put entity.key false entity.properties)
+        ensures plan { IfSome result (λ p. IsDuePlan self.now session.now client (Call.Put entity.key false entity.properties)
             (ids_of (Call.Put entity.key false entity.properties) gathered.now) p.body p.effect) }
+        ensures told { IfSome result (λ p. IsTold self.now session.now gathered.now step p.body p.effect) }
     {
-        if !self.write_due(alloc, session, entity.key(), gathered, step) {
-            return None;
+        self.say_put_due(alloc, session, client, entity, gathered, step)
+    }
+
+    /// Says that an entity is put whose ids are issued, as soon as nothing is missing for its write.
+    fn say_put_due(
+        &self,
+        alloc: Global,
+        session: &Session,
+        client: u32,
+        entity: Entity,
+        gathered: &Gathered,
+        step: Step,
+    ) -> Option<Plan>
+        requires place { IfSome gathered.now.place (IsSeenPlace self.now.store.journal session.now) }
+        requires writable { IsWritable self.now session.now (write.Put entity) false }
+        requires seen { IsSession self.now session.now }
+        ensures says { IfSome result (λ p. SaysWrite Body.Put self.now session.now client (write.Put entity) false p.body p.effect) }
+        ensures told { IfSome result (λ p. IsTold self.now session.now gathered.now step p.body p.effect) }
+    {
+        match self.write_due(alloc, session, entity.key(), gathered, step) {
+            Ok(due) => {
+                if !due {
+                    return None;
+                }
+                Some(self.say_put(alloc, session, client, entity, false, gathered.place()))
+            }
+            Err(_) => Some(Plan::no_memory()),
         }
-        Some(self.say_put(alloc, session, client, entity, false, gathered.place()))
     }
 
     /// A put of an incomplete key, which the drawn id completes; it is told where none is left.
@@ -120,8 +152,9 @@ impl State {
         requires ends_in_id { IsTrue (ends_in_id entity.key.elems) }
         requires seen { IsSession self.now session.now }
         requires gathered { IsGathered self.now session.now (Call.Put entity.key true entity.properties) gathered.now }
-        ensures { IfSome result (λ p. IsDuePlan self.now session.now client (Call.Put entity.key true entity.properties)
+        ensures plan { IfSome result (λ p. IsDuePlan self.now session.now client (Call.Put entity.key true entity.properties)
             (ids_of (Call.Put entity.key true entity.properties) gathered.now) p.body p.effect) }
+        ensures told { IfSome result (λ p. IsTold self.now session.now gathered.now step p.body p.effect) }
     {
         match gathered.first() {
             Some(first) => self.numbered_due(alloc, session, client, entity, first, gathered, step),
@@ -141,8 +174,9 @@ impl State {
         requires none { gathered.now.first ≡ None }
         requires checked { IsChecked self.now session.now entity.key true entity.properties entity }
         requires seen { IsSession self.now session.now }
-        ensures { IfSome result (λ p. IsDuePlan self.now session.now client (Call.Put entity.key true entity.properties)
+        ensures plan { IfSome result (λ p. IsDuePlan self.now session.now client (Call.Put entity.key true entity.properties)
             (ids_of (Call.Put entity.key true entity.properties) gathered.now) p.body p.effect) }
+        ensures told { IfSome result (λ p. IsTold self.now session.now gathered.now step p.body p.effect) }
     {
         let next = self.book.next();
         if step.is_issue(1) && next >= MAX_ID {
@@ -170,17 +204,15 @@ impl State {
         requires ends_in_id { IsTrue (ends_in_id entity.key.elems) }
         requires seen { IsSession self.now session.now }
         requires gathered { IsGathered self.now session.now (Call.Put entity.key true entity.properties) gathered.now }
-        ensures { IfSome result (λ p. IsDuePlan self.now session.now client (Call.Put entity.key true entity.properties)
+        ensures plan { IfSome result (λ p. IsDuePlan self.now session.now client (Call.Put entity.key true entity.properties)
             (ids_of (Call.Put entity.key true entity.properties) gathered.now) p.body p.effect) }
+        ensures told { IfSome result (λ p. IsTold self.now session.now gathered.now step p.body p.effect) }
     {
         // for the proof alone: it tells what the counter is at most
         let _next = self.book.next();
         let mut entity = entity;
         entity.renumber(id);
-        if !self.write_due(alloc, session, entity.key(), gathered, step) {
-            return None;
-        }
-        Some(self.say_put(alloc, session, client, entity, false, gathered.place()))
+        self.say_put_due(alloc, session, client, entity, gathered, step)
     }
 
     /// A delete waits for a Commit outside a transaction, and for a Touch inside one; a refusal waits for nothing.
@@ -195,9 +227,12 @@ impl State {
     ) -> Option<Plan>
         requires seen { IsSession self.now session.now }
         requires gathered { IsGathered self.now session.now (Call.Delete key) gathered.now }
-        ensures { IfSome result (λ p. IsDuePlan self.now session.now client (Call.Delete key) [] p.body p.effect) }
+        ensures plan { IfSome result (λ p. IsDuePlan self.now session.now client (Call.Delete key) [] p.body p.effect) }
+        ensures told { IfSome result (λ p. IsTold self.now session.now gathered.now step p.body p.effect) }
     {
-        let due = self.write_due(alloc, session, &key, gathered, step);
+        let Ok(due) = self.write_due(alloc, session, &key, gathered, step) else {
+            return Some(Plan::no_memory());
+        };
         let plan = self.plan_delete(alloc, session, client, key, gathered.place());
         if due || plan.is_refusal() {
             return Some(plan);
@@ -206,7 +241,7 @@ impl State {
     }
 
     /// Whether the write of a key waits for no further step: outside a transaction it waits for a Commit, and inside one for a Touch, unless
-    /// its group is touched. Where there is no memory to tell it waits no longer, and the reply is that there is none.
+    /// its group is touched. A refusal is want of memory.
     fn write_due(
         &self,
         alloc: Global,
@@ -214,13 +249,13 @@ impl State {
         key: &Key,
         gathered: &Gathered,
         step: Step,
-    ) -> bool {
+    ) -> Result<bool, NoMemory>
+        ensures { IfOk result (λ due. due ≡ is_write_due session.now gathered.now (root_of key.now) step) }
+    {
         if !session.in_transaction() {
-            return step.is_commit();
+            return Ok(step.is_commit());
         }
-        match key.root(alloc) {
-            Ok(group) => gathered.place().is_some() || session.touch_place(&group).is_some(),
-            Err(_) => true,
-        }
+        let group = key.root(alloc)?;
+        Ok(gathered.place().is_some() || session.touch_place(&group).is_some())
     }
 }

@@ -106,6 +106,8 @@ pub struct Plan {
 }
 
 impl Plan {
+    ghost use Rattle.ds_plans.specs.Told.{is_refusal};
+
     /// A refusal that changes nothing.
     pub fn refused(body: Body) -> Plan
         ensures body { result.body ≡ body }
@@ -126,7 +128,9 @@ impl Plan {
     }
 
     /// Whether it changes nothing but the id counter that is shown, as a refusal does.
-    pub fn is_refusal(&self) -> bool {
+    pub fn is_refusal(&self) -> bool
+        ensures { result ≡ is_refusal self.now.effect }
+    {
         match &self.effect {
             Effect::Nothing | Effect::SeeNext { next: _ } => true,
             _ => false,

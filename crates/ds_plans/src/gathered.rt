@@ -1,5 +1,6 @@
 //! The steps of a machine of events, and what an open request has gathered by those of its client.
-ghost use Rattle.std.specs.Prelude.{◌≡◌, ◌<◌, ◌≤◌, None, Some, length, map, replicate, slice_set, IfOk, IfSome};
+ghost use Rattle.std.specs.Prelude.{◌≡◌, ◌<◌, ◌≤◌, None, Some, is_some, length, map, replicate, slice_set, IfOk, IfSome};
+ghost use Rattle.std.specs.List.{list_all};
 
 use ds_base::{Counts, NoMemory};
 use std::alloc::Global;
@@ -30,8 +31,12 @@ pub enum Step {
 }
 
 impl Step {
+    ghost use Rattle.ds_plans.specs.Taken.{is_commit, is_issue, is_view};
+
     /// Whether it is a Commit.
-    pub fn is_commit(&self) -> bool {
+    pub fn is_commit(&self) -> bool
+        ensures { result ≡ is_commit self.now }
+    {
         match self {
             Step::Commit => true,
             _ => false,
@@ -39,7 +44,9 @@ impl Step {
     }
 
     /// Whether it is an Issue of so many ids.
-    pub fn is_issue(&self, ids: u64) -> bool {
+    pub fn is_issue(&self, ids: u64) -> bool
+        ensures { result ≡ is_issue ids self.now }
+    {
         match self {
             Step::Issue { count } => *count == ids,
             _ => false,
@@ -47,7 +54,9 @@ impl Step {
     }
 
     /// Whether it is a View of this shard.
-    pub fn is_view(&self, of: u32) -> bool {
+    pub fn is_view(&self, of: u32) -> bool
+        ensures { result ≡ is_view of self.now }
+    {
         match self {
             Step::View { shard } => *shard == of,
             _ => false,
@@ -73,6 +82,8 @@ impl Model for Gathered {
 }
 
 impl Gathered {
+    ghost use Rattle.ds_plans.specs.Taken.{is_viewed};
+
     /// Nothing yet, of so many shards. A refusal is want of memory.
     pub fn nothing(alloc: Global, shards: u32) -> Result<Gathered, NoMemory>
         ensures { IfOk result (λ g. g ≡ record { place = None; first = None; applied = None; views = replicate shards None }) }
@@ -134,6 +145,7 @@ impl Gathered {
     /// Whether a View of the shard was gathered.
     pub fn has_viewed(&self, shard: u32) -> bool
         requires { shard < length self.now.views }
+        ensures { result ≡ is_viewed self.now shard }
     {
         self.views[shard as usize].is_some()
     }
@@ -146,9 +158,10 @@ impl Gathered {
         self.views[shard as usize] = Some(count);
     }
 
-    /// The viewed counts, as soon as each shard was viewed. A refusal is want of memory.
+    /// The viewed counts, as soon as each shard was viewed; `None` where a View is missing. A refusal is want of memory.
     pub fn counts(&self, alloc: Global) -> Result<Option<Counts>, NoMemory>
-        ensures { IfOk result (λ o. IfSome o (λ counts. map (λ n. Some n) counts ≡ self.now.views)) }
+        ensures viewed { IfOk result (λ o. IfSome o (λ counts. map (λ n. Some n) counts ≡ self.now.views)) }
+        ensures all { IfOk result (λ o. is_some o ≡ list_all is_some self.now.views) }
     {
         all_viewed(alloc, self.views.as_slice())
     }
@@ -156,7 +169,8 @@ impl Gathered {
 
 /// The numbers, as soon as there is none missing. A refusal is want of memory.
 fn all_viewed(alloc: Global, views: &[Option<u64>]) -> Result<Option<Counts>, NoMemory>
-    ensures { IfOk result (λ o. IfSome o (λ counts. map (λ n. Some n) counts ≡ views.now)) }
+    ensures viewed { IfOk result (λ o. IfSome o (λ counts. map (λ n. Some n) counts ≡ views.now)) }
+    ensures all { IfOk result (λ o. is_some o ≡ list_all is_some views.now) }
 {
     let mut counts = Vec::new(alloc);
     for view in views {

@@ -1,9 +1,10 @@
 //! Where a write stands, and what it changes.
-ghost use Rattle.std.specs.Prelude.{◌≡◌, ◌+◌, ◌≤◌, ◌∷◌, [], None, Some, length, max, IfSome, IfOk, IsTrue};
-ghost use Rattle.ds_log.specs.Logs.{key_of};
+ghost use Rattle.std.specs.Prelude.{◌≡◌, ◌+◌, ◌≤◌, ◌∷◌, ℕ, [], None, Option, Some, length, max, IfSome, IfOk, IsTrue};
+ghost use Rattle.ds_log.specs.Logs.{group_of, key_of};
 ghost use Rattle.ds_model.specs.Groups.{IsSeenPlace};
 ghost use Rattle.ds_model.specs.Sessions.{next_above};
 ghost use Rattle.ds_plans.specs.States.{IsSession};
+ghost use Rattle.ds_plans.specs.Told.{WriteToldOnceDue};
 ghost use Rattle.ds_plans.specs.Transactions.{transaction_of};
 ghost use Rattle.ds_plans.specs.WritePlans.{IsWritable, IsWritePlan, id_above};
 ghost use Rattle.ds_base.specs.Keys.{is_elem, is_ident};
@@ -42,7 +43,8 @@ impl State {
         requires touch { IfSome touch (IsSeenPlace self.now.store.journal session.now) }
         requires writable { IsWritable self.now session.now write drawn }
         requires seen { IsSession self.now session.now }
-        ensures { IfSome result (λ p. IsWritePlan self.now session.now client write drawn p.at p.effect) }
+        ensures plan { IfSome result (λ p. IsWritePlan self.now session.now client write drawn p.at p.effect) }
+        ensures told { IfSome result (λ p. WriteToldOnceDue self.now session.now touch drawn (group_of write) p.at p.effect) }
     {
         match session.transaction() {
             Some(txn) => self.place_in_group(alloc, session, client, txn, write, drawn, touch),
@@ -61,7 +63,9 @@ impl State {
         requires writable { IsWritable self.now session.now write drawn }
         requires outside { session.now.transaction ≡ None }
         requires seen { IsSession self.now session.now }
-        ensures { IfSome result (λ p. IsWritePlan self.now session.now client write drawn p.at p.effect) }
+        ensures plan { IfSome result (λ p. IsWritePlan self.now session.now client write drawn p.at p.effect) }
+        ensures told { (touch : Option ℕ)
+            → IfSome result (λ p. WriteToldOnceDue self.now session.now touch drawn (group_of write) p.at p.effect) }
     {
         let next = next_above(write.key().elems().as_slice());
         let Ok(draft) = draft_of(alloc, client, write) else {
@@ -88,7 +92,8 @@ impl State {
         requires writable { IsWritable self.now session.now write drawn }
         requires inside { session.now.transaction ≡ Some (transaction_of txn.now) }
         requires seen { IsSession self.now session.now }
-        ensures { IfSome result (λ p. IsWritePlan self.now session.now client write drawn p.at p.effect) }
+        ensures plan { IfSome result (λ p. IsWritePlan self.now session.now client write drawn p.at p.effect) }
+        ensures told { IfSome result (λ p. WriteToldOnceDue self.now session.now touch drawn (group_of write) p.at p.effect) }
     {
         let next = next_above(write.key().elems().as_slice());
         let Ok(group) = write.key().root(alloc) else {
@@ -110,12 +115,14 @@ impl State {
 
 impl State {
     ghost use Rattle.ds_model.specs.Groups.{StandsAt, place_in};
+    ghost use Rattle.ds_plans.specs.Told.{StandsOncePlaced};
 
     /// Where a group stands: at its touch place inside a transaction that touched it, else at the given place, or at the journal's end.
     pub fn stands_at(&self, session: &Session, group: &Key, touch: Option<u64>) -> u64
         requires touch { IfSome touch (IsSeenPlace self.now.store.journal session.now) }
         requires seen { IsSession self.now session.now }
-        ensures { StandsAt self.now.store.journal session.now (place_in session.now.transaction group.now) result }
+        ensures stands { StandsAt self.now.store.journal session.now (place_in session.now.transaction group.now) result }
+        ensures told { StandsOncePlaced session.now touch group.now result }
     {
         match session.touch_place(group) {
             Some(place) => place,

@@ -14,6 +14,7 @@ ghost use Rattle.ds_plans.specs.Answered.{IsPlan};
 ghost use Rattle.ds_plans.specs.Queries.{IsGroupSearch, IsPrepared, told_over};
 ghost use Rattle.ds_plans.specs.Reads.{IsPulled};
 ghost use Rattle.ds_plans.specs.States.{AreUpTo, IsSession};
+ghost use Rattle.ds_plans.specs.Told.{ToldAtPlace};
 
 use crate::effect::{Effect, GroupRead, Plan};
 use crate::session::Session;
@@ -99,7 +100,8 @@ impl State {
     ) -> Plan
         requires prepared { IsPrepared self.now session.now search ready }
         requires reached { IsGroupSearch self.now session.now search read }
-        ensures { (call : Call) → IsSearchOf call search → IsPlan self.now session.now client call result.body result.effect }
+        ensures plan { (call : Call) → IsSearchOf call search → IsPlan self.now session.now client call result.body result.effect }
+        ensures told { ToldAtPlace self.now session.now read.place result.body result.effect }
     {
         let Ok(visible) = self.applied.visible(alloc, read.shard, read.entries) else {
             return Plan::no_memory();

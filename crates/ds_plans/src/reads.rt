@@ -9,6 +9,7 @@ ghost use Rattle.ds_model.specs.Answers.{AppliedCount};
 ghost use Rattle.ds_model.specs.Sessions.{count_of, list_of};
 ghost use Rattle.ds_plans.specs.Reads.{AreAllApplied, AreSeen, IsReached, IsPulled, IsSameButCounts};
 ghost use Rattle.ds_plans.specs.States.{AreUpTo, IsSession};
+ghost use Rattle.ds_plans.specs.Told.{ToldAtPlace};
 
 use crate::effect::{CountSeen, CountsSeen, Effect, GroupRead, Plan};
 use crate::session::Session;
@@ -72,7 +73,8 @@ impl State {
         requires reached { IsReached self.now (root_of key.now) read }
         requires allowed { group_refusal session.now.transaction (Some (root_of key.now)) ≡ None }
         requires stands { ReadsAt self.now.store.journal session.now (root_of key.now) read.place }
-        ensures { IsPlan self.now session.now client (Call.Get key.now) result.body result.effect }
+        ensures plan { IsPlan self.now session.now client (Call.Get key.now) result.body result.effect }
+        ensures told { ToldAtPlace self.now session.now read.place result.body result.effect }
     {
         let Ok(visible) = self.applied.visible(alloc, read.shard, read.entries) else {
             return Plan::no_memory();

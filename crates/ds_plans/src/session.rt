@@ -120,6 +120,7 @@ impl Session {
     ghost use Rattle.ds_model.specs.Refusals.{first_refusal};
     ghost use Rattle.ds_plans.specs.Effects.{MayWrite};
     ghost use Rattle.ds_plans.specs.Refused.{IsRefusal, is_quiet};
+    ghost use Rattle.ds_plans.specs.Told.{tells_no_step};
 
     /// Whether there is a transaction.
     pub fn in_transaction(&self) -> bool
@@ -239,6 +240,7 @@ impl Session {
     pub fn group_refusal(&self, alloc: Global, group: Option<&Key>) -> Option<Body>
         ensures told { IsRefusal (group_refusal self.now.transaction (option_copied group.entry)) result }
         ensures quiet { IfSome result (λ b. IsTrue (is_quiet b)) }
+        ensures numberless { IfSome result (λ b. IsTrue (tells_no_step b)) }
     {
         match &self.transaction {
             Some(txn) => match txn.may_touch(group) {
@@ -254,6 +256,7 @@ impl Session {
         ensures told { IsRefusal (first_refusal (group_refusal self.now.transaction (option_copied group.entry)
             ∷ write_refusal self.now.transaction ∷ [])) result }
         ensures quiet { IfSome result (λ b. IsTrue (is_quiet b)) }
+        ensures numberless { IfSome result (λ b. IsTrue (tells_no_step b)) }
     {
         match self.group_refusal(alloc, group) {
             Some(body) => Some(body),
@@ -265,6 +268,7 @@ impl Session {
     pub fn write_refusal(&self) -> Option<Body>
         ensures told { result ≡ write_refusal self.now.transaction }
         ensures quiet { IfSome result (λ b. IsTrue (is_quiet b)) }
+        ensures numberless { IfSome result (λ b. IsTrue (tells_no_step b)) }
     {
         match &self.transaction {
             Some(txn) if txn.writes() >= MAX_WRITES as u64 => Some(Body::TooManyWrites),
@@ -279,12 +283,14 @@ ghost use Rattle.ds_base.specs.Keys.{KeyParts};
 ghost use Rattle.ds_model.specs.Groups.{group_refusal};
 ghost use Rattle.ds_plans.specs.Effects.{MayWrite};
 ghost use Rattle.ds_plans.specs.Refused.{group_body, is_quiet};
+ghost use Rattle.ds_plans.specs.Told.{tells_no_step};
 ghost use Rattle.ds_plans.specs.Transactions.{transaction_of};
 
 /// What the reply says of a group that may not be touched.
 fn group_body(alloc: Global, refused: TxnRefused, group: Option<&Key>) -> Body
     ensures told { (result ≡ group_body (option_copied group.entry) refused) ⊎ (result ≡ Body.NoMemory) }
     ensures quiet { IsTrue (is_quiet result) }
+    ensures numberless { IsTrue (tells_no_step result) }
 {
     match refused {
         TxnRefused::SecondGroup => second_group(alloc, group),
@@ -296,6 +302,7 @@ fn group_body(alloc: Global, refused: TxnRefused, group: Option<&Key>) -> Body
 fn second_group(alloc: Global, group: Option<&Key>) -> Body
     ensures told { (result ≡ Body.SecondGroup (option_copied group.entry)) ⊎ (result ≡ Body.NoMemory) }
     ensures quiet { IsTrue (is_quiet result) }
+    ensures numberless { IsTrue (tells_no_step result) }
 {
     match group {
         Some(group) => match group.copy(alloc) {

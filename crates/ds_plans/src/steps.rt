@@ -1,5 +1,5 @@
 //! What a step reads of the store, and what it changes of it.
-ghost use Rattle.std.specs.Prelude.{◌≡◌, ◌+◌, ◌≤◌, ◌<◌, None, length, IfOk, IfSome, IsTrue, OnOk};
+ghost use Rattle.std.specs.Prelude.{◌≡◌, ◌+◌, ◌-◌, ◌≤◌, ◌<◌, None, length, nat_le, IfOk, IfSome, IsTrue, OnOk};
 ghost use Rattle.ds_base.specs.Limits.{first_drawn_id, greatest_id};
 ghost use Rattle.ds_applied.specs.AppliedLists.{entries_by};
 ghost use Rattle.ds_model.specs.Sessions.{count_of};
@@ -33,6 +33,8 @@ impl State {
     pub fn covers(&mut self, alloc: Global, shard: u32, place: u64) -> Result<bool, NoMemory>
         requires shard { shard < self.old.store.shards }
         requires place { place ≤ length self.old.store.journal }
+        ensures covered { IfOk result (λ covers. covers ≡ nat_le (entries_by self.old.store.journal self.old.store.shards shard place)
+            (count_of self.old.applied.counts shard)) }
         ensures store { self.new.store ≡ self.old.store }
         ensures counts { self.new.applied.counts ≡ self.old.applied.counts }
     {
@@ -46,6 +48,8 @@ impl State {
     pub fn entries_left(&mut self, alloc: Global, shard: u32, place: u64) -> Result<u64, NoMemory>
         requires shard { shard < self.old.store.shards }
         requires place { place ≤ length self.old.store.journal }
+        ensures left { IfOk result (λ left. left ≡ entries_by self.old.store.journal self.old.store.shards shard place
+            - count_of self.old.applied.counts shard) }
         ensures store { self.new.store ≡ self.old.store }
         ensures counts { self.new.applied.counts ≡ self.old.applied.counts }
     {

@@ -5,6 +5,7 @@ ghost use Rattle.ds_model.specs.Answers.{commit_of};
 ghost use Rattle.ds_request.specs.declared.call.Call.{Call};
 ghost use Rattle.ds_plans.specs.Answered.{IsPlan};
 ghost use Rattle.ds_plans.specs.States.{IsSession};
+ghost use Rattle.ds_plans.specs.Told.{ToldAlways, ToldAtCommit};
 ghost use Rattle.ds_plans.specs.Transactions.{HasTouched, transaction_of};
 
 use crate::effect::{Effect, Plan};
@@ -21,7 +22,8 @@ use std::alloc::Global;
 impl State {
     /// A transaction begins, where there is none.
     pub fn plan_begin(&self, session: &Session, client: u32, several_groups: bool) -> Plan
-        ensures { IsPlan self.now session.now client (Call.Begin several_groups) result.body result.effect }
+        ensures plan { IsPlan self.now session.now client (Call.Begin several_groups) result.body result.effect }
+        ensures told { ToldAlways self.now session.now result.body result.effect }
     {
         if session.in_transaction() {
             return Plan::refused(Body::InTransaction);
@@ -34,7 +36,8 @@ impl State {
 
     /// The transaction ends without a commit.
     pub fn plan_rollback(&self, session: &Session, client: u32) -> Plan
-        ensures { IsPlan self.now session.now client Call.Rollback result.body result.effect }
+        ensures plan { IsPlan self.now session.now client Call.Rollback result.body result.effect }
+        ensures told { ToldAlways self.now session.now result.body result.effect }
     {
         if !session.in_transaction() {
             return Plan::refused(Body::NoTransaction);
@@ -67,7 +70,8 @@ impl State {
     /// The transaction is committed, unless a commit after a touch wrote the touched group; then it ends all the same.
     pub fn plan_commit(&self, alloc: Global, session: &Session, client: u32) -> Plan
         requires { IsSession self.now session.now }
-        ensures { IsPlan self.now session.now client Call.Commit result.body result.effect }
+        ensures plan { IsPlan self.now session.now client Call.Commit result.body result.effect }
+        ensures told { ToldAtCommit self.now session.now result.body result.effect }
     {
         match session.transaction() {
             Some(txn) => self.plan_commit_of(alloc, session, client, txn),
@@ -78,7 +82,8 @@ impl State {
     fn plan_commit_of(&self, alloc: Global, session: &Session, client: u32, txn: &Txn) -> Plan
         requires seen { IsSession self.now session.now }
         requires inside { session.now.transaction ≡ Some (transaction_of txn.now) }
-        ensures { IsPlan self.now session.now client Call.Commit result.body result.effect }
+        ensures plan { IsPlan self.now session.now client Call.Commit result.body result.effect }
+        ensures told { ToldAtCommit self.now session.now result.body result.effect }
     {
         let Ok(draft) = draft_of(alloc, client, txn) else {
             return Plan::no_memory();
@@ -106,7 +111,8 @@ impl State {
         requires seen { IsSession self.now session.now }
         requires inside { HasTouched session.now.transaction draft.now.touched }
         requires conflict { conflict_of self.now.store.journal draft.now.touched ≡ Some conflict }
-        ensures { IsPlan self.now session.now client Call.Commit result.body result.effect }
+        ensures plan { IsPlan self.now session.now client Call.Commit result.body result.effect }
+        ensures told { ToldAtCommit self.now session.now result.body result.effect }
     {
         let Some(touch) = draft.commit().touched.get(conflict.group as usize) else {
             return Plan::no_memory();

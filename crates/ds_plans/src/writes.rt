@@ -2,7 +2,7 @@
 ghost use Rattle.std.specs.Prelude.{◌≡◌, ◌+◌, ◌≤◌, ◌<◌, ◌⊎◌, ◌^◌, ◌∷◌, [], true, false, None, Some, length, IfErr, IfOk, IfSome, IsTrue};
 ghost use Rattle.std.specs.Option.{option_copied};
 ghost use Rattle.ds_base.specs.Entities.{EntityParts, names_ascend};
-ghost use Rattle.ds_base.specs.Keys.{ends_in_id};
+ghost use Rattle.ds_base.specs.Keys.{ends_in_id, root_of};
 ghost use Rattle.ds_base.specs.Limits.{greatest_id};
 ghost use Rattle.ds_log.specs.declared.Write.TheVariants as write;
 ghost use Rattle.ds_log.specs.Ids.{first_unissued, unissued};
@@ -14,6 +14,7 @@ ghost use Rattle.ds_model.specs.Groups.{IsSeenPlace};
 ghost use Rattle.ds_plans.specs.Effects.{ids_drawn, store_after};
 ghost use Rattle.ds_plans.specs.Refused.{is_quiet, rows_body};
 ghost use Rattle.ds_plans.specs.States.{IsSession};
+ghost use Rattle.ds_plans.specs.Told.{ToldOnceDue, is_silent, tells_no_step};
 ghost use Rattle.ds_plans.specs.WritePlans.{IsChecked, IsWritable, SaysWrite};
 
 use crate::effect::{Effect, Plan};
@@ -65,6 +66,7 @@ impl State {
         ensures checked { IfOk result (λ e. IsChecked self.now session.now key incomplete properties e) }
         ensures refused { IfErr result (λ p. IsPlan self.now session.now client (Call.Put key incomplete properties) p.body p.effect) }
         ensures unchanged { IfErr result (λ p. store_after p.effect self.now.store ≡ self.now.store) }
+        ensures silent { IfErr result (λ p. IsTrue (is_silent p.body p.effect)) }
     {
         match Entity::new(key, properties) {
             Ok(entity) => self.check_entity(alloc, session, client, entity, incomplete),
@@ -87,6 +89,7 @@ impl State {
         ensures refused { IfErr result (λ p. IsPlan self.now session.now client (Call.Put entity.key incomplete entity.properties) p.body
             p.effect) }
         ensures unchanged { IfErr result (λ p. store_after p.effect self.now.store ≡ self.now.store) }
+        ensures silent { IfErr result (λ p. IsTrue (is_silent p.body p.effect)) }
     {
         match count_rows(alloc, &self.defs, &entity) {
             Ok(_) => self.check_counted(alloc, session, client, entity, incomplete),
@@ -110,6 +113,7 @@ impl State {
         ensures refused { IfErr result (λ p. IsPlan self.now session.now client (Call.Put entity.key incomplete entity.properties) p.body
             p.effect) }
         ensures unchanged { IfErr result (λ p. store_after p.effect self.now.store ≡ self.now.store) }
+        ensures silent { IfErr result (λ p. IsTrue (is_silent p.body p.effect)) }
     {
         match group_asked(alloc, entity.key(), incomplete) {
             Ok(group) => match session.refusal(alloc, group.as_ref()) {
@@ -135,6 +139,7 @@ impl State {
         ensures refused { IfErr result (λ p. IsPlan self.now session.now client (Call.Put entity.key incomplete entity.properties) p.body
             p.effect) }
         ensures unchanged { IfErr result (λ p. store_after p.effect self.now.store ≡ self.now.store) }
+        ensures silent { IfErr result (λ p. IsTrue (is_silent p.body p.effect)) }
     {
         let next = self.book.next();
         match first_unissued(entity.key().elems().as_slice(), next) {
@@ -213,7 +218,8 @@ impl State {
         requires touch { IfSome touch (IsSeenPlace self.now.store.journal session.now) }
         requires writable { IsWritable self.now session.now (write.Put entity) drawn }
         requires seen { IsSession self.now session.now }
-        ensures { SaysWrite Body.Put self.now session.now client (write.Put entity) drawn result.body result.effect }
+        ensures says { SaysWrite Body.Put self.now session.now client (write.Put entity) drawn result.body result.effect }
+        ensures told { ToldOnceDue self.now session.now touch drawn (root_of entity.key) result.body result.effect }
     {
         let Ok(key) = entity.key().copy(alloc) else {
             return Plan::no_memory();
@@ -238,7 +244,8 @@ impl State {
     ) -> Plan
         requires touch { IfSome touch (IsSeenPlace self.now.store.journal session.now) }
         requires seen { IsSession self.now session.now }
-        ensures { IsPlan self.now session.now client (Call.Delete key) result.body result.effect }
+        ensures plan { IsPlan self.now session.now client (Call.Delete key) result.body result.effect }
+        ensures told { ToldOnceDue self.now session.now touch false (root_of key) result.body result.effect }
     {
         match key.root(alloc) {
             Ok(group) => match session.refusal(alloc, Some(&group)) {
@@ -261,7 +268,8 @@ impl State {
         requires touch { IfSome touch (IsSeenPlace self.now.store.journal session.now) }
         requires unrefused { refusal_of self.now.store.definitions session.now (Call.Delete key) ≡ None }
         requires seen { IsSession self.now session.now }
-        ensures { IsPlan self.now session.now client (Call.Delete key) result.body result.effect }
+        ensures plan { IsPlan self.now session.now client (Call.Delete key) result.body result.effect }
+        ensures told { ToldOnceDue self.now session.now touch false (root_of key) result.body result.effect }
     {
         let next = self.book.next();
         match first_unissued(key.elems().as_slice(), next) {
@@ -285,7 +293,8 @@ impl State {
         requires touch { IfSome touch (IsSeenPlace self.now.store.journal session.now) }
         requires writable { IsWritable self.now session.now (write.Delete key) false }
         requires seen { IsSession self.now session.now }
-        ensures { SaysWrite Body.Delete self.now session.now client (write.Delete key) false result.body result.effect }
+        ensures says { SaysWrite Body.Delete self.now session.now client (write.Delete key) false result.body result.effect }
+        ensures told { ToldOnceDue self.now session.now touch false (root_of key) result.body result.effect }
     {
         let Ok(told) = key.copy(alloc) else {
             return Plan::no_memory();
@@ -304,6 +313,7 @@ impl State {
 fn refused_entity(refused: EntityRefused) -> Body
     ensures body { entity_body (Some refused) ≡ Some result }
     ensures quiet { IsTrue (is_quiet result) }
+    ensures numberless { IsTrue (tells_no_step result) }
 {
     match refused {
         EntityRefused::BadKey => Body::BadKey {
@@ -321,6 +331,7 @@ fn refused_entity(refused: EntityRefused) -> Body
 fn refused_rows(refused: RowsRefused) -> Body
     ensures told { result ≡ rows_body refused }
     ensures quiet { IsTrue (is_quiet result) }
+    ensures numberless { IsTrue (tells_no_step result) }
 {
     match refused {
         RowsRefused::TooManyRows { count } => Body::TooManyRows { count },

@@ -3,6 +3,8 @@ use Rattle.ds_applied.specs.AppliedLists.{entries_by}
 use Rattle.ds_model.specs.Sessions.{count_of}
 use Rattle.ds_plans.specs.States.{StateParts}
 use Rattle.ds_plans.proofs.ReadPlans.{up_to-count}
+use Rattle.std.proofs.Common.{sym}
+use Rattle.ds_plans.proofs.ToldPlans.{view-is}
 use Rattle.ds_plans.proofs.state.State.apply_at.Goals as goal
 
 pub tell_applied_at-requires-in-None-clause-applied : goal.tell_applied_at-requires-in-None-clause-applied
@@ -15,3 +17,13 @@ tell_applied_at-requires-in-None-clause-applied c =
     ∙ ap (λ n. entries_by c.self.inside.book.journal n c.args.shard c.args.place) c.self.invariant.shards
     ∙ ap (λ (st : StateParts). entries_by st.store.journal st.store.shards c.args.shard c.args.place) c.self.view_is in
     (omega (arith, seen, now), omega (arith, up, c.if-applied-up_to.true))
+
+pub returns-in-Some-clause-told : goal.returns-in-Some-clause-told
+returns-in-Some-clause-told c = c.tell_applied_at.ensures.told c.args.gathered.now c.args.step (c.requires.touched, c.in-Some.ensures.0)
+
+pub returns-in-None-clause-told : goal.returns-in-None-clause-told
+returns-in-None-clause-told c =
+    let now : c.count-applied.result ≡ count_of c.args.self.now.applied.counts c.args.shard = c.count-applied.ensures.value
+    ∙ ap (λ (st : StateParts). count_of st.applied.counts c.args.shard) c.self.view_is in
+    c.tell_applied_at-in-None.ensures.told c.args.gathered.now c.args.step
+    (c.requires.touched, (view-is c.args.shard c.args.step (sym c.is_view.ensures ∙ c.if-is_view.true), now))

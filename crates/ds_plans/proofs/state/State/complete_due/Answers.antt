@@ -1,6 +1,23 @@
+use Rattle.std.proofs.Common.{ℕ, Option, Some, None, [], false}
+use Rattle.std.specs.Prelude.{IfSome}
+use Rattle.ds_base.specs.Entities.{EntityParts}
+use Rattle.ds_log.specs.declared.Write.TheVariants.{Put}
+use Rattle.ds_request.specs.declared.call.Call.TheVariants as call
+use Rattle.ds_reply.specs.declared.reply.Body.TheVariants as body
+use Rattle.ds_model.specs.Sessions.{Session}
+use Rattle.ds_plans.specs.declared.effect.Plan.{Plan}
+use Rattle.ds_plans.specs.Due.{IsDuePlan}
+use Rattle.ds_plans.specs.States.{StateParts}
+use Rattle.ds_plans.specs.WritePlans.{IsChecked, SaysWrite}
 use Rattle.ds_plans.proofs.DuePlans.{complete_due}
 use Rattle.ds_plans.proofs.state.State.complete_due.Goals as goal
 
-pub returns : goal.returns
-returns c = complete_due c.args.self.now c.args.session.now c.args.client c.args.entity c.say_put.result.body c.say_put.result.effect
-    c.requires.checked c.say_put.ensures
+if_due : (st : StateParts) (s : Session) (client : ℕ) (e : EntityParts) (o : Option Plan) → IsChecked st s e.key false e.properties e
+    → IfSome o (λ p. SaysWrite body.Put st s client (Put e) false p.body p.effect)
+    → IfSome o (λ p. IsDuePlan st s client (call.Put e.key false e.properties) [] p.body p.effect)
+if_due st s client e None checked says = tt
+if_due st s client e (Some p) checked says = complete_due st s client e p.body p.effect checked says
+
+pub returns-clause-plan : goal.returns-clause-plan
+returns-clause-plan c = if_due c.args.self.now c.args.session.now c.args.client c.args.entity c.say_put_due.result c.requires.checked
+    c.say_put_due.ensures.says

@@ -5,22 +5,23 @@ use Rattle.ds_plans.specs.Queries.{told_over}
 use Rattle.ds_plans.specs.States.{StateParts, IsState}
 use Rattle.ds_plans.proofs.Plans.{memory_as}
 use Rattle.ds_plans.proofs.QueryPlans.{group_found, view_by_key}
+use Rattle.ds_plans.proofs.ToldPlans.{read-told, search-numbers}
 use Rattle.ds_plans.proofs.state.State.find_in_group.Goals as goal
 
-pub returns-in_default : goal.returns-in_default
-returns-in_default c = λ call of. memory_as c.args.self.now c.args.session.now c.args.client call c.no_memory.result.body
+pub returns-in_default-clause-plan : goal.returns-in_default-clause-plan
+returns-in_default-clause-plan c = λ call of. memory_as c.args.self.now c.args.session.now c.args.client call c.no_memory.result.body
     c.no_memory.result.effect c.no_memory.ensures.body c.no_memory.ensures.effect
 
-pub returns-in_default-entities : goal.returns-in_default-entities
-returns-in_default-entities c = λ call of. memory_as c.args.self.now c.args.session.now c.args.client call _ _
+pub returns-in_default-entities-clause-plan : goal.returns-in_default-entities-clause-plan
+returns-in_default-entities-clause-plan c = λ call of. memory_as c.args.self.now c.args.session.now c.args.client call _ _
     c.no_memory-in_default-entities.ensures.body c.no_memory-in_default-entities.ensures.effect
 
 pub find-requires-clause-by_key : goal.find-requires-clause-by_key
 find-requires-clause-by_key c = view_by_key _ c.self.inside.applied.lists c.args.read.shard c.args.read.entries
     (ap (map (λ e. e.now)) c.as_slice.ensures.value ∙ c.in-Ok-entities.ensures ∙ c.in-Ok.ensures)
 
-pub returns-in-Ok-find : goal.returns-in-Ok-find
-returns-in-Ok-find c = λ call of.
+pub returns-in-Ok-find-clause-plan : goal.returns-in-Ok-find-clause-plan
+returns-in-Ok-find-clause-plan c = λ call of.
     group_found c.args.self.now c.args.session.now c.args.client call c.args.search of c.args.ready c.requires.prepared
     (subst IsState c.self.view_is c.self.invariant) c.args.read c.requires.reached
     c.in-Ok-find.body (c.in-Ok-find.ensures.found
@@ -28,6 +29,12 @@ returns-in-Ok-find c = λ call of.
     (ap (map (λ e. e.now)) c.as_slice.ensures.value ∙ c.in-Ok-entities.ensures ∙ c.in-Ok.ensures
     ∙ ap (λ (st : StateParts). shard_view st.applied.lists c.args.read.shard c.args.read.entries) c.self.view_is))
 
-pub returns : goal.returns
-returns c = λ call of. memory_as c.args.self.now c.args.session.now c.args.client call _ _ c.no_memory-in-Err.ensures.body
+pub returns-clause-plan : goal.returns-clause-plan
+returns-clause-plan c = λ call of. memory_as c.args.self.now c.args.session.now c.args.client call _ _ c.no_memory-in-Err.ensures.body
     c.no_memory-in-Err.ensures.effect
+
+pub returns-in-Ok-find-clause-told : goal.returns-in-Ok-find-clause-told
+returns-in-Ok-find-clause-told c = λ g step place.
+    read-told c.args.self.now c.args.session.now c.in-Ok-find.body g step c.args.read
+    (search-numbers c.args.self.now c.args.session.now g step c.args.search c.args.ready.normal c.args.ready.window
+    (map (λ e. e.now) c.as_slice.result.now) (seen.Place c.args.read.place) c.in-Ok-find.body c.in-Ok-find.ensures.found place) place

@@ -5,6 +5,8 @@ use Rattle.ds_protocol.specs.Searches.{search_parts}
 use Rattle.ds_plans.specs.States.{StateParts}
 use Rattle.ds_plans.proofs.Plans.{memory_as}
 use Rattle.ds_plans.proofs.QueryPlans.{form_plan}
+use Rattle.ds_plans.proofs.ToldPlans.{refused-told}
+use Rattle.ds_plans.proofs.ToldRefusals.{form-bare}
 use Rattle.ds_plans.proofs.state.State.found_due.Goals as goal
 
 pub returns-in-Err-clause-plan : goal.returns-in-Err-clause-plan
@@ -19,3 +21,11 @@ returns-in-Err-clause-plan c = λ call of.
 pub returns-in-Err-group_of-clause-plan : goal.returns-in-Err-group_of-clause-plan
 returns-in-Err-group_of-clause-plan c = λ call of. memory_as c.args.self.now c.args.session.now c.args.client call _ _
     c.no_memory.ensures.body c.no_memory.ensures.effect
+
+pub returns-in-Err-clause-told : goal.returns-in-Err-clause-told
+returns-in-Err-clause-told c =
+    refused-told c.args.self.now c.args.session.now c.refused.result.body c.in-Err.body c.refused.result.effect
+    c.refused.ensures.body c.refused.ensures.effect
+    (form-bare c.self.inside.defs c.args.session.now c.in_transaction.result (search_parts c.args.search) c.in-Err.body
+    (sym c.in_transaction.ensures) c.in-Err.ensures.refused)
+    c.args.gathered.now c.args.step

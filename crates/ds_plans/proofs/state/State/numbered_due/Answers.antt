@@ -1,20 +1,36 @@
-use Rattle.std.proofs.Common.{sym, subst, false}
+use Rattle.std.proofs.Common.{◌≡◌, ℕ, Option, Some, None, true, false, sym, subst}
+use Rattle.std.specs.Prelude.{IfSome}
 use Rattle.ds_base.specs.Entities.{EntityParts}
+use Rattle.ds_base.specs.Keys.{ends_in_id}
 use Rattle.ds_log.specs.declared.Write.TheVariants.{Put}
+use Rattle.ds_request.specs.declared.call.Call.TheVariants as call
 use Rattle.ds_reply.specs.declared.reply.Body.TheVariants as body
-use Rattle.ds_plans.specs.WritePlans.{IsWritable, SaysWrite}
-use Rattle.ds_plans.proofs.DuePlans.{id_due, id_writable}
+use Rattle.ds_model.specs.Sessions.{Session}
+use Rattle.ds_plans.specs.declared.effect.Plan.{Plan}
+use Rattle.ds_plans.specs.Due.{GatheredParts, IsDuePlan, IsGathered, ids_from}
+use Rattle.ds_plans.specs.States.{StateParts}
+use Rattle.ds_plans.specs.WritePlans.{IsChecked, IsWritable, SaysWrite}
+use Rattle.ds_plans.proofs.DuePlans.{id_due, id_writable, numbered}
 use Rattle.ds_plans.proofs.state.State.numbered_due.Goals as goal
 
-pub say_put-requires-clause-writable : goal.say_put-requires-clause-writable
-say_put-requires-clause-writable c =
+if_due : (st : StateParts) (s : Session) (client : ℕ) (e : EntityParts) (id : ℕ) (g : GatheredParts) (o : Option Plan)
+    (checked : IsChecked st s e.key true e.properties e) (drawn : g.first ≡ Some id)
+    (gathered : IsGathered st s (call.Put e.key true e.properties) g) → ends_in_id e.key.elems ≡ true
+    → IfSome o (λ p. SaysWrite body.Put st s client (Put (numbered st s client e id g checked drawn gathered)) false p.body p.effect)
+    → IfSome o (λ p. IsDuePlan st s client (call.Put e.key true e.properties) (ids_from 1 g.first) p.body p.effect)
+if_due st s client e id g None checked drawn gathered ends says = tt
+if_due st s client e id g (Some p) checked drawn gathered ends says =
+    id_due st s client e id g checked drawn gathered p.body p.effect ends says
+
+pub say_put_due-requires-clause-writable : goal.say_put_due-requires-clause-writable
+say_put_due-requires-clause-writable c =
     subst (λ (e : EntityParts). IsWritable c.args.self.now c.args.session.now (Put e) false) (sym c.renumber.ensures)
     (id_writable c.args.self.now c.args.session.now c.args.client c.args.entity c.args.id c.args.gathered.now c.requires.checked
     c.requires.id c.requires.gathered)
 
-pub returns : goal.returns
-returns c =
-    id_due c.args.self.now c.args.session.now c.args.client c.args.entity c.args.id c.args.gathered.now c.requires.checked c.requires.id
-    c.requires.gathered c.say_put.result.body c.say_put.result.effect c.requires.ends_in_id
-    (subst (λ (e : EntityParts). SaysWrite body.Put c.args.self.now c.args.session.now c.args.client (Put e) false c.say_put.result.body
-    c.say_put.result.effect) c.renumber.ensures c.say_put.ensures)
+pub returns-clause-plan : goal.returns-clause-plan
+returns-clause-plan c =
+    if_due c.args.self.now c.args.session.now c.args.client c.args.entity c.args.id c.args.gathered.now c.say_put_due.result
+    c.requires.checked c.requires.id c.requires.gathered c.requires.ends_in_id
+    (subst (λ (e : EntityParts). IfSome c.say_put_due.result (λ p. SaysWrite body.Put c.args.self.now c.args.session.now c.args.client (Put e)
+    false p.body p.effect)) c.renumber.ensures c.say_put_due.ensures.says)

@@ -6,8 +6,8 @@ use Rattle.ds_plans.specs.States.{StateParts}
 use Rattle.ds_plans.proofs.WriteAnswers.{commit_planned_as}
 use Rattle.ds_plans.proofs.state.State.place_commit.Goals as goal
 
-pub returns : goal.returns
-returns c =
+pub returns-clause-plan : goal.returns-clause-plan
+returns-clause-plan c =
     commit_planned_as c.args.self.now c.args.session.now c.args.client c.args.write c.args.drawn c.requires.writable c.requires.seen
     (length c.journal.result.now + 1) c.next_above-next.result c.in-Ok.draft c.requires.outside
     (ap (λ (cs : List Commit). length cs + 1) (c.journal.ensures.value ∙ ap (λ (st : StateParts). st.store.journal) c.self.view_is))

@@ -3,12 +3,29 @@ use Rattle.ds_base.specs.Keys.{KeyParts, root_of}
 use Rattle.ds_model.specs.Sessions.{next_above}
 use Rattle.ds_plans.specs.Transactions.{transaction_of}
 use Rattle.ds_plans.proofs.WriteAnswers.{group_planned_as}
+use Rattle.std.proofs.Common.{refl, subst}
+use Rattle.ds_log.specs.Logs.{group_of}
+use Rattle.ds_plans.specs.Told.{StandsOncePlaced}
+use Rattle.ds_plans.proofs.ToldPlans.{group-told}
 use Rattle.ds_plans.proofs.state.State.place_in_group.Goals as goal
 
-pub returns : goal.returns
-returns c =
+pub returns-clause-plan : goal.returns-clause-plan
+returns-clause-plan c =
     group_planned_as c.args.self.now c.args.session.now c.args.client c.args.write c.args.drawn c.requires.writable c.requires.seen
     (transaction_of c.args.txn.now) c.in-Ok.group c.stands_at-place.result c.next_above-next.result c.requires.inside
     (c.in-Ok.ensures ∙ ap root_of c.key-2.ensures)
     (c.next_above-next.ensures ∙ ap next_above (c.as_slice.ensures ∙ c.elems.ensures.value ∙ ap (λ (k : KeyParts). k.elems) c.key.ensures))
-    c.stands_at-place.ensures
+    c.stands_at-place.ensures.stands
+
+pub returns-clause-told : goal.returns-clause-told
+returns-clause-told c =
+    group-told c.args.self.now c.args.session.now c.args.touch c.args.drawn (group_of c.args.write) (transaction_of c.args.txn.now)
+    (record {
+      group = c.in-Ok.group;
+      place = c.stands_at-place.result;
+      write = c.args.write;
+      drawn = c.args.drawn;
+      next = c.next_above-next.result;
+    }) c.requires.inside refl
+    (subst (λ k. StandsOncePlaced c.args.session.now c.args.touch k c.stands_at-place.result) (c.in-Ok.ensures ∙ ap root_of c.key-2.ensures)
+    c.stands_at-place.ensures.told)

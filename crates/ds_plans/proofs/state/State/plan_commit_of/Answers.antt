@@ -7,8 +7,8 @@ use Rattle.ds_plans.specs.Transactions.{transaction_of}
 use Rattle.ds_plans.proofs.TransactionPlans.{commit_planned}
 use Rattle.ds_plans.proofs.state.State.plan_commit_of.Goals as goal
 
-pub returns-in-Ok-check : goal.returns-in-Ok-check
-returns-in-Ok-check c =
+pub returns-in-Ok-check-clause-plan : goal.returns-in-Ok-check-clause-plan
+returns-in-Ok-check-clause-plan c =
     commit_planned c.args.self.now c.args.session.now c.args.client (transaction_of c.args.txn.now) c.in-Ok.draft
     (length c.journal.result.now + 1) c.requires.seen c.requires.inside c.in-Ok.ensures
     (ap (λ (cs : List Commit). length cs + 1) (c.journal.ensures.value ∙ ap (λ (st : StateParts). st.store.journal) c.self.view_is))

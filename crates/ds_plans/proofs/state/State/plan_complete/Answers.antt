@@ -13,4 +13,4 @@ returns c =
     c.requires.unrefused
     (subst (λ n. first_unissued n c.args.entity.key.elems ≡ None)
     (let e : c.args.self.now.store.next ≡ c.args.self.now.store.next + 0 = omega arith in e) c.requires.issued)
-    c.say_put.ensures
+    c.say_put.ensures.says

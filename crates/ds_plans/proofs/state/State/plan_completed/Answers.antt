@@ -30,4 +30,4 @@ returns c =
     (subst (λ (e : EntityParts). SaysWrite body.Put c.args.self.now c.args.session.now c.args.client (Put e) true c.say_put.result.body
     c.say_put.result.effect)
     (c.renumber.ensures ∙ ap (λ n. record { key = renumbered c.args.entity.key n; properties = c.args.entity.properties }) next)
-    c.say_put.ensures)
+    c.say_put.ensures.says)

@@ -6,8 +6,8 @@ use Rattle.ds_plans.proofs.Plans.{refused_as}
 use Rattle.ds_plans.proofs.PutPlans.{told_refusal}
 use Rattle.ds_plans.proofs.state.State.plan_delete.Goals as goal
 
-pub returns-in-Some : goal.returns-in-Some
-returns-in-Some c =
+pub returns-in-Some-clause-plan : goal.returns-in-Some-clause-plan
+returns-in-Some-clause-plan c =
     refused_as c.args.self.now c.args.session.now c.args.client (call.Delete c.args.key) c.refused.result.body c.in-Some.body
     c.refused.result.effect
     c.refused.ensures.body c.refused.ensures.effect c.in-Some.ensures.quiet refl

@@ -10,11 +10,23 @@ returns-in-Begin-clause-plan c =
     subst (λ (x : Call). IsDuePlan c.args.self.now c.args.session.now c.args.client x (ids_of x c.args.gathered.now)
     c.plan_begin.result.body c.plan_begin.result.effect) (sym c.in-Begin.is)
     (inr (due_of c.args.self.now c.args.session.now c.args.client (call.Begin c.in-Begin.xg) c.plan_begin.result.body
-    c.plan_begin.result.effect c.plan_begin.ensures refl))
+    c.plan_begin.result.effect c.plan_begin.ensures.plan refl))
 
 pub returns-in-Rollback-clause-plan : goal.returns-in-Rollback-clause-plan
 returns-in-Rollback-clause-plan c =
     subst (λ (x : Call). IsDuePlan c.args.self.now c.args.session.now c.args.client x (ids_of x c.args.gathered.now)
     c.plan_rollback.result.body c.plan_rollback.result.effect) (sym c.in-Rollback.is)
     (inr (due_of c.args.self.now c.args.session.now c.args.client call.Rollback c.plan_rollback.result.body
-    c.plan_rollback.result.effect c.plan_rollback.ensures refl))
+    c.plan_rollback.result.effect c.plan_rollback.ensures.plan refl))
+
+pub returns-in-Begin-clause-told : goal.returns-in-Begin-clause-told
+returns-in-Begin-clause-told c = c.plan_begin.ensures.told c.args.gathered.now c.args.step
+
+pub returns-in-Rollback-clause-told : goal.returns-in-Rollback-clause-told
+returns-in-Rollback-clause-told c = c.plan_rollback.ensures.told c.args.gathered.now c.args.step
+
+pub returns-in-Commit-clause-told : goal.returns-in-Commit-clause-told
+returns-in-Commit-clause-told c = c.commit_due.ensures.told c.args.gathered.now
+
+pub returns-in-Settle-clause-told : goal.returns-in-Settle-clause-told
+returns-in-Settle-clause-told c = c.settle_due.ensures.told c.args.step

@@ -23,7 +23,7 @@ find_in_group-requires-clause-reached c =
     (unrefused_group _ c.in_default.ensures.told)
     (subst (λ (st : StoreParts). ReadsAt st.journal c.args.session.now c.args.group c.in-Ok.read.place) (sym c.reach.ensures.store)
     (subst (λ m. ReadsAt c.args.self.now.store.journal c.args.session.now c.args.group m) (sym c.in-Ok.ensures.place)
-    c.stands_at-place.ensures))
+    c.stands_at-place.ensures.stands))
     c.in-Ok.ensures.reached
 
 pub returns-in-Err-clause-plan : goal.returns-in-Err-clause-plan

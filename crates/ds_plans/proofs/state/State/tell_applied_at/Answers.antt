@@ -4,8 +4,8 @@ use Rattle.ds_plans.specs.States.{StateParts, IsState}
 use Rattle.ds_plans.proofs.DuePlans.{apply_due}
 use Rattle.ds_plans.proofs.state.State.tell_applied_at.Goals as goal
 
-pub returns : goal.returns
-returns c =
+pub returns-clause-plan : goal.returns-clause-plan
+returns-clause-plan c =
     let is : IsState c.args.self.now = subst IsState c.self.view_is c.self.invariant in
     let listed : c.args.count ≤ length (list_of c.args.self.now.applied.lists c.args.shard) =
     subst (λ (st : StateParts). c.args.count ≤ count_of st.applied.counts c.args.shard

@@ -16,8 +16,8 @@ counted_place-commit-requires c =
     (subst (λ (st : StateParts). AreUpTo c.args.counts st.applied.counts) (sym c.self.view_is) c.requires.within)
     (subst (AreCounts c.self.inside.applied.lists) c.in-Ok-counts.ensures.value c.in-Ok-counts.ensures.within))
 
-pub returns : goal.returns
-returns c =
+pub returns-clause-plan : goal.returns-clause-plan
+returns-clause-plan c =
     subst (λ ns. IsDuePlan c.args.self.now c.args.session.now c.args.client call.Settle [] (body.Settle c.args.place ns)
     (effect.Settle c.args.place (record { commit = c.counted_place-commit.result; counts = c.args.counts })))
     (sym c.in-Ok.ensures.copied)

@@ -1,0 +1,251 @@
+-- The numbers that a plan tells are those that it was given.
+use Rattle.std.proofs.Common.{◌≡◌, ◌⊎◌, inl, inr, ℕ, ◌+◌, Bool, true, false, List, [], ◌∷◌, ◌++◌, length, map, cond, refl, ap, sym, ◌∙◌, subst}
+use Rattle.std.proofs.Common.{Option, Some, None, arith}
+use Rattle.std.specs.Prelude.{IfSome, IsTrue, Err, Ok, Result, ◌&&◌, ◌||◌, is_some}
+use Rattle.std.proofs.lemmas.Bool.{eqb-true}
+use Rattle.ds_base.specs.declared.results.Item.{Item}
+use Rattle.ds_base.specs.declared.results.Seen.{Seen}
+use Rattle.ds_base.specs.KeyOrder.{same_key}
+use Rattle.ds_base.specs.Keys.{KeyParts}
+use Rattle.ds_base.specs.Entities.{EntityParts}
+use Rattle.ds_log.specs.declared.Commit.{Commit}
+use Rattle.ds_log.specs.declared.Touch.{Touch}
+use Rattle.ds_log.specs.Touches.{is_touched, touch_place, with_touch}
+use Rattle.ds_query.specs.declared.branch.Normal.{Normal}
+use Rattle.ds_query.specs.declared.branch.Window.{Window}
+use Rattle.ds_reply.specs.declared.reply.Body.{Body}
+use Rattle.ds_reply.specs.declared.reply.Body.TheVariants as body
+use Rattle.ds_query.specs.declared.query.Select.{Select}
+use Rattle.ds_reply.specs.declared.reply.WriteAt.{WriteAt}
+use Rattle.ds_reply.specs.declared.reply.WriteAt.TheVariants as stands
+use Rattle.ds_model.specs.Answers.{cursor_of}
+use Rattle.ds_model.specs.Groups.{place_in, touching_if}
+use Rattle.ds_model.specs.Results.{items_of, result}
+use Rattle.ds_model.specs.Sessions.{Session, Transaction}
+use Rattle.ds_protocol.specs.declared.searching.Search.{Search}
+use Rattle.ds_protocol.specs.Finishing.{found}
+use Rattle.ds_plans.specs.declared.effect.CountsSeen.{CountsSeen}
+use Rattle.ds_plans.specs.declared.effect.Effect.{Effect}
+use Rattle.ds_plans.specs.declared.effect.Effect.TheVariants as effect
+use Rattle.ds_plans.specs.declared.effect.GroupRead.{GroupRead}
+use Rattle.ds_plans.specs.declared.effect.GroupWrite.{GroupWrite}
+use Rattle.ds_plans.specs.declared.effect.WriteCommit.{WriteCommit}
+use Rattle.ds_plans.specs.declared.gathered.Step.{Step}
+use Rattle.ds_plans.specs.declared.gathered.Step.TheVariants as steps
+use Rattle.ds_plans.specs.Due.{GatheredParts}
+use Rattle.ds_plans.specs.Effects.{ids_drawn, store_after, session_after, with_write}
+use Rattle.ds_plans.specs.Queries.{told_over}
+use Rattle.ds_plans.specs.States.{StoreParts, StateParts}
+use Rattle.ds_plans.specs.Taken.{is_commit, is_view, is_placed, is_write_due}
+use Rattle.ds_plans.specs.Transactions.{HasTouched}
+use Rattle.ds_plans.specs.Told.{AreNumbersOf, IsPlaceOf, IsSeenBy, IsTold, StandsOncePlaced, ToldAlways, ToldAtPlace, ToldOnceDue}
+use Rattle.ds_plans.specs.Told.{WriteToldOnceDue, is_refusal, is_silent, tells_no_step}
+
+-- ---- which step it was
+
+pub commit-is : (step : Step) → is_commit step ≡ true → step ≡ steps.Commit
+commit-is steps.Commit is = refl
+commit-is _ is = cc
+
+pub view-is : (shard : ℕ) (step : Step) → is_view shard step ≡ true → step ≡ steps.View shard
+view-is shard (steps.View viewed) is = ap steps.View (eqb-true viewed shard is)
+view-is shard steps.Commit is = cc
+view-is shard _ is = cc
+
+-- ---- places
+
+pub has-transaction : (o : Option Transaction) (ts : List Touch) → HasTouched o ts → is_some o ≡ true
+has-transaction None ts has = absurd has
+has-transaction (Some t) ts has = refl
+
+-- a touch adds no place but its own
+pushed : (g h : KeyParts) (m p : ℕ) (ts : List Touch) → touch_place g (ts ++ record { group = h; place = m } ∷ []) ≡ Some p
+    → (touch_place g ts ≡ Some p) ⊎ (m ≡ p)
+pushed g h m p [] is = by (same_key g h) is where
+  by : (b : Bool) → cond b (Some m) None ≡ Some p → (touch_place g [] ≡ Some p) ⊎ (m ≡ p)
+  by true is = inr cc
+  by false is = inl is
+pushed g h m p (t ∷ ts) is = by (same_key g t.group) (λ e. pushed g h m p ts e) is where
+  by : (b : Bool) → (touch_place g (ts ++ record { group = h; place = m } ∷ []) ≡ Some p → (touch_place g ts ≡ Some p) ⊎ (m ≡ p))
+      → cond b (Some t.place) (touch_place g (ts ++ record { group = h; place = m } ∷ [])) ≡ Some p
+      → (cond b (Some t.place) (touch_place g ts) ≡ Some p) ⊎ (m ≡ p)
+  by true rest is = inl is
+  by false rest is = rest is
+
+touched : (g h : KeyParts) (m p : ℕ) (ts : List Touch) → touch_place g (with_touch h m ts) ≡ Some p → (touch_place g ts ≡ Some p) ⊎ (m ≡ p)
+touched g h m p ts is = by (is_touched h ts) is where
+  by : (b : Bool) → touch_place g (cond b ts (ts ++ record { group = h; place = m } ∷ [])) ≡ Some p
+      → (touch_place g ts ≡ Some p) ⊎ (m ≡ p)
+  by true is = inl is
+  by false is = pushed g h m p ts is
+
+read-place : (o : Option Transaction) (g h : KeyParts) (m p : ℕ) → place_in (touching_if h m o) g ≡ Some p
+    → (place_in o g ≡ Some p) ⊎ (m ≡ p)
+read-place None g h m p is = inl is
+read-place (Some t) g h m p is = touched g h m p t.touched is
+
+write-place : (o : Option Transaction) (g : KeyParts) (w : GroupWrite) (p : ℕ) → place_in (with_write w o) g ≡ Some p
+    → (place_in o g ≡ Some p) ⊎ (w.place ≡ p)
+write-place None g w p is = inl is
+write-place (Some t) g w p is = touched g w.group w.place p t.touched is
+
+module _ (s : Session) (g : GatheredParts) where
+  one_of : (group : KeyParts) (m p : ℕ) → IsPlaceOf s g m → (place_in s.transaction group ≡ Some p) ⊎ (m ≡ p) → IsPlaceOf s g p
+  one_of group m p place (inl is) = inr (group, is)
+  one_of group m p place (inr is) = subst (IsPlaceOf s g) is place
+
+  pub touched-place : (group : KeyParts) (m : ℕ) → place_in s.transaction group ≡ Some m → IsPlaceOf s g m
+  touched-place group m is = inr (group, is)
+
+  -- the place of the Touch, if it is gathered
+  pub gathered-place : IfSome g.place (IsPlaceOf s g)
+  gathered-place = by g.place refl where
+    by : (o : Option ℕ) → g.place ≡ o → IfSome o (IsPlaceOf s g)
+    by None is = tt
+    by (Some m) is = inl is
+
+  -- a group that isn't touched stands at the given place, which is the Touch's
+  pub given-place : (touch o : Option ℕ) (m : ℕ) → touch ≡ g.place → o ≡ None → IsTrue (is_some g.place || is_some o)
+      → IfSome touch (λ p. m ≡ p) → IsPlaceOf s g m
+  given-place None o m same none known given = absurd (by g.place o (sym same) none known) where
+    by : (place o : Option ℕ) → place ≡ None → o ≡ None → IsTrue (is_some place || is_some o) → ⊥
+    by None None here none known = cc
+    by (Some p) o here none known = cc
+    by None (Some p) here none known = cc
+  given-place (Some p) o m same none known given = inl (sym same ∙ ap Some (sym given))
+
+-- ---- refusals
+
+numberless : (st : StateParts) (s : Session) (g : GatheredParts) (step : Step) (b : Body) → tells_no_step b ≡ true
+    → AreNumbersOf st s g step b
+numberless st s g step (body.Put key written) none = cc
+numberless st s g step (body.Delete key written) none = cc
+numberless st s g step (body.Get entity m) none = cc
+numberless st s g step (body.Query select results looked cursor) none = cc
+numberless st s g step (body.Gql select results looked cursor) none = cc
+numberless st s g step (body.Commit n) none = cc
+numberless st s g step (body.Conflict commit group m) none = cc
+numberless st s g step (body.AllocateIds first count) none = cc
+numberless st s g step (body.Settle m counts) none = cc
+numberless st s g step (body.Apply applied count m shard) none = cc
+numberless st s g step _ none = tt
+
+module _ (st : StateParts) (s : Session) where
+  refusal-told : (b : Body) (e : Effect) → tells_no_step b ≡ true → is_refusal e ≡ true → ToldAlways st s b e
+  refusal-told b effect.Nothing none kept = λ g step. record {
+    numbers = numberless st s g step b none;
+    touches = λ group place is. inr (group, is);
+    commits = inr refl;
+  }
+  refusal-told b (effect.SeeNext next) none kept = λ g step. record {
+    numbers = numberless st s g step b none;
+    touches = λ group place is. inr (group, is);
+    commits = inr refl;
+  }
+  refusal-told b _ none kept = cc
+
+  pub silent-told : (b : Body) (e : Effect) → is_silent b e ≡ true → ToldAlways st s b e
+  silent-told b e silent = by (tells_no_step b) (is_refusal e) refl refl silent where
+    by : (x y : Bool) → tells_no_step b ≡ x → is_refusal e ≡ y → (x && y) ≡ true → ToldAlways st s b e
+    by true true none kept silent = refusal-told b e none kept
+    by true false none kept silent = cc
+    by false y none kept silent = cc
+
+  -- a refusal as it is made
+  pub refused-told : (b v : Body) (e : Effect) → b ≡ v → e ≡ effect.Nothing → tells_no_step v ≡ true → ToldAlways st s b e
+  refused-told b v e same_body same_effect none =
+      refusal-told b e (ap tells_no_step same_body ∙ none) (ap is_refusal same_effect)
+
+  pub memory-told : (b : Body) (e : Effect) → b ≡ body.NoMemory → e ≡ effect.Nothing → ToldAlways st s b e
+  memory-told b e same_body same_effect = refused-told b body.NoMemory e same_body same_effect refl
+
+-- ---- effects
+
+no_some : (o : Option ℕ) (m : ℕ) → o ≡ None → o ≡ Some m → ⊥
+no_some o m none some = cc
+
+module _ (st : StateParts) (s : Session) (b : Body) (g : GatheredParts) (step : Step) where
+  -- the transaction and the store stay as they are
+  pub kept-told : (e : Effect) → AreNumbersOf st s g step b → (session_after e st.store s).transaction ≡ s.transaction
+      → store_after e st.store ≡ st.store → IsTold st s g step b e
+  kept-told e numbers kept store = record {
+    numbers = numbers;
+    touches = λ group m is. inr (group, sym (ap (λ o. place_in o group) kept) ∙ is);
+    commits = inr store;
+  }
+
+  -- no group is touched after it
+  pub untouched-told : (e : Effect) → AreNumbersOf st s g step b
+      → ((group : KeyParts) → place_in (session_after e st.store s).transaction group ≡ None)
+      → (step ≡ steps.Commit) ⊎ (store_after e st.store ≡ st.store) → IsTold st s g step b e
+  untouched-told e numbers none commits = record {
+    numbers = numbers;
+    touches = λ group m is. absurd (no_some (place_in (session_after e st.store s).transaction group) m (none group) is);
+    commits = commits;
+  }
+
+  pub read-told : (r : GroupRead) → AreNumbersOf st s g step b → IsPlaceOf s g r.place → IsTold st s g step b (effect.ReadGroup r)
+  read-told r numbers place = record {
+    numbers = numbers;
+    touches = λ group m is. one_of s g group r.place m place (read-place s.transaction group r.group r.place m is);
+    commits = inr refl;
+  }
+
+-- ---- searches
+
+found-numbers : (st : StateParts) (s : Session) (g : GatheredParts) (step : Step) (statement : Bool) (select : Select) (items : List Item)
+    (looked : Seen) (cursor : Option (List ℕ)) → IsSeenBy s g looked → AreNumbersOf st s g step (found statement select items looked cursor)
+found-numbers st s g step true select items looked cursor seen = seen
+found-numbers st s g step false select items looked cursor seen = seen
+
+pub search-numbers : (st : StateParts) (s : Session) (g : GatheredParts) (step : Step) (r : Search) (n : Normal) (w : Window)
+    (es : List EntityParts) (looked : Seen) (b : Body) → b ≡ told_over r n w es looked → IsSeenBy s g looked → AreNumbersOf st s g step b
+search-numbers st s g step r n w es looked b is seen =
+    subst (AreNumbersOf st s g step) (sym is)
+    (found-numbers st s g step r.statement r.query.select (items_of n.merged r.query.select es (result n w es).rows) looked
+    (cursor_of r.cursor n.branches (result n w es).next) seen)
+
+-- ---- writes
+
+outside-due : (x : Option Transaction) (placed commit : Bool) → x ≡ None → IsTrue (cond (is_some x) placed commit || false) → commit ≡ true
+outside-due None placed true none due = refl
+outside-due None placed false none due = cc
+outside-due (Some t) placed commit none due = cc
+
+inside-due : (x : Option Transaction) (t : Transaction) (placed commit : Bool) → x ≡ Some t
+    → IsTrue (cond (is_some x) placed commit || false) → placed ≡ true
+inside-due None t placed commit some due = cc
+inside-due (Some u) t true commit some due = refl
+inside-due (Some u) t false commit some due = cc
+
+pub or-left : (a b : Bool) → a ≡ true → IsTrue (a || b)
+or-left true b is = refl
+or-left false b is = cc
+
+module _ (st : StateParts) (s : Session) (touch : Option ℕ) (drawn : Bool) (group : KeyParts) where
+  pub commit-told : (n : ℕ) (w : WriteCommit) → s.transaction ≡ None → n ≡ length st.store.journal + 1
+      → WriteToldOnceDue st s touch drawn group (stands.Commit n) (effect.CommitWrite w)
+  commit-told n w outside is = λ key g step unnumbered same due.
+      let now : step ≡ steps.Commit = commit-is step (outside-due s.transaction (is_placed s g group) (is_commit step) outside due) in
+      record { numbers = (now, is); touches = λ k m at_it. inr (k, at_it); commits = inl now }
+
+  pub group-told : (t : Transaction) (w : GroupWrite) → s.transaction ≡ Some t → w.drawn ≡ drawn
+      → StandsOncePlaced s touch group w.place
+      → WriteToldOnceDue st s touch drawn group (stands.Place w.place) (effect.WriteGroup w)
+  group-told t w inside same_drawn placed = λ key g step unnumbered same due.
+      let place : IsPlaceOf s g w.place = placed g same (inside-due s.transaction t (is_placed s g group) (is_commit step) inside due) in
+      let none : ids_drawn w.drawn ≡ 0 = ap ids_drawn (same_drawn ∙ unnumbered) in
+      let next : st.store.next + ids_drawn w.drawn ≡ st.store.next = omega (arith, none) in
+      record {
+        numbers = place;
+        touches = λ k m is. one_of s g k w.place m place (write-place s.transaction k w m is);
+        commits = inr (ap (λ (n : ℕ). record (st.store) { next = n }) next);
+      }
+
+  pub deleted-told : (key : KeyParts) (written : WriteAt) (e : Effect) → ToldOnceDue st s touch drawn group (body.Put key written) e
+      → ToldOnceDue st s touch drawn group (body.Delete key written) e
+  deleted-told key written e told = λ g step unnumbered same due.
+      let put = told g step unnumbered same due in record { numbers = put.numbers; touches = put.touches; commits = put.commits }
+
+  pub once-due : (b : Body) (e : Effect) → ToldAlways st s b e → ToldOnceDue st s touch drawn group b e
+  once-due b e told = λ g step unnumbered same due. told g step

@@ -1,0 +1,140 @@
+-- The numbers that a reply tells are those that its request has gathered.
+use Rattle.std.specs.Prelude.{◌≡◌, ◌⊎◌, ℕ, ◌+◌, Bool, true, false, ◌&&◌, ◌||◌, List, Option, Some, length, map, ⊤, IsTrue, is_some}
+use Rattle.ds_base.specs.declared.results.Seen.{Seen}
+use Rattle.ds_base.specs.declared.results.Seen.TheVariants as seen
+use Rattle.ds_base.specs.Keys.{KeyParts}
+use Rattle.ds_reply.specs.declared.reply.Body.{Body}
+use Rattle.ds_reply.specs.declared.reply.Body.TheVariants as body
+use Rattle.ds_reply.specs.declared.reply.WriteAt.{WriteAt}
+use Rattle.ds_reply.specs.declared.reply.WriteAt.TheVariants as at
+use Rattle.ds_model.specs.Groups.{place_in}
+use Rattle.ds_model.specs.Sessions.{Session, count_of}
+use Rattle.ds_plans.specs.declared.effect.Effect.{Effect}
+use Rattle.ds_plans.specs.declared.effect.Effect.TheVariants as effect
+use Rattle.ds_plans.specs.declared.gathered.Step.{Step}
+use Rattle.ds_plans.specs.declared.gathered.Step.TheVariants as steps
+use Rattle.ds_plans.specs.Due.{GatheredParts}
+use Rattle.ds_plans.specs.Effects.{store_after, session_after}
+use Rattle.ds_plans.specs.States.{StateParts}
+use Rattle.ds_plans.specs.Taken.{is_placed, is_write_due}
+
+-- the place is that of the request's Touch, or one at which the client's transaction touched a group
+abbrev pub IsPlaceOf : Session → GatheredParts → ℕ → Type 0
+IsPlaceOf s g place = (g.place ≡ Some place) ⊎ ((group : KeyParts) × (place_in s.transaction group ≡ Some place))
+
+-- the counts are those of the request's Views, one for each shard
+abbrev pub AreViewsOf : GatheredParts → List ℕ → Type 0
+AreViewsOf g counts = map (λ n. Some n) counts ≡ g.views
+
+-- the journal takes the commit of this number by the step
+abbrev pub IsCommitBy : StateParts → Step → ℕ → Type 0
+IsCommitBy st step n = (step ≡ steps.Commit) × (n ≡ length st.store.journal + 1)
+
+-- where a write stands
+abbrev pub IsWriteAt : StateParts → Session → GatheredParts → Step → WriteAt → Type 0
+IsWriteAt st s g step (at.Place m) = IsPlaceOf s g m
+IsWriteAt st s g step (at.Commit n) = IsCommitBy st step n
+
+-- what a search saw
+abbrev pub IsSeenBy : Session → GatheredParts → Seen → Type 0
+IsSeenBy s g (seen.Place m) = IsPlaceOf s g m
+IsSeenBy s g (seen.Counts counts) = AreViewsOf g counts
+
+-- The entries of a shard: with true as many as the request's own Apply left applied, and with false as many as are applied, which the step,
+-- a View of the shard, shows.
+abbrev pub IsCountBy : StateParts → GatheredParts → Step → Bool → ℕ → ℕ → Type 0
+IsCountBy st g step true count shard = g.applied ≡ Some count
+IsCountBy st g step false count shard = (step ≡ steps.View shard) × (count ≡ count_of st.applied.counts shard)
+
+-- Each number that the body tells of the store is one that was gathered, or that the step shows. The id of a completed put stands with the
+-- drawn ids, and a refusal tells no such number.
+abbrev pub AreNumbersOf : StateParts → Session → GatheredParts → Step → Body → Type 0
+AreNumbersOf st s g step (body.Put key written) = IsWriteAt st s g step written
+AreNumbersOf st s g step (body.Delete key written) = IsWriteAt st s g step written
+AreNumbersOf st s g step (body.Get entity m) = IsPlaceOf s g m
+AreNumbersOf st s g step (body.Query select results looked cursor) = IsSeenBy s g looked
+AreNumbersOf st s g step (body.Gql select results looked cursor) = IsSeenBy s g looked
+AreNumbersOf st s g step (body.Commit n) = IsCommitBy st step n
+AreNumbersOf st s g step (body.Conflict commit group m) = (step ≡ steps.Commit) × (m ≡ length st.store.journal)
+AreNumbersOf st s g step (body.AllocateIds first count) = g.first ≡ Some first
+AreNumbersOf st s g step (body.Settle m counts) = (g.place ≡ Some m) × AreViewsOf g counts
+AreNumbersOf st s g step (body.Apply applied count m shard) = (g.place ≡ Some m) × IsCountBy st g step applied count shard
+AreNumbersOf st s g step _ = ⊤
+
+-- What is said to an open request, and changed by it, by what it has gathered and the step just taken: its numbers are those; after it no
+-- group is touched but at a place that was gathered or touched before; and the journal takes a commit by a Commit step alone.
+pub record IsTold (st : StateParts) (s : Session) (g : GatheredParts) (step : Step) (said : Body) (change : Effect) : Type 0 where
+  pub numbers : AreNumbersOf st s g step said
+  pub touches : (group : KeyParts) (place : ℕ) → place_in (session_after change st.store s).transaction group ≡ Some place
+      → IsPlaceOf s g place
+  pub commits : (step ≡ steps.Commit) ⊎ (store_after change st.store ≡ st.store)
+
+-- ---- refusals
+
+-- the bodies that tell no number of a step
+abbrev pub tells_no_step : Body → Bool
+tells_no_step (body.Put key written) = false
+tells_no_step (body.Delete key written) = false
+tells_no_step (body.Get entity m) = false
+tells_no_step (body.Query select results looked cursor) = false
+tells_no_step (body.Gql select results looked cursor) = false
+tells_no_step (body.Commit n) = false
+tells_no_step (body.Conflict commit group m) = false
+tells_no_step (body.AllocateIds first count) = false
+tells_no_step (body.Settle m counts) = false
+tells_no_step (body.Apply applied count m shard) = false
+tells_no_step _ = true
+
+-- nothing changes but the id counter that is shown, as by a refusal
+abbrev pub is_refusal : Effect → Bool
+is_refusal effect.Nothing = true
+is_refusal (effect.SeeNext next) = true
+is_refusal _ = false
+
+-- a refusal, which tells no number of a step and changes nothing but the id counter that is shown
+abbrev pub is_silent : Body → Effect → Bool
+is_silent said change = tells_no_step said && is_refusal change
+
+-- ---- what is told wherever the numbers that it was given are gathered ones
+
+-- whatever is gathered and whichever step is taken
+abbrev pub ToldAlways : StateParts → Session → Body → Effect → Type 0
+ToldAlways st s said change = (g : GatheredParts) (step : Step) → IsTold st s g step said change
+
+-- where the place is gathered or touched
+abbrev pub ToldAtPlace : StateParts → Session → ℕ → Body → Effect → Type 0
+ToldAtPlace st s place said change = (g : GatheredParts) (step : Step) → IsPlaceOf s g place → IsTold st s g step said change
+
+-- where the counts are viewed
+abbrev pub ToldAtCounts : StateParts → Session → List ℕ → Body → Effect → Type 0
+ToldAtCounts st s counts said change = (g : GatheredParts) (step : Step) → AreViewsOf g counts → IsTold st s g step said change
+
+-- where the place is that of the Touch, and the counts are viewed
+abbrev pub ToldSettled : StateParts → Session → ℕ → List ℕ → Body → Effect → Type 0
+ToldSettled st s place counts said change =
+    (g : GatheredParts) (step : Step) → g.place ≡ Some place → AreViewsOf g counts → IsTold st s g step said change
+
+-- where the body's numbers are those
+abbrev pub ToldByNumbers : StateParts → Session → Body → Body → Effect → Type 0
+ToldByNumbers st s b said change = (g : GatheredParts) (step : Step) → AreNumbersOf st s g step b → IsTold st s g step said change
+
+-- a commit: where the step is a Commit, if there is a transaction
+abbrev pub ToldAtCommit : StateParts → Session → Body → Effect → Type 0
+ToldAtCommit st s said change =
+    (g : GatheredParts) (step : Step) → (IsTrue (is_some s.transaction) → step ≡ steps.Commit) → IsTold st s g step said change
+
+-- A write to a group, which is touched at the given place: where its id, if it needs one, was drawn before, that place is the Touch's, and
+-- nothing is missing. A refusal misses nothing.
+abbrev pub ToldOnceDue : StateParts → Session → Option ℕ → Bool → KeyParts → Body → Effect → Type 0
+ToldOnceDue st s touch drawn group said change =
+    (g : GatheredParts) (step : Step) → drawn ≡ false → touch ≡ g.place
+    → IsTrue (is_write_due s g group step || is_refusal change) → IsTold st s g step said change
+
+-- where its write stands, whatever its key
+abbrev pub WriteToldOnceDue : StateParts → Session → Option ℕ → Bool → KeyParts → WriteAt → Effect → Type 0
+WriteToldOnceDue st s touch drawn group written change =
+    (key : KeyParts) → ToldOnceDue st s touch drawn group (body.Put key written) change
+
+-- a group's place, where the given one is the Touch's and it is known where the group stands
+abbrev pub StandsOncePlaced : Session → Option ℕ → KeyParts → ℕ → Type 0
+StandsOncePlaced s touch group m = (g : GatheredParts) → touch ≡ g.place → IsTrue (is_placed s g group) → IsPlaceOf s g m
