@@ -1,23 +1,17 @@
 -- What a core keeps: no session has seen what isn't there.
 use Rattle.std.proofs.Common.{◌≡◌, ℕ, zero, suc, ◌+◌, ◌<◌, ◌≤◌, List, [], ◌∷◌, ◌++◌, length, take, drop, map, refl, ap, sym, ◌∙◌, subst}
-use Rattle.std.proofs.Common.{arith, Option, Some, None, get_or, append_assoc}
+use Rattle.std.proofs.Common.{arith, Some, get_or}
 use Rattle.std.specs.Prelude.{All, max, fold, replicate, slice_get, slice_set}
 use Rattle.std.proofs.lemmas.List.{append-nil, drop_all, take_all}
 use Rattle.std.proofs.lemmas.List.Elements.{All-replicate, All-nil, All-cons, All-set}
-use Rattle.ds_base.specs.Limits.{first_drawn_id, greatest_client, most_shards}
+use Rattle.ds_base.specs.Limits.{first_drawn_id, greatest_client}
 use Rattle.ds_indexdef.specs.declared.IndexDef.{IndexDef}
-use Rattle.ds_log.specs.declared.Commit.{Commit}
-use Rattle.ds_request.specs.declared.call.Request.{Request}
-use Rattle.ds_reply.specs.declared.reply.Reply.{Reply}
-use Rattle.ds_reply.specs.Replies.{reply_text}
-use Rattle.ds_model.specs.Sessions.{Session, first_session, first_sessions, first_id, greater_counts, greatest_counts, greatest_place}
-use Rattle.ds_model.specs.Sessions.{greatest_next, raised_to, met}
-use Rattle.ds_plans.specs.Answered.{CallAnswered}
-use Rattle.ds_core.specs.Answered.{HasAnswered}
+use Rattle.ds_model.specs.Sessions.{Session, first_session, first_sessions, greater_counts, greatest_counts}
+use Rattle.ds_model.specs.Sessions.{raised_to, met}
 use Rattle.ds_core.specs.Meetings.{HaveCounts}
 use Rattle.ds_plans.specs.States.{StoreParts, StateParts, AreUpTo, IsSession, Grows}
-use Rattle.ds_core.specs.Cores.{CoreParts, IsCore, store_of}
-use Rattle.ds_plans.proofs.Grown.{up_to-same, up_to-then, up_to-greater, session-grown}
+use Rattle.ds_core.specs.Cores.{CoreParts, IsCore}
+use Rattle.ds_plans.proofs.Grown.{up_to-same, up_to-greater, session-grown}
 
 -- ---- lists of sessions
 

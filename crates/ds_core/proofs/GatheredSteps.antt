@@ -1,9 +1,9 @@
 -- A step of a client as the machine takes it: what was said stays legal, and nothing is said.
-use Rattle.std.proofs.Common.{◌≡◌, ℕ, ◌+◌, ◌<◌, ◌≤◌, Bool, true, false, List, length, refl, ap, sym, ◌∙◌, subst, arith}
+use Rattle.std.proofs.Common.{◌≡◌, ℕ, ◌+◌, ◌<◌, ◌≤◌, true, false, length, refl, ap, sym, ◌∙◌, subst, arith}
 use Rattle.std.proofs.Common.{Option, Some, None, get_or, cond}
 use Rattle.std.specs.Prelude.{Err, Ok, IfSome, OnOk, Result, is_some, slice_set}
 use Rattle.std.specs.Option.{option_map}
-use Rattle.ds_base.specs.Limits.{first_drawn_id, greatest_client}
+use Rattle.ds_base.specs.Limits.{greatest_client}
 use Rattle.ds_request.specs.declared.call.Request.{Request}
 use Rattle.ds_request.specs.Lawful.{IsLawfulCall}
 use Rattle.ds_reply.specs.declared.reply.Body.{Body}
@@ -14,7 +14,7 @@ use Rattle.ds_plans.specs.States.{AreUpTo, IsSession, StateParts}
 use Rattle.ds_plans.proofs.Grown.{up_to-same}
 use Rattle.ds_plans.proofs.ReadPlans.{raised_above}
 use Rattle.ds_core.specs.declared.opened.Open.{Open}
-use Rattle.ds_core.specs.Happenings.{IsSilent, Turn, asked_by, asked_of}
+use Rattle.ds_core.specs.Happenings.{IsSilent, Turn}
 use Rattle.ds_core.specs.Machines.{MachineParts, IsDueTo, IsLawfulRequest, IsLegal, IsOpen, IsSameRun, held_by, just_opened}
 use Rattle.ds_core.specs.Steps.{AppliedTo, DrawnTo, ReadsUpTo, ViewedTo, touched}
 use Rattle.ds_core.proofs.Clients.{client-below, client-open, due-any, own-at, own-read}

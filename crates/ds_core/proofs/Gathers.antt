@@ -1,7 +1,7 @@
 -- What an open request gathers keeps what was said legal, and says nothing.
-use Rattle.std.proofs.Common.{◌≡◌, ◌⊎◌, inl, inr, ℕ, ◌+◌, ◌<◌, ◌≤◌, List, [], ◌∷◌, ◌++◌, length, refl, ap, sym, ◌∙◌, subst, arith}
+use Rattle.std.proofs.Common.{◌≡◌, inl, inr, ℕ, ◌+◌, ◌<◌, ◌≤◌, [], ◌++◌, length, refl, ap, sym, ◌∙◌, subst, arith}
 use Rattle.std.proofs.Common.{Option, Some, None, get_or, true, false}
-use Rattle.std.specs.Prelude.{All, IsTrue, slice_set}
+use Rattle.std.specs.Prelude.{slice_set}
 use Rattle.std.specs.List.{range_with_len}
 use Rattle.std.specs.Option.{option_map}
 use Rattle.std.proofs.lemmas.List.{append-nil}
@@ -9,7 +9,6 @@ use Rattle.ds_base.specs.Limits.{first_drawn_id}
 use Rattle.ds_request.specs.declared.call.Call.{Call}
 use Rattle.ds_request.specs.declared.call.Call.TheVariants as call
 use Rattle.ds_request.specs.declared.call.Request.{Request}
-use Rattle.ds_model.specs.Asked.{has_shard}
 use Rattle.ds_model.specs.Sessions.{Session, count_of}
 use Rattle.ds_plans.specs.Due.{GatheredParts, IsGathered, AppliedWithin, ids_asked, ids_of, ids_from}
 use Rattle.ds_plans.specs.States.{StoreParts, StateParts, IsSession, Grows, AreUpTo}
@@ -18,10 +17,10 @@ use Rattle.ds_plans.proofs.Growing.{grows_planned}
 use Rattle.ds_plans.proofs.Grown.{up_to-same}
 use Rattle.ds_plans.proofs.ReadPlans.{up_to-count}
 use Rattle.ds_core.specs.declared.opened.Open.{Open}
-use Rattle.ds_core.specs.Happenings.{IsSilent, asked_of}
+use Rattle.ds_core.specs.Happenings.{IsSilent}
 use Rattle.ds_core.specs.Machines.{MachineParts, IsLawfulRequest, IsLegal, IsOpen, IsSameRun, held_by, just_opened}
 use Rattle.ds_core.specs.Steps.{AppliedTo, DrawnTo, ViewedTo, first_place, touched, with_gathered}
-use Rattle.ds_core.proofs.Legals.{machine_stepped, open-at, opens-many, set-same, stepped-legal, open-grown}
+use Rattle.ds_core.proofs.Legals.{open-at, opens-many, set-same, stepped-legal, open-grown}
 use Rattle.ds_core.proofs.Turns.{asked-same}
 
 -- the held ids are those from the first one on alone

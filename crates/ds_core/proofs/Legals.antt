@@ -1,31 +1,29 @@
 -- What a machine has said stays one legal round, whatever its steps are.
-use Rattle.std.proofs.Common.{◌≡◌, ◌≢◌, ◌⊎◌, inl, inr, ℕ, zero, suc, ◌+◌, ◌-◌, ◌<◌, ◌≤◌, List, [], ◌∷◌, ◌++◌, length, refl, ap, sym, ◌∙◌, subst, arith}
+use Rattle.std.proofs.Common.{◌≡◌, ◌≢◌, ℕ, zero, suc, ◌+◌, ◌-◌, ◌<◌, ◌≤◌, List, [], ◌∷◌, ◌++◌, length, refl, ap, sym, ◌∙◌, subst, arith}
 use Rattle.std.proofs.Common.{Option, Some, None, get_or, append_assoc, length-append}
 use Rattle.std.specs.Prelude.{Err, Ok, OnOk, Result, All, IsTrue, replicate, slice_get, slice_set, flat_map, IsPermutation}
 use Rattle.std.specs.List.{range_with_len}
 use Rattle.std.proofs.lemmas.Grind.{flat_map-append}
 use Rattle.std.proofs.lemmas.List.{append-nil}
 use Rattle.std.proofs.lemmas.List.Elements.{All-nil, All-append}
-use Rattle.std.proofs.lemmas.List.Sorted.{IsPermutation-append, IsPermutation-append_comm, IsPermutation-append_left, IsPermutation-append_right}
+use Rattle.std.proofs.lemmas.List.Sorted.{IsPermutation-append_comm, IsPermutation-append_left, IsPermutation-append_right}
 use Rattle.std.proofs.lemmas.List.Sorted.{IsPermutation-refl, IsPermutation-sym, IsPermutation-trans}
 use Rattle.ds_base.specs.Limits.{first_drawn_id, greatest_client, most_shards}
 use Rattle.ds_indexdef.specs.declared.IndexDef.{IndexDef}
 use Rattle.ds_log.specs.declared.Commit.{Commit}
-use Rattle.ds_request.specs.declared.call.Call.{Call}
 use Rattle.ds_request.specs.declared.call.Request.{Request}
-use Rattle.ds_request.specs.Lawful.{IsLawfulCall}
 use Rattle.ds_reply.specs.declared.reply.Body.{Body}
 use Rattle.ds_reply.specs.declared.reply.Body.TheVariants as body
 use Rattle.ds_reply.specs.declared.reply.Reply.{Reply}
 use Rattle.ds_model.specs.Answers.{BodyAnswers}
 use Rattle.ds_model.specs.Asked.{has_shard}
-use Rattle.ds_model.specs.Legal.{acknowledged, acknowledged_in, accepted, accepted_in, printed_next, printed_next_in, drawn_by_call}
+use Rattle.ds_model.specs.Legal.{acknowledged, acknowledged_in, accepted, printed_next, drawn_by_call}
 use Rattle.ds_model.specs.Sessions.{Session, first_id, first_session, first_sessions}
 use Rattle.ds_model.specs.Worlds.{World}
 use Rattle.ds_plans.specs.declared.effect.Effect.{Effect}
-use Rattle.ds_plans.specs.Due.{IsDue, IsGathered, ids_of}
+use Rattle.ds_plans.specs.Due.{IsDue, ids_of}
 use Rattle.ds_plans.specs.Effects.{store_after, session_after}
-use Rattle.ds_plans.specs.States.{StoreParts, StateParts, IsSession, Grows, AreUpTo, world}
+use Rattle.ds_plans.specs.States.{StoreParts, StateParts, IsSession, Grows, world}
 use Rattle.ds_plans.proofs.Gatherings.{due-said, gathered-grown}
 use Rattle.ds_plans.proofs.Grown.{session-grown, grows-after, session-after}
 use Rattle.ds_core.specs.declared.opened.Open.{Open}

@@ -1,5 +1,5 @@
 -- Sessions meet by the greatest of what each has seen.
-use Rattle.std.proofs.Common.{◌≡◌, ℕ, zero, suc, ◌+◌, ◌<◌, List, [], ◌∷◌, ◌++◌, length, take, drop, map, refl, ap, sym, ◌∙◌, subst, arith}
+use Rattle.std.proofs.Common.{◌≡◌, ℕ, zero, suc, ◌+◌, ◌<◌, List, [], ◌∷◌, ◌++◌, length, take, drop, map, refl, ap, sym, ◌∙◌, arith}
 use Rattle.std.proofs.Common.{get_or}
 use Rattle.std.specs.Prelude.{max, replicate}
 use Rattle.std.proofs.Math.ListN.{set}

@@ -1,14 +1,11 @@
 -- A run over events, one after another.
-use Rattle.std.proofs.Common.{◌≡◌, ℕ, ◌≤◌, ◌<◌, List, [], ◌∷◌, ◌++◌, length, map, refl, ap, sym, ◌∙◌, subst, arith, Some, None}
-use Rattle.std.specs.Prelude.{All, IfSome, Option}
+use Rattle.std.proofs.Common.{◌≡◌, ℕ, List, [], ◌∷◌, ◌++◌, map, ap, sym, ◌∙◌, subst}
+use Rattle.std.specs.Prelude.{All}
 use Rattle.std.proofs.lemmas.List.{append-nil}
 use Rattle.std.proofs.lemmas.List.Elements.{All-head, All-rest}
-use Rattle.ds_base.specs.Limits.{greatest_client}
 use Rattle.ds_core.specs.declared.event.Event.{Event}
-use Rattle.ds_core.specs.Courses.{IsPast}
-use Rattle.ds_core.specs.Happenings.{Happening, Turn, event_of}
-use Rattle.ds_core.specs.Machines.{MachineParts, IsLawfulEvent, IsLegal, IsSameRun}
-use Rattle.ds_core.proofs.Turns.{event-then, happened, past-then}
+use Rattle.ds_core.specs.Happenings.{Happening, event_of}
+use Rattle.ds_core.specs.Machines.{IsLawfulEvent}
 
 -- the first of the events that are left
 pub first-lawful : (shards now : ℕ) (e : Event) (more rest : List Event) → rest ≡ e ∷ more → now ≡ shards

@@ -1,10 +1,9 @@
 -- The reply to an open request: what was said stays legal, and it is a turn of its client.
-use Rattle.std.proofs.Common.{◌≡◌, ◌≢◌, ◌⊎◌, inl, inr, ℕ, ◌+◌, ◌<◌, ◌≤◌, List, [], ◌∷◌, ◌++◌, length, refl, ap, sym, ◌∙◌, subst, arith, Option, Some, None, get_or}
+use Rattle.std.proofs.Common.{◌≡◌, ◌≢◌, inl, inr, ℕ, ◌+◌, ◌<◌, ◌≤◌, List, length, ap, sym, ◌∙◌, subst, Option, Some, None, get_or}
 use Rattle.std.specs.Prelude.{Err, Ok, OnOk, Result, slice_set}
 use Rattle.std.specs.Option.{option_map}
 use Rattle.ds_base.specs.Limits.{greatest_client}
 use Rattle.ds_request.specs.declared.call.Call.{Call}
-use Rattle.ds_request.specs.declared.call.Request.{Request}
 use Rattle.ds_reply.specs.declared.reply.Body.{Body}
 use Rattle.ds_reply.specs.declared.reply.Body.TheVariants as body
 use Rattle.ds_model.specs.Sessions.{Session}
@@ -13,7 +12,7 @@ use Rattle.ds_plans.specs.Due.{IsDue, IsDuePlan, ids_of}
 use Rattle.ds_plans.specs.Effects.{IsAllowed}
 use Rattle.ds_plans.specs.States.{StateParts}
 use Rattle.ds_core.specs.declared.opened.Open.{Open}
-use Rattle.ds_core.specs.Happenings.{Turn, asked_by, asked_of}
+use Rattle.ds_core.specs.Happenings.{Turn, asked_of}
 use Rattle.ds_core.specs.Machines.{MachineParts, IsDueTo, IsLegal, IsSameRun, noted, performed}
 use Rattle.ds_core.proofs.Clients.{client-below, client-open}
 use Rattle.ds_core.proofs.Legals.{said_by, said-legal}

@@ -1,6 +1,6 @@
 -- A step with what it gathers and the reply that it may bring, and a request that opens before it.
-use Rattle.std.proofs.Common.{◌≡◌, ◌≢◌, ◌⊎◌, inl, inr, ℕ, zero, suc, ◌+◌, ◌<◌, List, [], ◌∷◌, ◌++◌, length, refl, ap, sym, ◌∙◌, subst, arith}
-use Rattle.std.proofs.Common.{cond, Bool, true, false, Option, Some, None, get_or, append_assoc, length-append}
+use Rattle.std.proofs.Common.{◌≡◌, ◌≢◌, ◌⊎◌, inl, inr, ℕ, ◌+◌, ◌<◌, List, [], ◌∷◌, ◌++◌, length, refl, ap, sym, ◌∙◌, subst, arith}
+use Rattle.std.proofs.Common.{cond, Option, Some, None, get_or, length-append}
 use Rattle.std.specs.Prelude.{Ok, Err, OnOk, Result, nat_lt, slice_set}
 use Rattle.std.proofs.lemmas.List.{append-nil}
 use Rattle.ds_log.specs.declared.Commit.{Commit}
@@ -12,14 +12,13 @@ use Rattle.ds_model.specs.Sessions.{Session, count_of, raised_at}
 use Rattle.ds_plans.specs.declared.effect.Effect.{Effect}
 use Rattle.ds_plans.specs.declared.gathered.Step.{Step}
 use Rattle.ds_plans.specs.declared.gathered.Step.TheVariants as steps
-use Rattle.ds_plans.specs.Due.{ids_of}
 use Rattle.ds_plans.specs.States.{StoreParts, StateParts}
 use Rattle.ds_plans.specs.Told.{IsTold}
 use Rattle.ds_core.specs.declared.opened.Open.{Open}
 use Rattle.ds_core.specs.Happenings.{Happening, IsSilent, IsStill, Moment, Said, Turn, moment_of, said_requests, said_replies}
 use Rattle.ds_core.specs.Machines.{MachineParts, IsDueTo, IsLegal, IsOpen, IsSameRun, just_opened, noted, performed}
 use Rattle.ds_core.specs.Timelines.{IsCheck, IsCommit, IsTimely, IsView, Moves, Occurs}
-use Rattle.ds_core.specs.Witnesses.{AreWitnessed, GathersAt, IsGatheredThen, IsOwn, IsSaid, IsStepOf, IsToldTo, OpensAt, RepliesAt, TakesAt}
+use Rattle.ds_core.specs.Witnesses.{AreWitnessed, GathersAt, IsGatheredThen, IsSaid, IsToldTo, OpensAt, RepliesAt, TakesAt}
 use Rattle.ds_core.proofs.Occurring.{nothing-gathered, occurs-last, some-is, witnessed-open}
 use Rattle.ds_core.proofs.Timing.{silent-timely, timely-more, told-replies}
 use Rattle.ds_core.proofs.Legals.{open-at, opens-many}

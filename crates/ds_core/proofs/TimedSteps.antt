@@ -1,5 +1,5 @@
 -- A step of a client as the machine takes it: what is gathered comes from it.
-use Rattle.std.proofs.Common.{◌≡◌, ℕ, ◌+◌, ◌<◌, ◌≤◌, true, length, refl, ap, sym, ◌∙◌, subst, arith, Option, Some, None, get_or}
+use Rattle.std.proofs.Common.{◌≡◌, ℕ, ◌<◌, ◌≤◌, true, length, refl, ap, sym, ◌∙◌, subst, arith, Option, Some, get_or}
 use Rattle.std.specs.Prelude.{Err, Ok, OnOk, Result, slice_set}
 use Rattle.std.proofs.lemmas.List.{get_or_default}
 use Rattle.ds_base.specs.Limits.{greatest_client}

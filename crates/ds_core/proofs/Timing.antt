@@ -1,11 +1,10 @@
 -- What is said stands on what happened up to then.
-use Rattle.std.proofs.Common.{◌≡◌, ◌≢◌, ◌⊎◌, inl, inr, ℕ, zero, suc, ◌+◌, ◌<◌, ◌≤◌, List, [], ◌∷◌, ◌++◌, length, refl, ap, sym, ◌∙◌, subst, arith}
-use Rattle.std.proofs.Common.{Bool, true, false, Option, Some, None, get_or, append_assoc, length-append}
-use Rattle.std.specs.Prelude.{Ok, Result, IfSome, slice_get, slice_set, ⊤}
+use Rattle.std.proofs.Common.{◌≡◌, ◌⊎◌, inl, inr, ℕ, zero, suc, ◌+◌, ◌<◌, ◌≤◌, List, [], ◌∷◌, ◌++◌, length, refl, ap, sym, ◌∙◌, subst, arith}
+use Rattle.std.proofs.Common.{Bool, true, false, Option, Some, None, get_or, length-append}
+use Rattle.std.specs.Prelude.{Ok, IfSome, slice_set, ⊤}
 use Rattle.std.specs.List.{range_with_len}
 use Rattle.std.proofs.lemmas.List.{append-nil, append_cancel_left}
 use Rattle.std.proofs.lemmas.List.FromFn.{length-range_with_len}
-use Rattle.ds_base.specs.Keys.{KeyParts}
 use Rattle.ds_base.specs.declared.results.Seen.{Seen}
 use Rattle.ds_base.specs.declared.results.Seen.TheVariants as seen
 use Rattle.ds_log.specs.declared.Commit.{Commit}
@@ -20,7 +19,6 @@ use Rattle.ds_reply.specs.declared.reply.WriteAt.TheVariants as at
 use Rattle.ds_rounds.specs.Lines.{TooLong}
 use Rattle.ds_model.specs.Answers.{BodyAnswers, CallAnswers, SearchAnswers, TransactionAnswers}
 use Rattle.ds_model.specs.Asked.{Reading, Search, client_of}
-use Rattle.ds_model.specs.Groups.{place_in}
 use Rattle.ds_model.specs.Legal.{acknowledged_in, drawn_by_call, written_commit}
 use Rattle.ds_model.specs.Refusals.{Places}
 use Rattle.ds_model.specs.Sessions.{Session, Transaction, count_of}
@@ -31,7 +29,7 @@ use Rattle.ds_plans.specs.declared.gathered.Step.{Step}
 use Rattle.ds_plans.specs.declared.gathered.Step.TheVariants as steps
 use Rattle.ds_plans.specs.Due.{GatheredParts, IsDue, ids_asked, ids_from, ids_of}
 use Rattle.ds_plans.specs.Effects.{store_after, session_after}
-use Rattle.ds_plans.specs.States.{StoreParts, StateParts, world}
+use Rattle.ds_plans.specs.States.{StoreParts, world}
 use Rattle.ds_plans.specs.Told.{AreNumbersOf, AreViewsOf, IsCommitBy, IsCountBy, IsPlaceOf, IsSeenBy, IsTold, IsWriteAt}
 use Rattle.ds_core.specs.declared.opened.Open.{Open}
 use Rattle.ds_core.specs.Happenings.{Happening, Said, said_requests, said_replies}
@@ -39,7 +37,7 @@ use Rattle.ds_core.specs.Machines.{MachineParts, noted, performed}
 use Rattle.ds_core.specs.Timelines.{Occurs, IsTouch, IsCommit, IsCheck, IsView, IsApply, IsIssue, AreViews, IsAppliedThen, IsDrawnThen}
 use Rattle.ds_core.specs.Timelines.{IsPrintedThen, IsSeenThen, IsTimely, IsWrittenThen}
 use Rattle.ds_core.specs.Witnesses.{AreWitnessed, IsGatheredThen, IsOwn, IsRaisedThen, IsSaid, IsTouchedThen, RepliesAt}
-use Rattle.ds_core.proofs.Occurring.{occurs-more, some-is, views-are, witnessed-open, witnessed-session}
+use Rattle.ds_core.proofs.Occurring.{occurs-more, views-are, witnessed-open, witnessed-session}
 use Rattle.ds_core.proofs.Witnessing.{got-at}
 
 -- ---- an apply's reply tells of the shard that was asked for
@@ -308,6 +306,9 @@ module _ (m : MachineParts) (client : ℕ) (d : Session) (none : Option Open) (o
     journal = added_by told.commits;
     counts = refl;
     next = due.next;
-    timely = λ hs own are. (witnessed_then hs own are, λ said is. said-timely hs said m.requests m.replies o.request
-        (record { client = client; line = length m.replies + 1; body = b }) is.0 is.1 (tells_then hs own are));
+    timely = λ hs own are. (
+      witnessed_then hs own are,
+      λ said is. said-timely hs said m.requests m.replies o.request
+          (record { client = client; line = length m.replies + 1; body = b }) is.0 is.1 (tells_then hs own are),
+    );
   }

@@ -4,7 +4,7 @@ use Rattle.std.proofs.Common.{Option, Some, None, get_or, append_assoc}
 use Rattle.ds_base.specs.Limits.{first_drawn_id, greatest_client}
 use Rattle.ds_indexdef.specs.declared.IndexDef.{IndexDef}
 use Rattle.std.proofs.lemmas.List.Elements.{All-append, All-cons, All-nil}
-use Rattle.std.specs.Prelude.{Err, Ok, OnOk, Result, All, flat_map, replicate, slice_get, slice_set, unwrap_or}
+use Rattle.std.specs.Prelude.{Err, Ok, OnOk, Result, All, flat_map, replicate, slice_set}
 use Rattle.std.specs.Option.{option_map}
 use Rattle.std.proofs.lemmas.Grind.{flat_map-append}
 use Rattle.std.proofs.lemmas.List.{append-nil}
@@ -18,9 +18,9 @@ use Rattle.ds_core.specs.Courses.{GoesOn, HasHappened, IsPast}
 use Rattle.ds_core.specs.Happenings.{Moment, Said, Happening, Happens, Follow, Speaks, Turn, IsSilent, IsStill}
 use Rattle.ds_core.specs.Happenings.{asked_by, asked_of, opening, first_moment, moment_of}
 use Rattle.ds_model.specs.Sessions.{Session, first_sessions}
-use Rattle.ds_core.specs.Happenings.{event_of, none_asked, said_requests, said_replies, requests_in, replies_in}
+use Rattle.ds_core.specs.Happenings.{event_of, said_requests, said_replies}
 use Rattle.ds_core.specs.Machines.{MachineParts, IsSameRun}
-use Rattle.ds_core.specs.Timelines.{AreTimely, Moves}
+use Rattle.ds_core.specs.Timelines.{Moves}
 use Rattle.ds_core.specs.Witnesses.{AreWitnessed, IsStepOf, TakesAt}
 use Rattle.ds_core.proofs.Occurring.{moves-then, none-witnessed, timely-then}
 use Rattle.ds_plans.specs.States.{StateParts, StoreParts}

@@ -1,13 +1,10 @@
 -- What an open request gathers by a step comes from what happened, or from the step.
 use Rattle.std.proofs.Common.{◌≡◌, ◌⊎◌, inl, inr, ℕ, zero, suc, ◌+◌, ◌<◌, ◌≤◌, List, [], ◌∷◌, ◌++◌, length, refl, ap, sym, ◌∙◌, subst, arith}
 use Rattle.std.proofs.Common.{Bool, true, false, cond, max, Option, Some, None, get_or}
-use Rattle.std.specs.Prelude.{IfSome, slice_get, slice_set, nat_lt}
-use Rattle.std.specs.Option.{option_map}
+use Rattle.std.specs.Prelude.{IfSome, slice_get, slice_set}
 use Rattle.ds_log.specs.declared.Commit.{Commit}
-use Rattle.ds_request.specs.declared.call.Call.{Call}
-use Rattle.ds_request.specs.declared.call.Call.TheVariants as call
 use Rattle.ds_model.specs.Sessions.{Session, count_of, raised_at}
-use Rattle.ds_plans.specs.Due.{GatheredParts, ids_asked, counts_applied, is_pending}
+use Rattle.ds_plans.specs.Due.{counts_applied, is_pending}
 use Rattle.ds_plans.specs.States.{StoreParts, StateParts}
 use Rattle.ds_plans.specs.declared.gathered.Step.{Step}
 use Rattle.ds_plans.specs.declared.gathered.Step.TheVariants as steps
@@ -16,7 +13,7 @@ use Rattle.ds_core.specs.Happenings.{Happening, moment_of}
 use Rattle.ds_core.specs.Machines.{MachineParts}
 use Rattle.ds_core.specs.Steps.{AppliedTo, DrawnTo, ViewedTo, first_place, touched, with_gathered}
 use Rattle.ds_core.specs.Timelines.{Occurs, IsTouch, IsView, IsApply, IsIssue, Moves}
-use Rattle.ds_core.specs.Witnesses.{AreWitnessed, GathersAt, IsGatheredThen, IsRaisedThen, IsStoreAt}
+use Rattle.ds_core.specs.Witnesses.{AreWitnessed, GathersAt, IsGatheredThen, IsRaisedThen}
 use Rattle.ds_core.proofs.Occurring.{occurs-last, occurs-more, some-is, set-got, gathered-more, witnessed-more, witnessed-open}
 
 -- what a client's open request, if it has one, has gathered

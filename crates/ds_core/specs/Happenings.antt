@@ -1,5 +1,5 @@
 -- What happens in a run over single events: the steps that were taken, what there was before and after each, and what was said.
-use Rattle.std.specs.Prelude.{◌≡◌, ℕ, ◌+◌, List, [], ◌∷◌, ◌++◌, Option, Some, None, All, flat_map, map, replicate, slice_get, slice_set, unwrap_or}
+use Rattle.std.specs.Prelude.{◌≡◌, ℕ, ◌+◌, List, [], ◌∷◌, ◌++◌, Option, Some, None, flat_map, map, replicate, slice_get, slice_set, unwrap_or}
 use Rattle.std.specs.Option.{option_map}
 use Rattle.ds_base.specs.Limits.{greatest_client}
 use Rattle.ds_log.specs.declared.Commit.{Commit}
@@ -8,7 +8,6 @@ use Rattle.ds_reply.specs.declared.reply.Reply.{Reply}
 use Rattle.ds_model.specs.Sessions.{first_id}
 use Rattle.ds_plans.specs.declared.gathered.Step.{Step}
 use Rattle.ds_core.specs.declared.event.Event.{Event}
-use Rattle.ds_core.specs.declared.event.Transcript.{Transcript}
 use Rattle.ds_core.specs.declared.opened.Open.{Open}
 use Rattle.ds_core.specs.Machines.{MachineParts}
 

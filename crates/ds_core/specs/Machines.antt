@@ -1,5 +1,5 @@
 -- What a machine of events keeps, and that what it has said so far is one legal round.
-use Rattle.std.specs.Prelude.{◌≡◌, ℕ, zero, suc, ◌+◌, ◌-◌, ◌≤◌, ◌<◌, List, [], ◌∷◌, ◌++◌, Option, Some, None, Ok, length, All, IsTrue, ⊤}
+use Rattle.std.specs.Prelude.{◌≡◌, ℕ, ◌+◌, ◌-◌, ◌≤◌, ◌<◌, List, [], ◌∷◌, ◌++◌, Option, Some, None, length, All, IsTrue, ⊤}
 use Rattle.std.specs.Prelude.{flat_map, get_or, replicate, slice_set, IfSome, IsPermutation}
 use Rattle.std.specs.List.{range_with_len}
 use Rattle.ds_base.specs.Limits.{greatest_client, most_shards}

@@ -1,5 +1,5 @@
 -- What a run over single events gives: one legal round, told of requests instead of lines.
-use Rattle.std.specs.Prelude.{◌≡◌, ◌≢◌, ℕ, ◌+◌, ◌-◌, ◌<◌, ◌≤◌, List, [], ◌∷◌, ◌++◌, Option, Some, None, Ok, length, All}
+use Rattle.std.specs.Prelude.{◌≡◌, ◌≢◌, ℕ, ◌+◌, ◌-◌, ◌<◌, ◌≤◌, List, [], ◌∷◌, ◌++◌, Some, None, Ok, length, All}
 use Rattle.std.specs.Prelude.{flat_map, slice_get, slice_set, IsPermutation}
 use Rattle.std.specs.List.{range_with_len}
 use Rattle.ds_indexdef.specs.declared.IndexDef.{IndexDef}

@@ -1,4 +1,4 @@
-use Rattle.std.proofs.Common.{◌∙◌, length, ap}
+use Rattle.std.proofs.Common.{◌∙◌, length}
 use Rattle.ds_core.proofs.Meetings.{all_met}
 use Rattle.ds_core.proofs.meeting.meet.Goals as goal
 

@@ -1,4 +1,4 @@
-use Rattle.std.proofs.Common.{◌≡◌, ◌∙◌, ◌++◌, [], ◌∷◌, map, refl, rules}
+use Rattle.std.proofs.Common.{◌≡◌, ◌∙◌, ◌++◌, [], ◌∷◌, refl, rules}
 use Rattle.std.proofs.lemmas.List.{nil_from_length}
 use Rattle.ds_core.proofs.Clients.{many-opens}
 use Rattle.ds_core.proofs.Legals.{legal-round}

@@ -1,4 +1,4 @@
-use Rattle.std.proofs.Common.{arith, refl}
+use Rattle.std.proofs.Common.{refl}
 use Rattle.ds_core.proofs.Legals.{same-run}
 use Rattle.ds_core.proofs.Turns.{goes-none, goes-then}
 use Rattle.ds_core.proofs.machine.Machine.finish.Goals as goal

@@ -1,4 +1,4 @@
-use Rattle.std.proofs.Common.{◌<◌, arith, length, refl, subst, sym}
+use Rattle.std.proofs.Common.{◌<◌, arith, length, subst, sym}
 use Rattle.ds_plans.specs.declared.gathered.Step.TheVariants as step
 use Rattle.ds_core.specs.Machines.{MachineParts}
 use Rattle.ds_core.proofs.Clients.{client-open}
