@@ -1,6 +1,6 @@
 -- What has occurred stays so, and what open requests have gathered and transactions have touched comes from it still.
-use Rattle.std.proofs.Common.{◌≡◌, ◌⊎◌, inl, inr, ℕ, zero, suc, ◌+◌, ◌<◌, List, [], ◌∷◌, ◌++◌, length, map, refl, ap, sym, ◌∙◌, subst, arith}
-use Rattle.std.proofs.Common.{Option, Some, None, append_assoc}
+use Rattle.std.proofs.Common.{◌≡◌, ◌⊎◌, inl, inr, ℕ, zero, suc, ◌+◌, ◌<◌, List, [], ◌∷◌, ◌++◌, length, map, refl, ap, sym, ◌∙◌, subst}
+use Rattle.std.proofs.Common.{arith, Option, Some, None, append_assoc}
 use Rattle.std.specs.Prelude.{IfSome, slice_get, slice_set, unwrap_or, replicate}
 use Rattle.ds_base.specs.Limits.{greatest_client}
 use Rattle.ds_request.specs.declared.call.Call.{Call}
@@ -71,8 +71,8 @@ pub gathered-more : (hs xs : List Happening) (client : ℕ) (c : Call) (g : Gath
 gathered-more hs xs client c g is = record {
   place = if-then (λ place. Occurs (IsTouch client place) hs) (λ place. Occurs (IsTouch client place) (hs ++ xs)) g.place
       (λ place. occurs-more (IsTouch client place) hs xs) is.place;
-  first = if-then (λ first. Occurs (IsIssue client (ids_asked c) first) hs) (λ first. Occurs (IsIssue client (ids_asked c) first) (hs ++ xs))
-      g.first (λ first. occurs-more (IsIssue client (ids_asked c) first) hs xs) is.first;
+  first = if-then (λ first. Occurs (IsIssue client (ids_asked c) first) hs)
+      (λ first. Occurs (IsIssue client (ids_asked c) first) (hs ++ xs)) g.first (λ first. occurs-more (IsIssue client (ids_asked c) first) hs xs) is.first;
   applied = raised-more hs xs client c g.applied is.applied;
   views = λ shard count got. occurs-more (IsView client shard count) hs xs (is.views shard count got);
 }

@@ -275,8 +275,8 @@ pub takes-ok : {A E : Type 0} (r : Result A E) (shards : ℕ) (s : Step) (client
 takes-ok (Ok x) shards s client old mid new gathers silent replies = takes-then shards s client old mid new gathers silent replies
 takes-ok (Err e) shards s client old mid new gathers silent replies = tt
 
-pub replies-ok : {A E : Type 0} (r : Result A E) (s : Step) (client : ℕ) (m n o : MachineParts) → IsStill m n → OnOk r (RepliesAt s client n o)
-    → OnOk r (RepliesAt s client m o)
+pub replies-ok : {A E : Type 0} (r : Result A E) (s : Step) (client : ℕ) (m n o : MachineParts) → IsStill m n
+    → OnOk r (RepliesAt s client n o) → OnOk r (RepliesAt s client m o)
 replies-ok (Ok x) s client m n o still replies = replies-still s client m n o still replies
 replies-ok (Err e) s client m n o still replies = tt
 

@@ -1,6 +1,6 @@
 -- What is said stands on what happened up to then.
-use Rattle.std.proofs.Common.{◌≡◌, ◌⊎◌, inl, inr, ℕ, zero, suc, ◌+◌, ◌<◌, ◌≤◌, List, [], ◌∷◌, ◌++◌, length, refl, ap, sym, ◌∙◌, subst, arith}
-use Rattle.std.proofs.Common.{Bool, true, false, Option, Some, None, get_or, length-append}
+use Rattle.std.proofs.Common.{◌≡◌, ◌⊎◌, inl, inr, ℕ, zero, suc, ◌+◌, ◌<◌, ◌≤◌, List, [], ◌∷◌, ◌++◌, length, refl, ap, sym, ◌∙◌, subst}
+use Rattle.std.proofs.Common.{arith, Bool, true, false, Option, Some, None, get_or, length-append}
 use Rattle.std.specs.Prelude.{Ok, IfSome, slice_set, ⊤}
 use Rattle.std.specs.List.{range_with_len}
 use Rattle.std.proofs.lemmas.List.{append-nil, append_cancel_left}
@@ -76,8 +76,8 @@ module _ (w : World) (s later : Session) (client : ℕ) (applied : Bool) (count 
       (record { client = client_of reading TooLong; line = 0; body = said_apply }) refl
       (record { numbered = refl; addressed = refl; said = answers }))
 
-shard-of : (w : World) (s later : Session) (client : ℕ) (c : Call) (b : Body) → BodyAnswers w s (Ok (record { client = client; call = c })) b later
-    → OfShard c b
+shard-of : (w : World) (s later : Session) (client : ℕ) (c : Call) (b : Body)
+    → BodyAnswers w s (Ok (record { client = client; call = c })) b later → OfShard c b
 shard-of w s later client c (body.Apply applied count m shard) answers = of-apply w s later client applied count m shard c answers
 shard-of w s later client c _ answers = tt
 
@@ -211,7 +211,8 @@ silent-timely hs (Some x) old new same is =
 -- what stands on what happened does so where more has happened
 seen-more : (hs xs : List Happening) (client : ℕ) (looked : Seen) → IsSeenThen hs client looked → IsSeenThen (hs ++ xs) client looked
 seen-more hs xs client (seen.Place m) is = occurs-more (IsTouch client m) hs xs is
-seen-more hs xs client (seen.Counts counts) is = λ shard below. occurs-more (IsView client shard (count_of counts shard)) hs xs (is shard below)
+seen-more hs xs client (seen.Counts counts) is =
+    λ shard below. occurs-more (IsView client shard (count_of counts shard)) hs xs (is shard below)
 
 written-more : (hs xs : List Happening) (client : ℕ) (written : WriteAt) → IsWrittenThen hs client written
     → IsWrittenThen (hs ++ xs) client written
@@ -298,7 +299,8 @@ module _ (m : MachineParts) (client : ℕ) (d : Session) (none : Option Open) (o
               (length m.state.store.journal + 1) due.added due.journal b due.acknowledges
               (shard-of (world (store_after e m.state.store) None) s (session_after e m.state.store s) client o.request.call b
               (due.answers None)) told.numbers,
-          subst (IsDrawnThen hs client (ids_asked o.request.call)) (sym due.draws) (drawn-of hs client o.request.call o.gathered gathered_then),
+          subst (IsDrawnThen hs client (ids_asked o.request.call)) (sym due.draws)
+              (drawn-of hs client o.request.call o.gathered gathered_then),
         )
 
   pub told-replies : RepliesAt step client m machine_then

@@ -1,6 +1,6 @@
 -- What an open request gathers by a step comes from what happened, or from the step.
-use Rattle.std.proofs.Common.{◌≡◌, ◌⊎◌, inl, inr, ℕ, zero, suc, ◌+◌, ◌<◌, ◌≤◌, List, [], ◌∷◌, ◌++◌, length, refl, ap, sym, ◌∙◌, subst, arith}
-use Rattle.std.proofs.Common.{Bool, true, false, cond, max, Option, Some, None, get_or}
+use Rattle.std.proofs.Common.{◌≡◌, ◌⊎◌, inl, inr, ℕ, zero, suc, ◌+◌, ◌<◌, ◌≤◌, List, [], ◌∷◌, ◌++◌, length, refl, ap, sym, ◌∙◌, subst}
+use Rattle.std.proofs.Common.{arith, Bool, true, false, cond, max, Option, Some, None, get_or}
 use Rattle.std.specs.Prelude.{IfSome, slice_get, slice_set}
 use Rattle.ds_log.specs.declared.Commit.{Commit}
 use Rattle.ds_model.specs.Sessions.{Session, count_of, raised_at}
@@ -73,7 +73,8 @@ module _ (hs : List Happening) (h : Happening) (client : ℕ) where
       by : (s count : ℕ) → ((shard ≡ s) × (Some n ≡ Some count)) ⊎ (slice_get o.gathered.views s ≡ Some (Some count))
           → Occurs (IsView client s count) (hs ++ h ∷ [])
       by s count (inl both) = subst (λ k. Occurs (IsView client k count) (hs ++ h ∷ [])) both.0
-          (subst (λ k. Occurs (IsView client shard k) (hs ++ h ∷ [])) (some-is n count both.1) (occurs-last (IsView client shard n) hs h is))
+          (subst (λ k. Occurs (IsView client shard k) (hs ++ h ∷ [])) (some-is n count both.1)
+          (occurs-last (IsView client shard n) hs h is))
       by s count (inr had) = occurs-more (IsView client s count) hs (h ∷ []) ((was o refl).views s count had)
 
   applied-then : (shard n : ℕ) (old new : Option Open) → IsApply client shard n h → AppliedTo shard n old new → IsOpenThen hs client old

@@ -6,7 +6,8 @@
 //! requests and replies to them, `gathering` has what each step does, `finishing` the steps that are missing at the end.
 //!
 //! Of the definitions begin with `specs/Answered`: what an answer is, told of the store and of the sessions before and after, which is what
-//! the proof of the main theorem takes from this crate. `Cores` says what a core keeps.
+//! the proof of the main theorem takes from this crate. `Cores` says what a core keeps. Of a run `Courses` says what has happened in it, step by
+//! step; `Timelines` has what each step may change and at which steps the numbers of a reply were read, and `Witnesses` how that is kept.
 #![tactic(auto)]
 
 mod copying;

@@ -30,8 +30,8 @@ plan_open-requires-clause-lawful c =
 
 pub say-requires-clause-legal : goal.say-requires-clause-legal
 say-requires-clause-legal c =
-    let quietly = called-still _ _ c.self.view_is c.requires.legal c.args.client c.requires.client c.plan_open.new.state c.plan_open.ensures.store
-    c.plan_open.ensures.counts in
+    let quietly = called-still _ _ c.self.view_is c.requires.legal c.args.client c.requires.client c.plan_open.new.state
+    c.plan_open.ensures.store c.plan_open.ensures.counts in
     quietly.0
 
 pub say-requires-clause-due : goal.say-requires-clause-due
@@ -44,14 +44,14 @@ say-requires-clause-due c =
 
 pub returns-in-None-clause-legal : goal.returns-in-None-clause-legal
 returns-in-None-clause-legal c =
-    let quietly = called-still _ _ c.self.view_is c.requires.legal c.args.client c.requires.client c.plan_open.new.state c.plan_open.ensures.store
-    c.plan_open.ensures.counts in
+    let quietly = called-still _ _ c.self.view_is c.requires.legal c.args.client c.requires.client c.plan_open.new.state
+    c.plan_open.ensures.store c.plan_open.ensures.counts in
     quietly.0
 
 pub returns-in-None-clause-turn : goal.returns-in-None-clause-turn
 returns-in-None-clause-turn c =
-    let quietly = called-still _ _ c.self.view_is c.requires.legal c.args.client c.requires.client c.plan_open.new.state c.plan_open.ensures.store
-    c.plan_open.ensures.counts in
+    let quietly = called-still _ _ c.self.view_is c.requires.legal c.args.client c.requires.client c.plan_open.new.state
+    c.plan_open.ensures.store c.plan_open.ensures.counts in
     turn-silent c.args.self.now _ c.args.client quietly.2
 
 pub returns-in-Some-clause-timed : goal.returns-in-Some-clause-timed
