@@ -59,9 +59,10 @@ impl State {
             → IsDuePlan self.now session.now client call (ids_of call gathered.now) result.body result.effect }
         ensures told { ToldAlways self.now session.now result.body result.effect }
     {
-        match gathered.first() {
-            Some(_) => Plan::no_memory(),
-            None => plan,
+        let undrawn = gathered.first().is_none();
+        match plan.only_if(undrawn) {
+            Some(plan) => plan,
+            None => Plan::no_memory(),
         }
     }
 
@@ -234,10 +235,8 @@ impl State {
             return Some(Plan::no_memory());
         };
         let plan = self.plan_delete(alloc, session, client, key, gathered.place());
-        if due || plan.is_refusal() {
-            return Some(plan);
-        }
-        None
+        let refusal = plan.is_refusal();
+        plan.only_if(due || refusal)
     }
 
     /// Whether the write of a key waits for no further step: outside a transaction it waits for a Commit, and inside one for a Touch, unless

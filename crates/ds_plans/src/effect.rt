@@ -1,5 +1,5 @@
 //! What an answer says and changes, before it does.
-ghost use Rattle.std.specs.Prelude.{◌≡◌};
+ghost use Rattle.std.specs.Prelude.{◌≡◌, None, Some, cond};
 
 use ds_base::{Counts, Key};
 use ds_journal::Draft;
@@ -125,6 +125,16 @@ impl Plan {
         ensures effect { result.effect ≡ Effect.Nothing }
     {
         Plan::refused(Body::NoMemory)
+    }
+
+    /// The plan, if it holds.
+    pub(crate) fn only_if(self, holds: bool) -> Option<Plan>
+        ensures { result ≡ cond holds (Some self) None }
+    {
+        if holds {
+            return Some(self);
+        }
+        None
     }
 
     /// Whether it changes nothing but the id counter that is shown, as a refusal does.
