@@ -1,7 +1,7 @@
 -- What is said to an open request once nothing is missing is what the definitions answer.
-use Rattle.std.proofs.Common.{◌≡◌, ◌⊎◌, inl, inr, ℕ, zero, suc, ◌+◌, ◌-◌, ◌<◌, ◌≤◌, Bool, true, false, List, [], ◌∷◌, ◌++◌, length, take, map}
+use Rattle.std.proofs.Common.{◌≡◌, ◌⊎◌, inl, inr, ℕ, zero, suc, ◌+◌, ◌-◌, ◌<◌, ◌≤◌, Bool, true, false, List, [], ◌∷◌, length, take, map}
 use Rattle.std.proofs.Common.{refl, ap, sym, ◌∙◌, subst, arith, Option, Some, None}
-use Rattle.std.specs.Prelude.{All, Err, IfSome, Ok, Result, cond, max, nat_le, nat_lt, replicate, ◌&&◌}
+use Rattle.std.specs.Prelude.{All, Err, IfSome, Ok, Result, cond, max, nat_le, nat_lt, ◌&&◌}
 use Rattle.std.specs.Option.{option_or}
 use Rattle.std.proofs.lemmas.Bool.{leb-true, lt-ltb, ltb-true}
 use Rattle.std.specs.List.{range_with_len}
@@ -17,19 +17,18 @@ use Rattle.ds_log.specs.declared.Entry.{Entry}
 use Rattle.ds_log.specs.declared.Write.TheVariants.{Put}
 use Rattle.ds_log.specs.Ids.{first_unissued, unissued, unissued_id}
 use Rattle.ds_log.specs.JournalLaws.{first_unissued-rises}
-use Rattle.ds_log.specs.Logs.{key_of, shard_list}
+use Rattle.ds_log.specs.Logs.{shard_list}
 use Rattle.ds_request.specs.declared.call.Call.{Call}
 use Rattle.ds_request.specs.declared.call.Call.TheVariants as call
 use Rattle.ds_reply.specs.declared.reply.Body.{Body}
 use Rattle.ds_reply.specs.declared.reply.Body.TheVariants as body
-use Rattle.ds_reply.specs.declared.reply.WriteAt.{WriteAt}
 use Rattle.ds_applied.specs.AppliedLists.{AreCounts, entries_by, shard_views}
 use Rattle.ds_applied.proofs.PlaceLaws.{counted_place-within}
 use Rattle.ds_model.specs.Answers.{AppliedCount, CountsWithin}
 use Rattle.ds_model.specs.Asked
 use Rattle.ds_model.specs.Asked.{search_of}
 use Rattle.ds_model.specs.Groups.{IsSeenPlace, group_refusal, write_refusal}
-use Rattle.ds_model.specs.Legal.{acknowledged_in, accepted_in, printed_next_in, drawn_by_call, counter_ids}
+use Rattle.ds_model.specs.Legal.{accepted_in, printed_next_in, drawn_by_call}
 use Rattle.ds_model.specs.Refusals.{refusal_of, in_transaction, entity_body, group_asked, row_refusal}
 use Rattle.ds_model.specs.Sessions.{Session, count_of, counted_place, greater_counts, last_commit, list_of, raised_at}
 use Rattle.ds_model.specs.Worlds.{shard_lists}
@@ -47,11 +46,11 @@ use Rattle.ds_protocol.specs.Searches.{IsSearchOf, search_parts}
 use Rattle.ds_plans.specs.Answered.{IsPlan}
 use Rattle.ds_plans.specs.Queries.{IsPrepared, told_over}
 use Rattle.ds_plans.specs.Due.{GatheredParts, IsDue, IsDuePlan, IsGathered, AreViewed, AreCovering, counts_applied, ids_of, ids_from, is_pending}
-use Rattle.ds_plans.specs.Effects.{IsAllowed, store_after, session_after}
+use Rattle.ds_plans.specs.Effects.{store_after, session_after}
 use Rattle.ds_plans.specs.Reads.{IsPulled}
 use Rattle.ds_plans.specs.States.{StoreParts, StateParts, IsSession, IsState, AreUpTo, world}
-use Rattle.ds_plans.specs.WritePlans.{IsChecked, IsWritable, IsWritePlan, SaysWrite}
-use Rattle.ds_plans.proofs.Grown.{up_to-same, up_to-then}
+use Rattle.ds_plans.specs.WritePlans.{IsChecked, IsWritable, SaysWrite}
+use Rattle.ds_plans.proofs.Grown.{up_to-then}
 use Rattle.ds_plans.proofs.Plans.{unrefused, quiet-tells, no_ids}
 use Rattle.ds_plans.proofs.PutPlans.{group_completed, last_id-completed, put_complete, refusals-none}
 use Rattle.ds_plans.proofs.QueryPlans.{all_found, unread_plan}

@@ -1,5 +1,5 @@
 -- What was gathered stays there while the state grows, and an answer that was due is one over every longer journal.
-use Rattle.std.proofs.Common.{◌≡◌, ℕ, zero, suc, ◌+◌, ◌<◌, ◌≤◌, List, [], ◌∷◌, ◌++◌, length, refl, ap, sym, arith, Option, Some, None, length-append}
+use Rattle.std.proofs.Common.{◌≡◌, ℕ, zero, suc, ◌+◌, ◌≤◌, List, [], ◌∷◌, ◌++◌, length, ap, arith, Option, Some, None, length-append}
 use Rattle.std.specs.Prelude.{Ok, IfSome, replicate, slice_set}
 use Rattle.std.specs.List.{range_with_len}
 use Rattle.ds_base.specs.Limits.{first_drawn_id}
@@ -15,7 +15,7 @@ use Rattle.ds_model.proofs.LongerJournals.{body-grown}
 use Rattle.ds_plans.specs.declared.effect.Effect.{Effect}
 use Rattle.ds_plans.specs.Due.{GatheredParts, IsDue, IsGathered, AppliedWithin, AreViewed, ids_asked}
 use Rattle.ds_plans.specs.Effects.{store_after, session_after}
-use Rattle.ds_plans.specs.States.{StoreParts, StateParts, AreUpTo, Grows, world}
+use Rattle.ds_plans.specs.States.{StateParts, AreUpTo, Grows, world}
 use Rattle.ds_plans.proofs.Lifted.{lists-longer}
 use Rattle.ds_plans.proofs.ReadPlans.{up_to-count}
 

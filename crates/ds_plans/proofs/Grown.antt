@@ -1,24 +1,23 @@
 -- What a session has seen stays there while the state grows, and what an effect shows is there.
-use Rattle.std.proofs.Common.{◌≡◌, ℕ, zero, suc, ◌+◌, ◌<◌, ◌≤◌, Bool, true, false, List, [], ◌∷◌, ◌++◌, length, take, refl, ap, sym, ◌∙◌}
-use Rattle.std.proofs.Common.{subst, arith, Option, Some, None, length-append, get_or}
-use Rattle.std.specs.Prelude.{max, All, cond, ⊤}
-use Rattle.std.specs.Option.{option_map}
+use Rattle.std.proofs.Common.{◌≡◌, ℕ, zero, suc, ◌+◌, ◌≤◌, Bool, true, false, List, [], ◌∷◌, ◌++◌, length, refl, ap, sym}
+use Rattle.std.proofs.Common.{arith, Option, Some, None, length-append, get_or}
+use Rattle.std.specs.Prelude.{All, cond}
 use Rattle.std.proofs.lemmas.List.{append-nil}
 use Rattle.std.proofs.lemmas.List.Elements.{All-push, All-nil}
 use Rattle.ds_base.specs.Keys.{KeyParts}
 use Rattle.ds_log.specs.declared.Commit.{Commit}
 use Rattle.ds_log.specs.declared.Touch.{Touch}
 use Rattle.ds_log.specs.declared.Write.{Write}
-use Rattle.ds_log.specs.Ids.{first_unissued, AreIssued}
+use Rattle.ds_log.specs.Ids.{first_unissued}
 use Rattle.ds_log.specs.JournalLaws.{AreIssued-rises}
 use Rattle.ds_log.specs.Logs.{key_of}
 use Rattle.ds_log.specs.Touches.{is_touched, with_touch}
-use Rattle.ds_model.specs.Groups.{touching, touching_if, writing}
+use Rattle.ds_model.specs.Groups.{touching_if}
 use Rattle.ds_model.specs.Sessions.{Session, Transaction, greater_counts, raised_at, count_of}
 use Rattle.ds_plans.specs.declared.effect.Effect.{Effect}
 use Rattle.ds_plans.specs.declared.effect.Effect.TheVariants as effect
 use Rattle.ds_plans.specs.declared.effect.GroupWrite.{GroupWrite}
-use Rattle.ds_plans.specs.Effects.{IsAllowed, MayWrite, ids_drawn, store_after, session_after, with_write}
+use Rattle.ds_plans.specs.Effects.{IsAllowed, ids_drawn, store_after, session_after, with_write}
 use Rattle.ds_plans.specs.States.{StoreParts, StateParts, AreUpTo, IsTransaction, IsSession, Grows}
 
 -- ---- counts

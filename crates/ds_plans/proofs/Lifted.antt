@@ -1,19 +1,17 @@
 -- From a plan to the reply: an answer over the journal is one over every longer journal.
-use Rattle.std.proofs.Common.{◌≡◌, ℕ, zero, suc, ◌+◌, ◌-◌, ◌<◌, ◌≤◌, List, [], ◌∷◌, ◌++◌, length, map, refl, ap, sym, ◌∙◌, subst, arith}
-use Rattle.std.proofs.Common.{Option, Some, None, Bool, true, false}
-use Rattle.std.specs.Prelude.{Ok, All, filter, ◌==◌, ⊤}
+use Rattle.std.proofs.Common.{◌≡◌, ℕ, ◌+◌, ◌-◌, ◌<◌, ◌≤◌, List, [], ◌∷◌, ◌++◌, length, map, refl, ap, sym, ◌∙◌, subst, arith}
+use Rattle.std.proofs.Common.{true, false}
+use Rattle.std.specs.Prelude.{Ok}
 use Rattle.std.specs.List.{range_with_len}
 use Rattle.std.proofs.lemmas.List.{append-nil}
 use Rattle.std.proofs.lemmas.List.Elements.{All-nil}
 use Rattle.ds_log.specs.declared.Commit.{Commit}
-use Rattle.ds_log.specs.declared.Entry.{Entry}
 use Rattle.ds_log.specs.Logs.{shard_list}
 use Rattle.ds_request.specs.declared.call.Call.{Call}
 use Rattle.ds_request.specs.declared.call.Call.TheVariants as call
 use Rattle.ds_reply.specs.declared.reply.Body.{Body}
 use Rattle.ds_reply.specs.declared.reply.Body.TheVariants as body
 use Rattle.ds_reply.specs.declared.reply.Reply.{Reply}
-use Rattle.ds_model.specs.Answers.{BodyAnswers}
 use Rattle.ds_model.specs.Legal.{drawn_by_call}
 use Rattle.ds_model.specs.Sessions.{Session}
 use Rattle.ds_model.specs.Worlds.{shard_lists}
@@ -21,8 +19,7 @@ use Rattle.ds_model.proofs.LongerJournals.{AreLonger, body-grown}
 use Rattle.ds_applied.proofs.FollowLaws.{shard_list-append, later_entries}
 use Rattle.ds_protocol.specs.Saying.{no_memory_reply}
 use Rattle.ds_plans.specs.declared.effect.Effect.{Effect}
-use Rattle.ds_plans.specs.declared.effect.Effect.TheVariants as effect
-use Rattle.ds_plans.specs.Answered.{Tells, CallAnswered, IsPlan}
+use Rattle.ds_plans.specs.Answered.{CallAnswered, IsPlan}
 use Rattle.ds_plans.specs.Effects.{IsAllowed, store_after, session_after}
 use Rattle.ds_plans.specs.States.{StoreParts, StateParts, IsSession, Grows, world}
 use Rattle.ds_plans.proofs.Grown.{grows-after, grows-same, session-after}

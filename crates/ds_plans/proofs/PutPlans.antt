@@ -1,17 +1,16 @@
 -- The plans of puts and deletes.
-use Rattle.std.proofs.Common.{◌≡◌, ◌⊎◌, inl, inr, ℕ, zero, suc, ◌+◌, ◌-◌, ◌<◌, ◌≤◌, List, [], ◌∷◌, ◌++◌, length, take, refl, ap, sym, ◌∙◌}
+use Rattle.std.proofs.Common.{◌≡◌, ◌⊎◌, inl, inr, ℕ, ◌+◌, ◌-◌, ◌<◌, ◌≤◌, List, [], ◌∷◌, length, take, refl, ap, sym, ◌∙◌}
 use Rattle.std.proofs.Common.{subst, arith, Option, Some, None, Bool, true, false, cond}
-use Rattle.std.specs.Prelude.{All, Result, Ok, Err, min, nat_le, ◌&&◌}
+use Rattle.std.specs.Prelude.{All, Err, min, nat_le, ◌&&◌}
 use Rattle.std.specs.List.{range_with_len}
 use Rattle.std.specs.Option.{option_or}
-use Rattle.std.proofs.lemmas.Bool.{leb-true, leb-false, lt-ltb}
+use Rattle.std.proofs.lemmas.Bool.{leb-true, lt-ltb}
 use Rattle.std.proofs.lemmas.List.{append-nil}
 use Rattle.std.proofs.lemmas.List.Elements.{All-nil, All-cons}
 use Rattle.ds_base.specs.declared.entity.EntityRefused.{EntityRefused}
 use Rattle.ds_base.specs.declared.entity.EntityRefused.TheVariants as entity
 use Rattle.ds_base.specs.declared.entity.Property.{Property}
-use Rattle.ds_base.specs.declared.key.Ident.{Ident}
-use Rattle.ds_base.specs.declared.key.Ident.TheVariants.{Id, Name}
+use Rattle.ds_base.specs.declared.key.Ident.TheVariants.{Id}
 use Rattle.ds_base.specs.declared.key.Elem.{Elem}
 use Rattle.ds_base.specs.Entities.{EntityParts, entity_refusal}
 use Rattle.ds_base.specs.Keys.{KeyParts, root_of, renumbered, with_last_id, ends_in_id}
@@ -21,7 +20,7 @@ use Rattle.ds_log.specs.declared.Write.{Write}
 use Rattle.ds_log.specs.declared.Write.TheVariants.{Put, Delete}
 use Rattle.ds_log.specs.Ids.{unissued, unissued_id, first_unissued}
 use Rattle.ds_log.specs.JournalLaws.{first_unissued-rises}
-use Rattle.ds_log.specs.Logs.{key_of, group_of}
+use Rattle.ds_log.specs.Logs.{key_of}
 use Rattle.ds_log.specs.Touches.{touch_place}
 use Rattle.ds_request.specs.declared.call.Call.{Call}
 use Rattle.ds_request.specs.declared.call.Call.TheVariants as call
@@ -32,7 +31,7 @@ use Rattle.ds_indexdef.specs.declared.IndexDef.{IndexDef}
 use Rattle.ds_reply.specs.declared.reply.Body.{Body}
 use Rattle.ds_reply.specs.declared.reply.Body.TheVariants as body
 use Rattle.ds_reply.specs.declared.reply.WriteAt.{WriteAt}
-use Rattle.ds_model.specs.Answers.{CallAnswers, Completes}
+use Rattle.ds_model.specs.Answers.{Completes}
 use Rattle.ds_model.specs.Groups.{group_refusal, write_refusal, new_group_refusal, unless_touched, has_none}
 use Rattle.ds_model.specs.Legal.{acknowledged_in, accepted_in, printed_next_in, drawn_by_call, last_id, counter_ids, written_commit}
 use Rattle.ds_model.specs.Refusals.{refusal_of, first_refusal, entity_body, row_refusal, group_asked, is_root}
@@ -41,10 +40,10 @@ use Rattle.ds_plans.specs.declared.effect.Effect.{Effect}
 use Rattle.ds_plans.specs.declared.effect.Effect.TheVariants as effect
 use Rattle.ds_plans.specs.Answered.{Tells, IsPlan}
 use Rattle.ds_plans.specs.Effects.{ids_drawn, store_after, session_after}
-use Rattle.ds_plans.specs.Refused.{IsRefusal, is_quiet, rows_body}
+use Rattle.ds_plans.specs.Refused.{IsRefusal, rows_body}
 use Rattle.ds_plans.specs.States.{StoreParts, StateParts, IsSession, world}
 use Rattle.ds_plans.specs.WritePlans.{IsWritable, IsWritePlan, SaysWrite}
-use Rattle.ds_plans.proofs.Plans.{unrefused, no_memory_plan, no_ids, refused_plan}
+use Rattle.ds_plans.proofs.Plans.{unrefused, no_memory_plan, no_ids}
 use Rattle.ds_plans.proofs.WriteAnswers.{first_none, ids-below}
 
 -- ---- refusals in turn

@@ -1,14 +1,13 @@
 -- The numbers that a plan tells are those that it was given.
-use Rattle.std.proofs.Common.{◌≡◌, ◌⊎◌, inl, inr, ℕ, ◌+◌, Bool, true, false, List, [], ◌∷◌, ◌++◌, length, map, cond, refl, ap, sym, ◌∙◌, subst}
+use Rattle.std.proofs.Common.{◌≡◌, ◌⊎◌, inl, inr, ℕ, ◌+◌, Bool, true, false, List, [], ◌∷◌, ◌++◌, length, cond, refl, ap, sym, ◌∙◌, subst}
 use Rattle.std.proofs.Common.{Option, Some, None, arith}
-use Rattle.std.specs.Prelude.{IfSome, IsTrue, Err, Ok, Result, ◌&&◌, ◌||◌, is_some}
+use Rattle.std.specs.Prelude.{IfSome, IsTrue, ◌&&◌, ◌||◌, is_some}
 use Rattle.std.proofs.lemmas.Bool.{eqb-true}
 use Rattle.ds_base.specs.declared.results.Item.{Item}
 use Rattle.ds_base.specs.declared.results.Seen.{Seen}
 use Rattle.ds_base.specs.KeyOrder.{same_key}
 use Rattle.ds_base.specs.Keys.{KeyParts}
 use Rattle.ds_base.specs.Entities.{EntityParts}
-use Rattle.ds_log.specs.declared.Commit.{Commit}
 use Rattle.ds_log.specs.declared.Touch.{Touch}
 use Rattle.ds_log.specs.Touches.{is_touched, touch_place, with_touch}
 use Rattle.ds_query.specs.declared.branch.Normal.{Normal}
@@ -24,7 +23,6 @@ use Rattle.ds_model.specs.Results.{items_of, result}
 use Rattle.ds_model.specs.Sessions.{Session, Transaction}
 use Rattle.ds_protocol.specs.declared.searching.Search.{Search}
 use Rattle.ds_protocol.specs.Finishing.{found}
-use Rattle.ds_plans.specs.declared.effect.CountsSeen.{CountsSeen}
 use Rattle.ds_plans.specs.declared.effect.Effect.{Effect}
 use Rattle.ds_plans.specs.declared.effect.Effect.TheVariants as effect
 use Rattle.ds_plans.specs.declared.effect.GroupRead.{GroupRead}
@@ -35,10 +33,10 @@ use Rattle.ds_plans.specs.declared.gathered.Step.TheVariants as steps
 use Rattle.ds_plans.specs.Due.{GatheredParts}
 use Rattle.ds_plans.specs.Effects.{ids_drawn, store_after, session_after, with_write}
 use Rattle.ds_plans.specs.Queries.{told_over}
-use Rattle.ds_plans.specs.States.{StoreParts, StateParts}
-use Rattle.ds_plans.specs.Taken.{is_commit, is_view, is_placed, is_write_due}
+use Rattle.ds_plans.specs.States.{StateParts}
+use Rattle.ds_plans.specs.Taken.{is_commit, is_view, is_placed}
 use Rattle.ds_plans.specs.Transactions.{HasTouched}
-use Rattle.ds_plans.specs.Told.{AreNumbersOf, IsPlaceOf, IsSeenBy, IsTold, StandsOncePlaced, ToldAlways, ToldAtPlace, ToldOnceDue}
+use Rattle.ds_plans.specs.Told.{AreNumbersOf, IsPlaceOf, IsSeenBy, IsTold, StandsOncePlaced, ToldAlways, ToldOnceDue}
 use Rattle.ds_plans.specs.Told.{WriteToldOnceDue, is_refusal, is_silent, tells_no_step}
 
 -- ---- which step it was

@@ -1,9 +1,8 @@
 -- A search that is refused is told no number of a step.
-use Rattle.std.proofs.Common.{◌≡◌, ◌⊎◌, inl, inr, Bool, true, false, List, [], ◌∷◌, cond, refl, ap, sym, ◌∙◌, subst, Option, Some, None, ℕ}
-use Rattle.std.specs.Prelude.{IfSome, Err, Ok, Result, is_some, nat_le, length}
+use Rattle.std.proofs.Common.{◌≡◌, ◌⊎◌, inl, inr, Bool, true, false, List, [], ◌∷◌, cond, refl, ap, subst, Option, Some, None, ℕ}
+use Rattle.std.specs.Prelude.{IfSome, Err, Ok, Result, nat_le, length}
 use Rattle.ds_base.specs.Keys.{KeyParts, root_of}
 use Rattle.ds_base.specs.Limits.{most_groups}
-use Rattle.ds_log.specs.declared.Touch.{Touch}
 use Rattle.ds_log.specs.Touches.{touch_place}
 use Rattle.ds_indexdef.specs.declared.IndexDef.{IndexDef}
 use Rattle.ds_query.specs.declared.branch.Branch.{Branch}
@@ -23,12 +22,11 @@ use Rattle.ds_reply.specs.declared.reply.Body.{Body}
 use Rattle.ds_reply.specs.declared.reply.Body.TheVariants as body
 use Rattle.ds_model.specs.Asked
 use Rattle.ds_model.specs.Asked.{gql_search, search_of, statement_search}
-use Rattle.ds_model.specs.Groups.{group_refusal, has_none, new_group_refusal, unless_touched}
-use Rattle.ds_model.specs.Refusals.{Told, Nothing, Refused, BeforeFirst, Behind, Places, ancestor_group_refusal, ancestor_refusal, cursor_refusal, first_refusal}
+use Rattle.ds_model.specs.Groups.{has_none, new_group_refusal, unless_touched}
+use Rattle.ds_model.specs.Refusals.{Told, Refused, Places, ancestor_group_refusal, ancestor_refusal, cursor_refusal, first_refusal}
 use Rattle.ds_model.specs.Refusals.{form_refusal, missing_body, missing_refusal, normal_refusal, search_refusal}
 use Rattle.ds_model.specs.Sessions.{Session, Transaction}
 use Rattle.ds_protocol.specs.Preparing.{IsInside, IsRefused}
-use Rattle.ds_protocol.specs.Searches.{SearchRead}
 use Rattle.ds_plans.specs.Told.{tells_no_step}
 
 abbrev IsBare : Option Body → Type 0

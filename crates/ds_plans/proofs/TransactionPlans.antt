@@ -1,7 +1,7 @@
 -- The plans of transactions and of drawn ids.
-use Rattle.std.proofs.Common.{◌≡◌, ◌⊎◌, inl, inr, ℕ, zero, suc, ◌+◌, ◌-◌, ◌<◌, ◌≤◌, List, [], ◌∷◌, ◌++◌, length, take, refl, ap, sym, ◌∙◌}
-use Rattle.std.proofs.Common.{subst, arith, Option, Some, None, Bool, true, false, cond, get_or}
-use Rattle.std.specs.Prelude.{All, Ok, is_some, slice_get, nat_lt}
+use Rattle.std.proofs.Common.{◌≡◌, ℕ, ◌+◌, ◌-◌, ◌<◌, ◌≤◌, List, [], ◌∷◌, ◌++◌, length, take, refl, ap, sym, ◌∙◌}
+use Rattle.std.proofs.Common.{subst, arith, Option, Some, None, Bool, true, false}
+use Rattle.std.specs.Prelude.{is_some, slice_get}
 use Rattle.std.specs.List.{range_with_len}
 use Rattle.std.specs.Option.{option_map, option_or}
 use Rattle.std.proofs.Math.Seq.{take-length}
@@ -14,18 +14,17 @@ use Rattle.ds_log.specs.declared.Conflict.{Conflict}
 use Rattle.ds_log.specs.declared.Touch.{Touch}
 use Rattle.ds_log.specs.Conflicts.{conflict_of, conflict_from, last_writer, after_place, IsCommitted}
 use Rattle.ds_request.specs.declared.call.Call.TheVariants as call
-use Rattle.ds_reply.specs.declared.reply.Body.{Body}
 use Rattle.ds_reply.specs.declared.reply.Body.TheVariants as body
-use Rattle.ds_model.specs.Answers.{CommitAnswers, ConflictAnswers, TransactionAnswers, begun, commit_of}
+use Rattle.ds_model.specs.Answers.{TransactionAnswers, commit_of}
 use Rattle.ds_model.specs.Groups.{with_transaction}
 use Rattle.ds_model.specs.Refusals.{refusal_of, in_transaction, no_transaction}
 use Rattle.ds_model.specs.Sessions.{Session, Transaction, saw_place}
 use Rattle.ds_plans.specs.declared.effect.Effect.TheVariants as effect
-use Rattle.ds_plans.specs.Answered.{Tells, IsPlan}
-use Rattle.ds_plans.specs.Effects.{store_after, session_after}
-use Rattle.ds_plans.specs.States.{StoreParts, StateParts, IsSession, IsTransaction, world}
+use Rattle.ds_plans.specs.Answered.{IsPlan}
+use Rattle.ds_plans.specs.Effects.{session_after}
+use Rattle.ds_plans.specs.States.{StateParts, IsSession, IsTransaction, world}
 use Rattle.ds_plans.specs.Transactions.{HasTouched}
-use Rattle.ds_plans.proofs.Plans.{unrefused, refused_as, quiet-tells, no_ids}
+use Rattle.ds_plans.proofs.Plans.{unrefused, quiet-tells, no_ids}
 use Rattle.ds_plans.proofs.PutPlans.{number-tells}
 use Rattle.ds_plans.proofs.WriteAnswers.{at_end}
 

@@ -1,5 +1,5 @@
 -- What a transaction refuses is what the definitions refuse.
-use Rattle.std.proofs.Common.{◌≡◌, ℕ, ◌<◌, refl, ap, sym, ◌∙◌, Bool, true, false, cond, length, Option, Some, None, List, [], ◌∷◌, arith}
+use Rattle.std.proofs.Common.{◌≡◌, ℕ, ◌<◌, refl, sym, ◌∙◌, Bool, true, false, cond, length, Option, Some, None, List, [], ◌∷◌}
 use Rattle.std.specs.Prelude.{nat_le, is_some}
 use Rattle.std.specs.Option.{option_map}
 use Rattle.std.proofs.lemmas.Bool.{leb-false}
@@ -7,13 +7,11 @@ use Rattle.ds_base.specs.Keys.{KeyParts}
 use Rattle.ds_base.specs.Limits.{most_groups, most_writes}
 use Rattle.ds_log.specs.declared.Touch.{Touch}
 use Rattle.ds_log.specs.Touches.{touch_place}
-use Rattle.ds_reply.specs.declared.reply.Body.{Body}
 use Rattle.ds_reply.specs.declared.reply.Body.TheVariants as body
 use Rattle.ds_txn.specs.declared.refusals.TxnRefused.TheVariants as refused
-use Rattle.ds_txn.specs.declared.refusals.WriteCause.TheVariants as cause
 use Rattle.ds_txn.specs.Transactions.{TxnParts, touch_refusal, new_group_refusal, has_none}
 use Rattle.ds_model.specs.Groups as groups
-use Rattle.ds_plans.specs.Refused.{group_body, write_body}
+use Rattle.ds_plans.specs.Refused.{group_body}
 use Rattle.ds_plans.specs.Transactions.{transaction_of}
 
 new-same : (t : TxnParts) (g : Option KeyParts) → groups.new_group_refusal (transaction_of t) g

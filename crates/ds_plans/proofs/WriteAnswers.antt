@@ -1,31 +1,29 @@
 -- A write that nothing refuses: its commit, or its place in the transaction, is the definitions' answer.
-use Rattle.std.proofs.Common.{◌≡◌, ◌⊎◌, inl, inr, ℕ, zero, suc, ◌+◌, ◌-◌, ◌<◌, ◌≤◌, List, [], ◌∷◌, ◌++◌, length, refl, ap, sym, ◌∙◌, subst}
-use Rattle.std.proofs.Common.{arith, Option, Some, None, Bool, true, false, cond, length-append, get_or}
+use Rattle.std.proofs.Common.{◌≡◌, ℕ, zero, suc, ◌+◌, ◌-◌, ◌<◌, ◌≤◌, List, [], ◌∷◌, ◌++◌, length, refl, sym, subst}
+use Rattle.std.proofs.Common.{arith, Option, Some, None, Bool, true, false, cond}
 use Rattle.std.specs.Prelude.{max, fold, slice_get, All, nat_le, ◌&&◌}
 use Rattle.std.specs.Option.{option_map, option_or}
-use Rattle.std.proofs.lemmas.Bool.{leb-true, leb-false}
+use Rattle.std.proofs.lemmas.Bool.{leb-false}
 use Rattle.std.proofs.lemmas.List.{append-nil}
 use Rattle.std.proofs.lemmas.List.Elements.{All-nil, All-cons}
 use Rattle.ds_base.specs.declared.key.Ident.{Ident}
 use Rattle.ds_base.specs.declared.key.Ident.TheVariants.{Id, Name}
 use Rattle.ds_base.specs.declared.key.Elem.{Elem}
-use Rattle.ds_base.specs.Keys.{KeyParts, root_of}
+use Rattle.ds_base.specs.Keys.{KeyParts}
 use Rattle.ds_base.specs.KeyOrder.{same_key}
 use Rattle.ds_log.specs.Touches.{touch_place}
 use Rattle.ds_log.specs.declared.Commit.{Commit}
 use Rattle.ds_log.specs.declared.Touch.{Touch}
 use Rattle.ds_log.specs.declared.Write.{Write}
-use Rattle.ds_log.specs.Ids.{unissued, unissued_id, first_unissued}
+use Rattle.ds_log.specs.Ids.{unissued, first_unissued}
 use Rattle.ds_log.specs.Logs.{key_of, group_of}
-use Rattle.ds_reply.specs.declared.reply.WriteAt.{WriteAt}
 use Rattle.ds_reply.specs.declared.reply.WriteAt.TheVariants as at
-use Rattle.ds_model.specs.Answers.{WriteAnswers, CommitsAlone}
-use Rattle.ds_model.specs.Groups.{IsSeenPlace, StandsAt, place_in, group_refusal, write_refusal, writing, touching, with_transaction}
+use Rattle.ds_model.specs.Answers.{WriteAnswers}
+use Rattle.ds_model.specs.Groups.{StandsAt, place_in, group_refusal, write_refusal, writing, touching, with_transaction}
 use Rattle.ds_model.specs.Legal.{counter_id, counter_ids}
 use Rattle.ds_model.specs.Sessions.{Session, Transaction, first_id, next_above, saw_next, saw_place}
-use Rattle.ds_plans.specs.declared.effect.Effect.{Effect}
 use Rattle.ds_plans.specs.declared.effect.Effect.TheVariants as effect
-use Rattle.ds_plans.specs.Effects.{MayWrite, ids_drawn, store_after, session_after}
+use Rattle.ds_plans.specs.Effects.{MayWrite, ids_drawn, store_after}
 use Rattle.ds_plans.specs.States.{StoreParts, StateParts, IsSession, IsTransaction, world}
 use Rattle.ds_plans.specs.WritePlans.{IsWritable, IsWritePlan, id_above}
 

@@ -15,7 +15,7 @@ use Rattle.ds_model.specs.Legal.{acknowledged_in, accepted_in, printed_next_in, 
 use Rattle.ds_model.specs.Sessions.{Session, count_of, raised_at}
 use Rattle.ds_plans.specs.declared.effect.Effect.{Effect}
 use Rattle.ds_plans.specs.Effects.{IsAllowed, store_after, session_after}
-use Rattle.ds_plans.specs.States.{StoreParts, StateParts, world}
+use Rattle.ds_plans.specs.States.{StateParts, world}
 
 -- the journal's length at the request's Touch, the first of the ids that its Issue drew, the count that its Apply raised the shard's to, and
 -- for each shard its count at a View

@@ -1,5 +1,5 @@
 -- What a reply changes of the store and of its client's session.
-use Rattle.std.specs.Prelude.{◌≡◌, ℕ, ◌+◌, ◌≤◌, Bool, true, false, List, [], ◌∷◌, ◌++◌, Option, Some, None, length, All, ⊤}
+use Rattle.std.specs.Prelude.{◌≡◌, ℕ, ◌+◌, ◌≤◌, Bool, true, false, [], ◌∷◌, ◌++◌, Option, Some, None, length, All, ⊤}
 use Rattle.std.specs.Option.{option_map}
 use Rattle.ds_base.specs.Keys.{KeyParts}
 use Rattle.ds_base.specs.Limits.{greatest_id}

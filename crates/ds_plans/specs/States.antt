@@ -1,6 +1,6 @@
 -- The store, what its shards have applied of it, and what each client has seen.
-use Rattle.std.specs.Prelude.{◌≡◌, ℕ, ◌+◌, ◌≤◌, List, [], ◌∷◌, ◌++◌, Option, Some, None, length, All, ⊤}
-use Rattle.ds_base.specs.Limits.{greatest_client, most_shards}
+use Rattle.std.specs.Prelude.{◌≡◌, ℕ, ◌≤◌, List, [], ◌∷◌, ◌++◌, Option, Some, None, length, All, ⊤}
+use Rattle.ds_base.specs.Limits.{most_shards}
 use Rattle.ds_indexdef.specs.declared.IndexDef.{IndexDef}
 use Rattle.ds_log.specs.declared.Commit.{Commit}
 use Rattle.ds_log.specs.Ids.{AreIssued}

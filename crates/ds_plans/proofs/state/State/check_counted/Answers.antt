@@ -1,6 +1,5 @@
 use Rattle.std.proofs.Common.{◌≡◌, ◌∙◌, ap, sym, subst, refl, None, ◌∷◌, []}
 use Rattle.ds_base.specs.Entities.{EntityParts, entity_refusal}
-use Rattle.ds_base.specs.Keys.{KeyParts}
 use Rattle.ds_request.specs.declared.call.Call.TheVariants as call
 use Rattle.ds_model.specs.Groups.{group_refusal, write_refusal}
 use Rattle.ds_model.specs.Refusals.{first_refusal, group_asked}

@@ -1,4 +1,4 @@
-use Rattle.std.proofs.Common.{◌≡◌, ◌∙◌, ap, sym, subst, Some}
+use Rattle.std.proofs.Common.{◌≡◌, ◌∙◌, ap, sym, subst}
 use Rattle.ds_base.specs.Keys.{KeyParts}
 use Rattle.ds_log.specs.Ids.{first_unissued}
 use Rattle.ds_request.specs.declared.call.Call.TheVariants as call

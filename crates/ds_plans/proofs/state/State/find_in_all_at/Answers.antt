@@ -1,4 +1,4 @@
-use Rattle.std.proofs.Common.{◌≡◌, ◌∙◌, ap, sym, subst}
+use Rattle.std.proofs.Common.{◌∙◌, ap, sym, subst}
 use Rattle.ds_applied.specs.AppliedLists.{AreCounts}
 use Rattle.ds_model.specs.Sessions.{counted_place}
 use Rattle.ds_plans.specs.States.{StateParts, AreUpTo, IsState}

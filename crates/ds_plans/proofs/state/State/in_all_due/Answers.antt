@@ -1,4 +1,4 @@
-use Rattle.std.proofs.Common.{◌≡◌, sym, subst}
+use Rattle.std.proofs.Common.{sym, subst}
 use Rattle.ds_plans.specs.States.{AreUpTo}
 use Rattle.ds_plans.proofs.DuePlans.{gathered_counts}
 use Rattle.ds_plans.proofs.Plans.{memory_as}

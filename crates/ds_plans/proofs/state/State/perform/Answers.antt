@@ -1,6 +1,6 @@
 use Rattle.std.proofs.Common.{refl}
 use Rattle.ds_plans.proofs.Grown.{grows-same}
-use Rattle.ds_plans.proofs.Lifted.{performed, unperformed, seen_after, seen_same, grown_by, grown_same}
+use Rattle.ds_plans.proofs.Lifted.{performed, unperformed, seen_after, grown_by, grown_same}
 use Rattle.ds_plans.proofs.state.State.perform.Goals as goal
 
 pub returns-then-not-make_room-clause-answered : goal.returns-then-not-make_room-clause-answered

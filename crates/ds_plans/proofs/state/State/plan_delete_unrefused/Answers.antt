@@ -1,5 +1,4 @@
-use Rattle.std.proofs.Common.{◌≡◌, ◌∙◌, ◌+◌, ap, sym, subst, arith, None}
-use Rattle.ds_base.specs.Keys.{KeyParts}
+use Rattle.std.proofs.Common.{◌≡◌, ◌∙◌, ◌+◌, ap, sym, arith}
 use Rattle.ds_log.specs.Ids.{first_unissued}
 use Rattle.ds_plans.specs.States.{StateParts}
 use Rattle.ds_plans.proofs.PutPlans.{delete_planned}

@@ -1,4 +1,4 @@
-use Rattle.std.proofs.Common.{◌≡◌, ◌∙◌, [], inr, ap, sym, subst, refl}
+use Rattle.std.proofs.Common.{◌∙◌, [], inr, ap, sym, subst, refl}
 use Rattle.ds_applied.specs.AppliedLists.{AreCounts}
 use Rattle.ds_model.specs.Sessions.{counted_place}
 use Rattle.ds_reply.specs.declared.reply.Body.TheVariants as body
