@@ -2,7 +2,7 @@
 use Rattle.std.specs.Prelude.{◌≡◌, ◌⊎◌, ℕ, ◌+◌, Bool, true, false, ◌&&◌, ◌||◌, List, None, Option, Some, length, map, ⊤, IsTrue, is_some}
 use Rattle.ds_base.specs.declared.results.Seen.{Seen}
 use Rattle.ds_base.specs.declared.results.Seen.TheVariants as seen
-use Rattle.ds_base.specs.Keys.{KeyParts}
+use Rattle.ds_base.specs.Keys.{KeyParts, is_key}
 use Rattle.ds_reply.specs.declared.reply.Body.{Body}
 use Rattle.ds_reply.specs.declared.reply.Body.TheVariants as body
 use Rattle.ds_reply.specs.declared.reply.WriteAt.{WriteAt}
@@ -78,6 +78,7 @@ pub record IsGroupRead (st : StateParts) (s : Session) (g : GatheredParts) (grou
   pub stands : ReadsAt st.store.journal s group r.place
   pub reached : IsReached st group r
   pub place : IsPlaceOf s g r.place
+  pub lawful : IsTrue (is_key group)
 
 -- ---- refusals
 

@@ -59,10 +59,12 @@ impl State {
             → IsDuePlan self.now session.now client call (ids_of call gathered.now) result.body result.effect }
         ensures told { ToldAlways self.now session.now result.body result.effect }
     {
-        let undrawn = gathered.first().is_none();
-        match plan.only_if(undrawn) {
-            Some(plan) => plan,
-            None => Plan::no_memory(),
+        match gathered.first() {
+            Some(_) => {
+                plan.discard();
+                Plan::no_memory()
+            }
+            None => plan,
         }
     }
 
@@ -235,8 +237,11 @@ impl State {
             return Some(Plan::no_memory());
         };
         let plan = self.plan_delete(alloc, session, client, key, gathered.place());
-        let refusal = plan.is_refusal();
-        plan.only_if(due || refusal)
+        if due || plan.is_refusal() {
+            return Some(plan);
+        }
+        plan.discard();
+        None
     }
 
     /// Whether the write of a key waits for no further step: outside a transaction it waits for a Commit, and inside one for a Touch, unless

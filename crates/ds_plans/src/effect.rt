@@ -1,5 +1,5 @@
 //! What an answer says and changes, before it does.
-ghost use Rattle.std.specs.Prelude.{◌≡◌, None, Some, cond};
+ghost use Rattle.std.specs.Prelude.{◌≡◌};
 
 use ds_base::{Counts, Key};
 use ds_journal::Draft;
@@ -127,15 +127,8 @@ impl Plan {
         Plan::refused(Body::NoMemory)
     }
 
-    /// The plan, if it holds.
-    pub(crate) fn only_if(self, holds: bool) -> Option<Plan>
-        ensures { result ≡ cond holds (Some self) None }
-    {
-        if holds {
-            return Some(self);
-        }
-        None
-    }
+    /// The plan is dropped. It owns much, so that is shown here once, and not in each function that gives a plan up.
+    pub(crate) fn discard(self) {}
 
     /// Whether it changes nothing but the id counter that is shown, as a refusal does.
     pub fn is_refusal(&self) -> bool

@@ -17,14 +17,14 @@ get_reached-requires c =
     c.in-Ok-Some.ensures.read) in
     record { reached = read.reached; allowed = read.allowed; stands = read.stands }
 
-pub returns-in-Err-group_due-clause-plan : goal.returns-in-Err-group_due-clause-plan
-returns-in-Err-group_due-clause-plan c =
+pub returns-in-Err-clause-plan : goal.returns-in-Err-clause-plan
+returns-in-Err-clause-plan c =
     inr (due_of c.group_due.new.self c.args.session.now c.args.client (call.Get c.args.key.now) c.refused.result.body c.refused.result.effect
     (refused_as c.group_due.new.self c.args.session.now c.args.client (call.Get c.args.key.now) c.refused.result.body
-    c.in-Err-group_due.body c.refused.result.effect
-    c.refused.ensures.body c.refused.ensures.effect c.in-Err-group_due.ensures.quiet refl
-    (told_refusal c.group_due.new.self c.args.session.now c.args.client (call.Get c.args.key.now) _ c.in-Err-group_due.body
-    (ap (λ g. group_refusal c.args.session.now.transaction (Some g)) (sym c.in-Ok.ensures)) c.in-Err-group_due.ensures.refused)) refl)
+    c.in-Err.body c.refused.result.effect
+    c.refused.ensures.body c.refused.ensures.effect c.in-Err.ensures.quiet refl
+    (told_refusal c.group_due.new.self c.args.session.now c.args.client (call.Get c.args.key.now) _ c.in-Err.body
+    (ap (λ g. group_refusal c.args.session.now.transaction (Some g)) (sym c.in-Ok.ensures)) c.in-Err.ensures.refused)) refl)
 
 pub returns-in-Ok-Some-clause-plan : goal.returns-in-Ok-Some-clause-plan
 returns-in-Ok-Some-clause-plan c =

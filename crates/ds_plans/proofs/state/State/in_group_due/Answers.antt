@@ -1,6 +1,5 @@
 use Rattle.std.proofs.Common.{◌≡◌, true, sym, subst}
 use Rattle.std.specs.Prelude.{IfSome, is_some}
-use Rattle.ds_base.specs.Keys.{is_key}
 use Rattle.ds_protocol.specs.Preparing.{IsReady}
 use Rattle.ds_protocol.specs.Searches.{search_parts}
 use Rattle.ds_plans.specs.States.{StoreParts}
@@ -23,7 +22,7 @@ find_in_group-requires-clause-reached c =
     subst (λ o. IfSome o (IsGroupRead c.group_due.new.self c.args.session.now c.args.gathered.now c.args.group)) c.in-Ok-Some.field-0-is
     c.in-Ok-Some.ensures.read in
     group_search c.group_due.new.self c.args.session.now c.args.search c.in-Ok-Some.read c.args.group c.requires.group
-    (subst (λ k. is_key k ≡ true) c.group.view_is c.group.invariant) read.allowed read.stands read.reached
+    read.lawful read.allowed read.stands read.reached
 
 pub returns-in-Ok-Some-clause-told : goal.returns-in-Ok-Some-clause-told
 returns-in-Ok-Some-clause-told c =
