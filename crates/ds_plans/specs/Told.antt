@@ -1,20 +1,22 @@
 -- The numbers that a reply tells are those that its request has gathered.
-use Rattle.std.specs.Prelude.{◌≡◌, ◌⊎◌, ℕ, ◌+◌, Bool, true, false, ◌&&◌, ◌||◌, List, Option, Some, length, map, ⊤, IsTrue, is_some}
+use Rattle.std.specs.Prelude.{◌≡◌, ◌⊎◌, ℕ, ◌+◌, Bool, true, false, ◌&&◌, ◌||◌, List, None, Option, Some, length, map, ⊤, IsTrue, is_some}
 use Rattle.ds_base.specs.declared.results.Seen.{Seen}
 use Rattle.ds_base.specs.declared.results.Seen.TheVariants as seen
-use Rattle.ds_base.specs.Keys.{KeyParts}
+use Rattle.ds_base.specs.Keys.{KeyParts, is_key}
 use Rattle.ds_reply.specs.declared.reply.Body.{Body}
 use Rattle.ds_reply.specs.declared.reply.Body.TheVariants as body
 use Rattle.ds_reply.specs.declared.reply.WriteAt.{WriteAt}
 use Rattle.ds_reply.specs.declared.reply.WriteAt.TheVariants as at
-use Rattle.ds_model.specs.Groups.{place_in}
+use Rattle.ds_model.specs.Groups.{ReadsAt, group_refusal, place_in}
 use Rattle.ds_model.specs.Sessions.{Session, count_of}
 use Rattle.ds_plans.specs.declared.effect.Effect.{Effect}
 use Rattle.ds_plans.specs.declared.effect.Effect.TheVariants as effect
+use Rattle.ds_plans.specs.declared.effect.GroupRead.{GroupRead}
 use Rattle.ds_plans.specs.declared.gathered.Step.{Step}
 use Rattle.ds_plans.specs.declared.gathered.Step.TheVariants as steps
 use Rattle.ds_plans.specs.Due.{GatheredParts}
 use Rattle.ds_plans.specs.Effects.{store_after, session_after}
+use Rattle.ds_plans.specs.Reads.{IsReached}
 use Rattle.ds_plans.specs.States.{StateParts}
 use Rattle.ds_plans.specs.Taken.{is_placed, is_write_due}
 
@@ -68,6 +70,15 @@ pub record IsTold (st : StateParts) (s : Session) (g : GatheredParts) (step : St
   pub touches : (group : KeyParts) (place : ℕ) → place_in (session_after change st.store s).transaction group ≡ Some place
       → IsPlaceOf s g place
   pub commits : (step ≡ steps.Commit) ⊎ (store_after change st.store ≡ st.store)
+
+-- the read of a group for an open request that misses nothing: it may be read there, its shard has applied its entries up to there, and the
+-- place is a gathered one
+pub record IsGroupRead (st : StateParts) (s : Session) (g : GatheredParts) (group : KeyParts) (r : GroupRead) : Type 0 where
+  pub allowed : group_refusal s.transaction (Some group) ≡ None
+  pub stands : ReadsAt st.store.journal s group r.place
+  pub reached : IsReached st group r
+  pub place : IsPlaceOf s g r.place
+  pub lawful : IsTrue (is_key group)
 
 -- ---- refusals
 

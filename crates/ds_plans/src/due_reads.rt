@@ -1,17 +1,18 @@
 //! The replies to open gets and searches, as soon as nothing is missing.
-ghost use Rattle.std.specs.Prelude.{◌≡◌, ◌≤◌, ◌<◌, [], None, Some, length, IfOk, IfSome};
+ghost use Rattle.std.specs.Prelude.{◌≡◌, ◌≤◌, ◌<◌, [], None, Some, length, IfErr, IfOk, IfSome, IsTrue};
 ghost use Rattle.std.specs.Option.{option_map};
 ghost use Rattle.ds_base.specs.Keys.{root_of};
 ghost use Rattle.ds_request.specs.declared.call.Call.{Call};
 ghost use Rattle.ds_request.specs.Lawful.{IsLawfulCall};
-ghost use Rattle.ds_model.specs.Groups.{ReadsAt};
+ghost use Rattle.ds_model.specs.Groups.{ReadsAt, group_refusal};
 ghost use Rattle.ds_protocol.specs.Searches.{IsLawfulSearch, IsSearchOf};
 ghost use Rattle.ds_plans.specs.declared.gathered.Step.{Step};
 ghost use Rattle.ds_plans.specs.Due.{IsDuePlan, IsGathered, ids_of};
 ghost use Rattle.ds_plans.specs.Queries.{IsPrepared};
 ghost use Rattle.ds_plans.specs.Reads.{IsPulled, IsReached};
+ghost use Rattle.ds_plans.specs.Refused.{IsRefusal, is_quiet};
 ghost use Rattle.ds_plans.specs.States.{AreUpTo, IsSession};
-ghost use Rattle.ds_plans.specs.Told.{IsPlaceOf, IsTold, ToldAtCounts};
+ghost use Rattle.ds_plans.specs.Told.{IsGroupRead, IsPlaceOf, IsTold, ToldAtCounts, tells_no_step};
 ghost use Rattle.ds_plans.specs.Answered.{IsPlan};
 
 use crate::effect::{CountsSeen, Effect, GroupRead, Plan};
@@ -20,6 +21,7 @@ use crate::session::Session;
 use crate::state::State;
 use ds_base::{Counts, Key, NoMemory, TryCopy};
 use ds_log::shard_of;
+use ds_reply::Body;
 use ds_protocol::{Ready, Search, group_of, prepare, search_of};
 use ds_request::Call;
 use std::alloc::Global;
@@ -45,16 +47,41 @@ impl State {
         let Ok(group) = key.root(alloc) else {
             return Some(Plan::no_memory());
         };
-        if let Some(body) = session.group_refusal(alloc, Some(&group)) {
-            return Some(Plan::refused(body));
-        }
-        let Some(place) = self.place_due(session, &group, gathered) else {
-            return None;
-        };
-        match self.reached_by(alloc, group, place, step) {
+        match self.group_due(alloc, session, group, gathered, step) {
             Ok(Some(read)) => Some(self.get_reached(alloc, session, client, key, read)),
             Ok(None) => None,
-            Err(_) => Some(Plan::no_memory()),
+            Err(body) => Some(Plan::refused(body)),
+        }
+    }
+
+    /// The read of a group, as soon as it misses neither a Touch, unless the group is touched, nor a View of its shard that covers the
+    /// place. An error is what is told where the group may not be touched, or for want of memory.
+    fn group_due(
+        &mut self,
+        alloc: Global,
+        session: &Session,
+        group: Key,
+        gathered: &Gathered,
+        step: Step,
+    ) -> Result<Option<GroupRead>, Body>
+        requires seen { IsSession self.old session.now }
+        requires gathered { (call : Call) × IsGathered self.old session.now call gathered.now }
+        ensures read { IfOk result (λ o. IfSome o (IsGroupRead self.new session.now gathered.now group)) }
+        ensures refused { IfErr result (λ b. IsRefusal (group_refusal session.now.transaction (Some group)) (Some b)) }
+        ensures quiet { IfErr result (λ b. IsTrue (is_quiet b)) }
+        ensures numberless { IfErr result (λ b. IsTrue (tells_no_step b)) }
+        ensures store { self.new.store ≡ self.old.store }
+        ensures counts { self.new.applied.counts ≡ self.old.applied.counts }
+    {
+        if let Some(body) = session.group_refusal(alloc, Some(&group)) {
+            return Err(body);
+        }
+        let Some(place) = self.place_due(session, &group, gathered) else {
+            return Ok(None);
+        };
+        match self.reached_by(alloc, group, place, step) {
+            Ok(read) => Ok(read),
+            Err(_) => Err(Body::NoMemory),
         }
     }
 
@@ -176,16 +203,10 @@ impl State {
         ensures store { self.new.store ≡ self.old.store }
         ensures counts { self.new.applied.counts ≡ self.old.applied.counts }
     {
-        if let Some(body) = session.group_refusal(alloc, Some(&group)) {
-            return Some(Plan::refused(body));
-        }
-        let Some(place) = self.place_due(session, &group, gathered) else {
-            return None;
-        };
-        match self.reached_by(alloc, group, place, step) {
+        match self.group_due(alloc, session, group, gathered, step) {
             Ok(Some(read)) => Some(self.find_in_group(alloc, session, client, search, ready, read)),
             Ok(None) => None,
-            Err(_) => Some(Plan::no_memory()),
+            Err(body) => Some(Plan::refused(body)),
         }
     }
 

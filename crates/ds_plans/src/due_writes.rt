@@ -60,7 +60,10 @@ impl State {
         ensures told { ToldAlways self.now session.now result.body result.effect }
     {
         match gathered.first() {
-            Some(_) => Plan::no_memory(),
+            Some(_) => {
+                plan.discard();
+                Plan::no_memory()
+            }
             None => plan,
         }
     }
@@ -237,6 +240,7 @@ impl State {
         if due || plan.is_refusal() {
             return Some(plan);
         }
+        plan.discard();
         None
     }
 

@@ -127,6 +127,9 @@ impl Plan {
         Plan::refused(Body::NoMemory)
     }
 
+    /// The plan is dropped. It owns much, so that is shown here once, and not in each function that gives a plan up.
+    pub(crate) fn discard(self) {}
+
     /// Whether it changes nothing but the id counter that is shown, as a refusal does.
     pub fn is_refusal(&self) -> bool
         ensures { result ≡ is_refusal self.now.effect }
