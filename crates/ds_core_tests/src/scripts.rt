@@ -1,15 +1,14 @@
 //! A script: steps with their clients, and the requests that they open before.
-ghost use Rattle.std.specs.Prelude.{◌≡◌, ◌++◌, ◌≤◌, ◌∷◌, [], length, All, IfOk, IfSome, IsTrue, OnOk};
-ghost use Rattle.ds_request.specs.Lawful.{IsLawfulCall};
+ghost use Rattle.std.specs.Prelude.{◌≤◌, All, IfOk, IsTrue, OnOk};
 ghost use Rattle.ds_model.specs.Asked.{has_shard};
 ghost use Rattle.ds_core.specs.Machines.{IsLawfulEvent, IsLawfulRequest};
 
-use ds_base::{Buffer, Sequence};
+use ds_base::{Buffer, NoMemory};
 use ds_core::{Event, Events, Replies, Step, run};
 use ds_indexdef::Defs;
 use ds_reply::write_reply;
 use ds_request::{Call, Request, read_request};
-use std::alloc::Global;
+use std::alloc::{AllocError, Global};
 use std::test::Fail;
 
 /// A step of a client, and the line that it opens before; none where it is empty.
@@ -43,15 +42,15 @@ fn events_of(alloc: Global, shards: u32, script: &[Line<'_>]) -> Result<Events, 
     Ok(events)
 }
 
-fn push(events: &mut Events, event: Event, shards: u32) -> Result<(), Fail>
+fn push(events: &mut Events, event: Event, shards: u32) -> Result<(), NoMemory>
     requires so_far { All (IsLawfulEvent shards) events.old }
     requires lawful { IsLawfulEvent shards event }
     ensures { OnOk result (All (IsLawfulEvent shards) events.new) }
 {
-    match events.push(event) {
-        Ok(()) => Ok(()),
-        Err(_) => Err("no such script")?,
+    if events.push(event).is_err() {
+        return Err(AllocError);
     }
+    Ok(())
 }
 
 fn event_of(alloc: Global, shards: u32, client: u32, step: Step, text: &str) -> Result<Event, Fail>
