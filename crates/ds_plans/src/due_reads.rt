@@ -21,8 +21,8 @@ use crate::session::Session;
 use crate::state::State;
 use ds_base::{Counts, Key, NoMemory, TryCopy};
 use ds_log::shard_of;
-use ds_reply::Body;
 use ds_protocol::{Ready, Search, group_of, prepare, search_of};
+use ds_reply::Body;
 use ds_request::Call;
 use std::alloc::Global;
 

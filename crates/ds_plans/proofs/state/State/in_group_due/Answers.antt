@@ -10,9 +10,11 @@ use Rattle.ds_plans.proofs.state.State.in_group_due.Goals as goal
 pub returns-in-Err-clause-plan : goal.returns-in-Err-clause-plan
 returns-in-Err-clause-plan c = λ call of.
     group_plan c.group_due.new.self c.args.session.now c.args.client call c.args.search of c.args.ready
-    (record { form = subst (λ (st : StoreParts). IsReady st.definitions (is_some c.args.session.now.transaction)
-    (search_parts c.args.search) c.args.ready.normal c.args.ready.window) (sym c.group_due.ensures.store) c.requires.prepared.form;
-    lawful = c.requires.prepared.lawful })
+    (record {
+      form = subst (λ (st : StoreParts). IsReady st.definitions (is_some c.args.session.now.transaction)
+          (search_parts c.args.search) c.args.ready.normal c.args.ready.window) (sym c.group_due.ensures.store) c.requires.prepared.form;
+      lawful = c.requires.prepared.lawful;
+    })
     c.refused.result.body c.in-Err.body c.refused.result.effect c.args.group
     c.refused.ensures.body c.refused.ensures.effect c.requires.group c.in-Err.ensures.refused c.in-Err.ensures.quiet
 
