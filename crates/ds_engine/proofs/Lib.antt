@@ -6,6 +6,7 @@ pub mod Columns
 pub mod CommonRows
 pub mod Counted
 pub mod EntityRows
+pub mod KeyRows
 pub mod LowBytes
 pub mod Ranged
 pub mod Readings
