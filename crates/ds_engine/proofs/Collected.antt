@@ -4,7 +4,7 @@ use Rattle.std.proofs.Common.{◌&&◌, not, cond, refl, sym, ap, ◌∙◌, sub
 use Rattle.std.specs.Prelude.{OnErr, All, Contains, IsTrue, nat_lt, count_by, zero, suc}
 use Rattle.std.specs.List.{list_any}
 use Rattle.std.proofs.lemmas.Bool.Decides.{nat_tests}
-use Rattle.std.proofs.lemmas.List.{length-map, take_all}
+use Rattle.std.proofs.lemmas.List.{length-map, take_all, map_push}
 use Rattle.std.proofs.lemmas.List.Elements.{All-head}
 use Rattle.ds_base.specs.declared.column.Column.{Column}
 use Rattle.ds_bytes.specs.Rows.{RowParts}
@@ -15,16 +15,19 @@ use Rattle.ds_zigzag.specs.Spans.{is_below, is_above, is_within, count_between}
 use Rattle.ds_zigzag.specs.CommonStrings.{IsCommon, IsNextCommon, HasNoNextCommon}
 use Rattle.ds_zigzag.proofs.Counts.{count_by-lt}
 use Rattle.ds_zigzag.proofs.Order.{below_below, not_below_itself}
+use Rattle.ds_model.specs.Rows.{place_of}
 use Rattle.ds_model.specs.Results.{at_most, first_of_each, same_mark}
 use Rattle.ds_merge.specs.Marks.{is_same}
 use Rattle.ds_merge.specs.Merging.{IsPlaced, parts_of, placed, last_of}
-use Rattle.ds_merge.specs.FirstRows.{with_row}
 use Rattle.ds_merge.specs.Slots.{slot_of}
 use Rattle.ds_merge.proofs.FirstLaws.{with_item, with_item-map}
 use Rattle.ds_merge.proofs.MarkLaws.{is_same-placed}
 use Rattle.ds_planner.proofs.Members.{both}
-use Rattle.ds_engine.specs.Common.{AreCommonRows}
+use Rattle.ds_engine.specs.Common.{AreCommonRows, IsCommonAfter}
+use Rattle.ds_engine.specs.Kept.{have_no_values, with_one}
 use Rattle.ds_engine.specs.Places.{bytes_of, is_wanted, walk_steps}
+use Rattle.ds_engine.proofs.EntityRows.{all_member}
+use Rattle.ds_engine.proofs.KeyRows.{new_row}
 use Rattle.ds_engine.proofs.Walking.{kept_at, none_kept, next_kept, all_kept, enough_kept}
 
 -- no more were kept than are wanted
@@ -34,7 +37,8 @@ AreFew (Some most) n = n ≤ most
 
 module _ (columns : List Column) (names : List (List ℕ)) (after : Option (List ℕ)) (lists : List (List (List ℕ))) (most : Option ℕ) where
   -- the rows that were collected up to where the walk stands
-  pub record AreCollected (slots : List (Option ℕ)) (last : Option (List ℕ)) (rows : List Row) : Type 0 where
+  pub record AreCollected (keeps_all : Bool) (slots : List (Option ℕ)) (last : Option (List ℕ)) (rows : List Row) : Type 0 where
+    pub all_are : keeps_all ≡ have_no_values columns
     pub onward : (x : List ℕ) → IsTrue (is_above last x) → IsTrue (is_above after x)
     pub slots_are : slots ≡ map (slot_of columns) names
     pub kept : (sorted : List RowParts) → AreCommonRows columns after lists sorted → rows
@@ -50,10 +54,11 @@ module _ (columns : List Column) (names : List (List ℕ)) (after : Option (List
   none_few None = tt
   none_few (Some m) = omega arith
 
-  pub begun : (slots : List (Option ℕ)) (last : Option (List ℕ)) (rows : List Row) → slots ≡ map (slot_of columns) names → last ≡ after
-      → rows ≡ []
-      → AreCollected slots last rows
-  begun slots last rows slots_are stands none = record {
+  pub begun : (keeps_all : Bool) (slots : List (Option ℕ)) (last : Option (List ℕ)) (rows : List Row) → keeps_all ≡ have_no_values columns
+      → slots ≡ map (slot_of columns) names → last ≡ after → rows ≡ []
+      → AreCollected keeps_all slots last rows
+  begun keeps_all slots last rows all_are slots_are stands none = record {
+    all_are = all_are;
     onward = λ x above. subst (λ o. IsTrue (is_above o x)) stands above;
     slots_are = slots_are;
     kept = λ sorted are. none ∙ sym (ap (map (placed columns)) (ap (λ o. kept_at columns names o sorted) stands
@@ -61,33 +66,58 @@ module _ (columns : List Column) (names : List (List ℕ)) (after : Option (List
     few = subst (λ rs. AreFew most (length rs)) (sym none) (none_few most);
   }
 
-  one_more : (m : Option ℕ) (slots : List (Option ℕ)) (rows : List Row) (row : Row) → is_wanted m (length rows) ≡ true
-      → AreFew m (length (with_row slots rows row))
-  one_more None slots rows row wanted = tt
-  one_more (Some m) slots rows row wanted = by (list_any (is_same slots row) rows) where
+  one_more : (m : Option ℕ) (keeps_all : Bool) (slots : List (Option ℕ)) (rows : List Row) (row : Row) → is_wanted m (length rows) ≡ true
+      → AreFew m (length (with_one keeps_all slots rows row))
+  one_more None keeps_all slots rows row wanted = tt
+  one_more (Some m) keeps_all slots rows row wanted = each keeps_all where
+    longer : length (rows ++ row ∷ []) ≤ m
+    longer =
+        let more = length-append rows (row ∷ []) in
+        let below : length rows < m = grind (arith, nat_tests) in
+        omega (arith, more, below)
+
     by : (b : Bool) → length (cond b rows (rows ++ row ∷ [])) ≤ m
     by true = grind (arith, nat_tests)
-    by false =
-        let longer = length-append rows (row ∷ []) in
-        let below : length rows < m = grind (arith, nat_tests) in
-        omega (arith, longer, below)
+    by false = longer
 
-  pub stepped : (slots slots' : List (Option ℕ)) (last : Option (List ℕ)) (rows rows' : List Row) (a : List ℕ) (row : Row)
-      → AreCollected slots last rows → IsNextCommon last lists a → IsPlaced columns row → row.place.bytes ≡ a
-      → rows' ≡ with_row slots rows row → slots' ≡ slots → is_wanted most (length rows) ≡ true → AreCollected slots' (Some a) rows'
-  stepped slots slots' last rows rows' a row are next p at_a put same wanted = record {
+    each : (all : Bool) → length (with_one all slots rows row) ≤ m
+    each true = longer
+    each false = by (list_any (is_same slots row) rows)
+
+  pub stepped : (keeps_all keeps_all' : Bool) (slots slots' : List (Option ℕ)) (last : Option (List ℕ)) (rows rows' : List Row) (a : List ℕ)
+      (row : Row)
+      → AreCollected keeps_all slots last rows → IsNextCommon last lists a → IsPlaced columns row → row.place.bytes ≡ a
+      → rows' ≡ with_one keeps_all slots rows row → slots' ≡ slots → keeps_all' ≡ keeps_all → is_wanted most (length rows) ≡ true
+      → AreCollected keeps_all' slots' (Some a) rows'
+  stepped keeps_all keeps_all' slots slots' last rows rows' a row are next p at_a put same same_all wanted = record {
+    all_are = same_all ∙ are.all_are;
     onward = λ x above. are.onward x (further last x next.above above);
     slots_are = same ∙ are.slots_are;
     kept = λ sorted common.
-        let so_far = are.kept sorted common in
-        let marks = map (slot_of columns) names in
         put
-        ∙ (λ i. with_item (is_same (are.slots_are i)) (so_far i) (p.place i))
-        ∙ with_item-map (placed columns) (is_same marks) (same_mark columns names) (is_same-placed columns names) (kept_at columns names
-        last sorted) (parts_of row)
+        ∙ one_kept keeps_all sorted common (sym are.all_are) (are.kept sorted common)
         ∙ ap (map (placed columns)) (sym (next_kept columns names after lists sorted common last a row next are.onward p at_a));
-    few = subst (λ rs. AreFew most (length rs)) (sym put) (one_more most slots rows row wanted);
+    few = subst (λ rs. AreFew most (length rs)) (sym put) (one_more most keeps_all slots rows row wanted);
   } where
+    above : is_above last (place_of columns (parts_of row)) ≡ true
+    above = subst (λ bs. is_above last bs ≡ true) (sym at_a ∙ ap (λ (r : Row). r.place.bytes) p.place) next.above
+
+    one_kept : (all : Bool) (sorted : List RowParts) → AreCommonRows columns after lists sorted → have_no_values columns ≡ all
+        → rows ≡ map (placed columns) (kept_at columns names last sorted)
+        → with_one all slots rows row
+        ≡ map (placed columns) (with_item (same_mark columns names) (kept_at columns names last sorted) (parts_of row))
+    one_kept false sorted common none so_far =
+        (λ i. with_item (is_same (are.slots_are i)) (so_far i) (p.place i))
+        ∙ with_item-map (placed columns) (is_same (map (slot_of columns) names)) (same_mark columns names) (is_same-placed columns names)
+        (kept_at columns names last sorted) (parts_of row)
+    one_kept true sorted common none so_far =
+        let kept = kept_at columns names last sorted in
+        let new = new_row columns names none last sorted (parts_of row)
+        (λ x m. (all_member (IsCommonAfter columns after lists) sorted x common.common m).row) p.lawful above in
+        (λ i. so_far i ++ p.place i ∷ [])
+        ∙ sym (map_push (placed columns) kept (parts_of row))
+        ∙ ap (map (placed columns)) (sym (ap (λ b. cond b kept (kept ++ parts_of row ∷ [])) new))
+
     further : (l : Option (List ℕ)) (x : List ℕ) → IsTrue (is_above l a) → IsTrue (is_above (Some a) x) → IsTrue (is_above l x)
     further None x above b = refl
     further (Some l) x above b = below_below l a x above b
@@ -100,18 +130,20 @@ module _ (columns : List Column) (names : List (List ℕ)) (after : Option (List
         take_whole : (n : ℕ) (ys : List RowParts) → length ys ≤ n → take n ys ≡ ys
         take_whole n ys long = take_all n ys long
 
-  pub ended : (slots : List (Option ℕ)) (last : Option (List ℕ)) (rows : List Row) → AreCollected slots last rows
+  pub ended : (keeps_all : Bool) (slots : List (Option ℕ)) (last : Option (List ℕ)) (rows : List Row)
+      → AreCollected keeps_all slots last rows
       → HasNoNextCommon last lists → AreAll rows
-  ended slots last rows are none sorted common =
+  ended keeps_all slots last rows are none sorted common =
       let kept = are.kept sorted common in
       let all = all_kept columns names after lists sorted common last none in
       let firsts = first_of_each (same_mark columns names) sorted in
       kept ∙ ap (map (placed columns)) (all ∙ all_given most firsts
       (subst (λ ks. AreFew most (length (map (placed columns) ks))) all (subst (λ rs. AreFew most (length rs)) kept are.few)))
 
-  pub full : (slots : List (Option ℕ)) (last : Option (List ℕ)) (rows : List Row) → AreCollected slots last rows
+  pub full : (keeps_all : Bool) (slots : List (Option ℕ)) (last : Option (List ℕ)) (rows : List Row)
+      → AreCollected keeps_all slots last rows
       → is_wanted most (length rows) ≡ false → AreAll rows
-  full slots last rows are enough sorted common = by most are.few enough where
+  full keeps_all slots last rows are enough sorted common = by most are.few enough where
     kept : rows ≡ map (placed columns) (kept_at columns names last sorted)
     kept = are.kept sorted common
 
@@ -149,16 +181,24 @@ last_pushed : (start : Option Place) (rows : List Row) (row : Row) → last_of s
 last_pushed start [] row = refl
 last_pushed start (x ∷ rows) row = last_pushed (Some x.place) rows row
 
-pub at_next : (most : Option ℕ) (slots : List (Option ℕ)) (rows rows' : List Row) (row : Row) (a : List ℕ) (begun now : ℕ)
-    → is_wanted most (length rows) ≡ true → rows' ≡ with_row slots rows row → row.place.bytes ≡ a → IsAtLast most rows' (Some a) begun now
-at_next most slots rows rows' row a begun now wanted put at_a enough = by (list_any (is_same slots row) rows) refl where
-  by : (b : Bool) → list_any (is_same slots row) rows ≡ b → ((rows' ≡ []) × (now ≡ begun)) ⊎ (bytes_of (last_of None rows') ≡ Some a)
-  by true e =
-      let same : rows' ≡ rows = put ∙ ap (λ b. cond b rows (rows ++ row ∷ [])) e in
+pub at_next : (most : Option ℕ) (keeps_all : Bool) (slots : List (Option ℕ)) (rows rows' : List Row) (row : Row) (a : List ℕ)
+    (begun now : ℕ)
+    → is_wanted most (length rows) ≡ true → rows' ≡ with_one keeps_all slots rows row → row.place.bytes ≡ a
+    → IsAtLast most rows' (Some a) begun now
+at_next most keeps_all slots rows rows' row a begun now wanted put at_a enough = each keeps_all put where
+  pushed : rows' ≡ rows ++ row ∷ [] → ((rows' ≡ []) × (now ≡ begun)) ⊎ (bytes_of (last_of None rows') ≡ Some a)
+  pushed more = inr (ap (λ rs. bytes_of (last_of None rs)) more ∙ ap bytes_of (last_pushed None rows row) ∙ ap (λ bs. Some bs) at_a)
+
+  by : (b : Bool) → list_any (is_same slots row) rows ≡ b → rows' ≡ cond (list_any (is_same slots row) rows) rows (rows ++ row ∷ [])
+      → ((rows' ≡ []) × (now ≡ begun)) ⊎ (bytes_of (last_of None rows') ≡ Some a)
+  by true e first =
+      let same : rows' ≡ rows = first ∙ ap (λ b. cond b rows (rows ++ row ∷ [])) e in
       absurd (cc (sym wanted ∙ sym (ap (λ rs. is_wanted most (length rs)) same) ∙ enough))
-  by false e =
-      let more : rows' ≡ rows ++ row ∷ [] = put ∙ ap (λ b. cond b rows (rows ++ row ∷ [])) e in
-      inr (ap (λ rs. bytes_of (last_of None rs)) more ∙ ap bytes_of (last_pushed None rows row) ∙ ap (λ bs. Some bs) at_a)
+  by false e first = pushed (first ∙ ap (λ b. cond b rows (rows ++ row ∷ [])) e)
+
+  each : (all : Bool) → rows' ≡ with_one all slots rows row → ((rows' ≡ []) × (now ≡ begun)) ⊎ (bytes_of (last_of None rows') ≡ Some a)
+  each true more = pushed more
+  each false first = by (list_any (is_same slots row) rows) refl first
 
 module _ (start : Option (List ℕ)) (n n' : ℕ) (ss ss' ps ps' : List (List (List ℕ))) (begun : ℕ) (same_n : n ≡ n') (same_ss : ss
     ≡ ss') (same_ps : ps ≡ ps') where

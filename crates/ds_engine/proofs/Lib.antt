@@ -6,6 +6,8 @@ pub mod Columns
 pub mod CommonRows
 pub mod Counted
 pub mod EntityRows
+pub mod KeyRows
+pub mod KeySets
 pub mod LowBytes
 pub mod Ranged
 pub mod Readings

@@ -1,5 +1,6 @@
 pub mod Bounds
 pub mod Common
+pub mod Kept
 pub mod Places
 pub mod Prefixes
 pub mod Ranging

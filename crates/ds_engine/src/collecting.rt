@@ -11,10 +11,10 @@ ghost use Rattle.ds_merge.specs.Merging.{placed, last_of};
 ghost use Rattle.ds_engine.specs.Common.{AreCommonRows};
 ghost use Rattle.ds_engine.specs.Places.{bytes_of, is_wanted, walk_steps};
 
+use crate::kept::KeptRows;
 use crate::reading::row_of;
 use ds_base::{Names, NoMemory};
 use ds_io::Steps;
-use ds_merge::FirstRows;
 use ds_query::{Branch, Place, RowList, Select};
 use ds_zigzag::{Scan, Walk};
 use std::alloc::Global;
@@ -46,7 +46,7 @@ pub(crate) fn first_common<S: Scan, L: Ledger>(
     let mut walk = Walk::begin(alloc, scans.len(), bytes_of(start))?;
     let none = Names::new(alloc);
     let names = projected(&branch.select, &none);
-    let mut firsts = FirstRows::new(alloc, branch.columns.as_slice(), names.as_slice())?;
+    let mut firsts = KeptRows::new(alloc, branch.columns.as_slice(), names.as_slice())?;
     'answers: while is_wanted(most, firsts.len()) {
         let found = walk.next(scans, steps)?;
         match found {

@@ -6,13 +6,15 @@
 //! (`ds_zigzag` leaps from one to the next), and each is read back into values and a key (`ds_bytes`). Begin with `answering`,
 //! whose calls are `answer`, for a plan, and `branch_rows`, which plans itself. `prefixes` says what a scan's rows begin with,
 //! `bounds` from where to where the answer's rows stand, `stamped` is a table at one stamp, `ranging` makes the scans of a plan,
-//! `collecting` walks over them, and `reading` reads a row back. The definitions that the contracts cite are in `specs/`, what a
+//! `collecting` walks over them, `kept` has what was
+//! reached, and `reading` reads a row back. The definitions that the contracts cite are in `specs/`, what a
 //! query finds in those of `ds_model`; `laws` has what is claimed of plans and their scans, as calls that do nothing.
 #![tactic(auto)]
 
 mod answering;
 mod bounds;
 mod collecting;
+mod kept;
 pub mod laws;
 mod prefixes;
 mod ranging;

@@ -20,7 +20,8 @@ pub(crate) fn row_of(alloc: Global, columns: &[Column], place: &[u8]) -> Result<
     ensures placed { IfOk result (IsPlaced columns.now) }
     ensures place { IfOk result (λ row. row.place.bytes ≡ place.now) }
 {
-    let mut values = Vec::with_capacity(alloc, columns.len())?;
+    // The last column is `__key__`, for which there is no value.
+    let mut values = Vec::with_capacity(alloc, columns.len().saturating_sub(1))?;
     let mut rest = place;
     for column in columns {
         if !is_key_name(&column.name) {

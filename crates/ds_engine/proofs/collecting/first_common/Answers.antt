@@ -10,6 +10,7 @@ use Rattle.ds_zigzag.specs.CommonStrings.{IsCommon, IsNextCommon, HasNoNextCommo
 use Rattle.ds_zigzag.specs.Walks.{IsWalked}
 use Rattle.ds_merge.specs.Merging.{IsPlaced, last_of}
 use Rattle.ds_merge.specs.Slots.{slot_of}
+use Rattle.ds_engine.specs.Kept.{have_no_values}
 use Rattle.ds_engine.specs.Places.{bytes_of, is_wanted}
 use Rattle.ds_engine.proofs.Collected.{AreCollected, IsAtLast, begun, stepped, ended, full, fewer_left, at_next, walked_on, walked_within}
 use Rattle.ds_engine.proofs.Collected.{steps_at_end, steps_when_full, always_err}
@@ -21,7 +22,9 @@ answers-init g c = record {
   as_many = refl;
   number = c.in_ok-walk.ensures.over;
   collected = begun c.args.branch.now.columns (projected c.args.branch.now.select) (bytes_of (option_copied c.args.start))
-      (map g.S.Scan.strings c.args.scans.now) c.args.most c.in_ok-firsts.firsts.slots c.in_ok-walk.walk.last c.in_ok-firsts.firsts.rows
+      (map g.S.Scan.strings c.args.scans.now) c.args.most c.in_ok-firsts.firsts.keeps_all c.in_ok-firsts.firsts.slots c.in_ok-walk.walk.last
+      c.in_ok-firsts.firsts.rows
+      (c.in_ok-firsts.ensures.all ∙ ap have_no_values c.as_slice.ensures)
       (c.in_ok-firsts.ensures.slots ∙ (λ i. map (slot_of (c.as_slice.ensures i)) ((c.as_slice-2.ensures ∙ c.projected-names.ensures) i)))
       (c.in_ok-walk.ensures.stands ∙ c.bytes_of.ensures) c.in_ok-firsts.ensures.none;
   passed = refl;
@@ -44,7 +47,7 @@ returns-in-None-clause-rows g c = λ sorted are.
     c.in_ok-found.ensures.none_is_left) in
     c.finish.ensures
     ∙ ended c.args.branch.now.columns (projected c.args.branch.now.select) (bytes_of (option_copied c.args.start))
-    (map g.S.Scan.strings c.args.scans.now) c.args.most c.answers.firsts.slots last c.answers.firsts.rows c.answers.invariant.collected
+    (map g.S.Scan.strings c.args.scans.now) c.args.most c.answers.firsts.keeps_all c.answers.firsts.slots last c.answers.firsts.rows c.answers.invariant.collected
     none sorted are
 
 pub row_of-requires : goal.row_of-requires
@@ -97,11 +100,12 @@ answers-preserved g c =
       number = c.next.follows.holds-at-none.0 ∙ c.answers.invariant.number ∙ sym (length-map c.answers.scans g.S.Scan.strings)
           ∙ ap length (sym same)
           ∙ length-map c.next.new.scans g.S.Scan.strings;
-      collected = subst (λ o. AreCollected columns names after lists c.args.most c.put.new.self.slots o c.put.new.self.rows) (sym stands)
-          (stepped columns names after lists c.args.most c.answers.firsts.slots c.put.new.self.slots last c.answers.firsts.rows
+      collected = subst (λ o. AreCollected columns names after lists c.args.most c.put.new.self.keeps_all c.put.new.self.slots o c.put.new.self.rows) (sym stands)
+          (stepped columns names after lists c.args.most c.answers.firsts.keeps_all c.put.new.self.keeps_all c.answers.firsts.slots
+          c.put.new.self.slots last c.answers.firsts.rows
           c.put.new.self.rows place
           c.in_ok-row-in-Some.row c.answers.invariant.collected next placed c.in_ok-row-in-Some.ensures.place
-          c.in_ok-put-in-Some.ensures.rows c.in_ok-put-in-Some.ensures.slots wanted);
+          c.in_ok-put-in-Some.ensures.rows c.in_ok-put-in-Some.ensures.slots c.in_ok-put-in-Some.ensures.all wanted);
       passed = c.next.ensures.same_passed ∙ c.answers.invariant.passed;
       walked =
           let number : c.answers.walk.scans ≡ length c.args.scans.now = c.answers.invariant.number ∙ c.answers.invariant.as_many in
@@ -114,7 +118,7 @@ answers-preserved g c =
           last (Some place) (map g.S.Scan.strings c.next.new.scans) (map g.S.Scan.passed c.next.new.scans) c.answers.steps c.next.new.steps
           c.answers.invariant.walked (on after c.args.steps.now) same c.next.ensures.same_passed);
       at_last = subst (λ o. IsAtLast c.args.most c.put.new.self.rows o c.args.steps.now c.next.new.steps) (sym stands)
-          (at_next c.args.most c.answers.firsts.slots c.answers.firsts.rows c.put.new.self.rows c.in_ok-row-in-Some.row place
+          (at_next c.args.most c.answers.firsts.keeps_all c.answers.firsts.slots c.answers.firsts.rows c.put.new.self.rows c.in_ok-row-in-Some.row place
           c.args.steps.now c.next.new.steps
           wanted c.in_ok-put-in-Some.ensures.rows c.in_ok-row-in-Some.ensures.place);
       counted = omega (arith, c.answers.invariant.counted, c.next.ensures.steps_stay_counted);
@@ -126,7 +130,8 @@ returns-clause-rows g c = λ sorted are.
     sym (c.is_wanted.ensures ∙ ap (is_wanted c.args.most) c.len.ensures) ∙ c.answers-test.false in
     c.finish-2.ensures
     ∙ full c.args.branch.now.columns (projected c.args.branch.now.select) (bytes_of (option_copied c.args.start))
-    (map g.S.Scan.strings c.args.scans.now) c.args.most c.answers.firsts.slots c.answers.walk.last c.answers.firsts.rows
+    (map g.S.Scan.strings c.args.scans.now) c.args.most c.answers.firsts.keeps_all c.answers.firsts.slots c.answers.walk.last
+    c.answers.firsts.rows
     c.answers.invariant.collected
     enough sorted are
 

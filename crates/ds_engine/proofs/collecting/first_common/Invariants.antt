@@ -16,7 +16,7 @@ invariant-answers g l = record {
   number : l.walk.scans ≡ length l.scans;
   collected : AreCollected l.branch.columns (projected l.branch.select) (bytes_of (option_copied l.start)) (map g.S.Scan.strings
       l.fn.scans) l.most
-      l.firsts.slots l.walk.last l.firsts.rows;
+      l.firsts.keeps_all l.firsts.slots l.walk.last l.firsts.rows;
   passed : map g.S.Scan.passed l.scans ≡ map g.S.Scan.passed l.fn.scans;
   walked : IsWalked (length l.fn.scans) (bytes_of (option_copied l.start)) l.walk.last (map g.S.Scan.strings l.fn.scans)
       (map g.S.Scan.passed l.fn.scans) l.fn.steps l.steps;
