@@ -9,13 +9,14 @@ ghost use Rattle.ds_core.specs.Machines.{IsLegal, IsSameRun};
 ghost use Rattle.ds_core.specs.Steps.{IsReadPlace, ReadsUpTo};
 
 use crate::copying::copy_call;
+use crate::holding::forget;
 use crate::machine::Machine;
 use crate::opened::{Open, ids_asked};
 use ds_base::limits::MAX_CLIENT;
 use ds_base::{Key, NoMemory, TryCopy};
 use ds_log::shard_of;
 use ds_plans::{Session, Step};
-use ds_protocol::{group_of, search_of};
+use ds_protocol::{Search, group_of, search_of};
 use ds_request::Call;
 use std::alloc::{AllocError, Global};
 
@@ -228,9 +229,26 @@ fn group_read(alloc: Global, call: &Call) -> Result<Option<Key>, NoMemory>
 {
     match call {
         Call::Get { key } => Ok(Some(key.root(alloc)?)),
-        _ => match search_of(alloc, copy_call(alloc, call)?) {
-            Some(Ok(search)) => group_of(alloc, &search),
-            _ => Ok(None),
-        },
+        _ => group_sought(alloc, copy_call(alloc, call)?),
     }
+}
+
+/// The group that a search reads, where the call asks for one.
+fn group_sought(alloc: Global, call: Call) -> Result<Option<Key>, NoMemory>
+    requires { IsLawfulCall call }
+{
+    match search_of(alloc, call) {
+        Some(Ok(search)) => group_searched(alloc, search),
+        Some(Err(body)) => {
+            forget(body);
+            Ok(None)
+        }
+        None => Ok(None),
+    }
+}
+
+fn group_searched(alloc: Global, search: Search) -> Result<Option<Key>, NoMemory> {
+    let group = group_of(alloc, &search);
+    forget(search);
+    group
 }

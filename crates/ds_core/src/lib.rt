@@ -14,6 +14,7 @@ mod copying;
 pub mod event;
 mod finishing;
 mod gathering;
+mod holding;
 mod machine;
 mod meeting;
 mod opened;

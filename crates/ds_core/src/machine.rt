@@ -12,6 +12,7 @@ ghost use Rattle.ds_core.specs.Machines.{IsDueTo, IsLawfulEvent, IsLawfulRequest
 ghost use Rattle.ds_core.specs.Witnesses.{IsToldTo, OpensAt, RepliesAt, TakesAt};
 
 use crate::event::{Event, Replies, Requests, Transcript};
+use crate::holding::{forget, put};
 use crate::meeting::first_sessions;
 use crate::opened::{Open, none_open, open_request, plan_open, take_open};
 use ds_base::NoMemory;
@@ -119,6 +120,7 @@ impl Machine {
         ensures timed { OnOk result (OpensAt self.old self.new) }
     {
         if self.has_open(client) {
+            forget(request);
             return Ok(());
         }
         let shards = self.state.shards();
@@ -176,14 +178,23 @@ impl Machine {
         ensures timed { (step : Step) → ((d : Session) (e : Option Open) → IsToldTo self.old.state (get_or self.old.sessions client d) step
             (get_or self.old.opens client e) plan.body plan.effect) → OnOk result (RepliesAt step client self.old self.new) }
     {
-        let Plan { body, effect } = plan;
-        if is_no_memory(&body) {
+        if is_no_memory(&plan.body) {
+            forget(plan);
             return Err(AllocError);
         }
-        self.perform(alloc, client, effect)?;
-        match self.close(client) {
-            Some(open) => self.note(client, open.request, body),
-            None => Ok(()),
+        let Plan { body, effect } = plan;
+        match self.perform(alloc, client, effect) {
+            Ok(()) => match self.close(client) {
+                Some(opened) => self.note_opened(client, opened, body),
+                None => {
+                    forget(body);
+                    Ok(())
+                }
+            },
+            Err(refused) => {
+                forget(body);
+                Err(refused)
+            }
         }
     }
 
@@ -206,21 +217,30 @@ impl Machine {
         self.state.take(alloc, session, effect)
     }
 
+    /// Puts the request that was open and its reply behind the others.
+    fn note_opened(&mut self, client: u32, opened: Open, body: Body) -> Result<(), NoMemory>
+        requires many { length self.old.requests ≡ length self.old.replies }
+        ensures { OnOk result (self.new ≡ noted client opened.request body self.old) }
+    {
+        self.note(client, opened.request, body)
+    }
+
     /// Puts a request and its reply behind the others.
     fn note(&mut self, client: u32, request: Request, body: Body) -> Result<(), NoMemory>
         requires many { length self.old.requests ≡ length self.old.replies }
         ensures { OnOk result (self.new ≡ noted client request body self.old) }
     {
-        if self.requests.push(request).is_err() {
-            return Err(AllocError);
+        match put(&mut self.requests, request) {
+            Ok(()) => {
+                // one more than the replies before it
+                let line = self.requests.len() as u64;
+                put(&mut self.replies, Reply { client, line, body })
+            }
+            Err(refused) => {
+                forget(body);
+                Err(refused)
+            }
         }
-        // one more than the replies before it
-        let line = self.requests.len() as u64;
-        let reply = Reply { client, line, body };
-        if self.replies.push(reply).is_err() {
-            return Err(AllocError);
-        }
-        Ok(())
     }
 
     /// What was asked, said and committed.

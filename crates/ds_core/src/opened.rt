@@ -7,6 +7,7 @@ ghost use Rattle.ds_core.specs.Machines.{IsDueTo, IsOpen, just_opened};
 ghost use Rattle.ds_core.specs.Witnesses.{IsToldTo};
 
 use crate::copying::copy_call;
+use crate::holding::{forget, set};
 use ds_base::NoMemory;
 use ds_base::limits::MAX_CLIENT;
 use ds_plans::{Gathered, Plan, Session, State, Step};
@@ -40,9 +41,16 @@ pub(crate) fn open_request(
 ) -> Result<(), NoMemory>
     ensures { OnOk result (open.new ≡ Some (just_opened request shards)) }
 {
-    let gathered = Gathered::nothing(alloc, shards)?;
-    *open = Some(Open { request, gathered });
-    Ok(())
+    match Gathered::nothing(alloc, shards) {
+        Ok(gathered) => {
+            set(open, Some(Open { request, gathered }));
+            Ok(())
+        }
+        Err(refused) => {
+            forget(request);
+            Err(refused)
+        }
+    }
 }
 
 /// Closes the open request, if there is one.

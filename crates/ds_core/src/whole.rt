@@ -9,6 +9,7 @@ ghost use Rattle.ds_protocol.specs.Saying.{no_memory_reply};
 ghost use Rattle.ds_core.specs.Answered.{HasAnswered};
 ghost use Rattle.ds_core.specs.Cores.{CoreParts};
 
+use crate::holding::forget;
 use crate::meeting::{first_sessions, meet};
 use ds_base::{Buffer, NoMemory};
 use ds_indexdef::Defs;
@@ -97,9 +98,10 @@ impl Core {
         let Request { client, call } = request;
         let session = &mut self.sessions[client as usize];
         // The proof alone needs the reply: its text stands in `out`.
-        let _reply = self
+        let reply = self
             .state
             .answer(alloc, session, client, number, call, keep, out);
+        forget(reply);
     }
 
     /// How many shards there are, 1 to 16.

@@ -13,13 +13,13 @@ perform-requires-clause-allowed c =
 
 pub close-requires : goal.close-requires
 close-requires c =
-    subst (λ (x : MachineParts). c.args.client < length x.opens) (sym (c.in_ok-perform.ensures (first_session 0)))
+    subst (λ (x : MachineParts). c.args.client < length x.opens) (sym (c.in-Ok.ensures (first_session 0)))
     (client-open c.args.self.now c.requires.legal c.args.client c.requires.client)
 
-pub note-requires : goal.note-requires
-note-requires c = record {
+pub note_opened-requires : goal.note_opened-requires
+note_opened-requires c = record {
   many = subst (λ (x : MachineParts). length x.requests ≡ length x.replies)
-      (sym (c.close.ensures.closed ∙ ap (closing c.args.client) (c.in_ok-perform.ensures (first_session 0))))
+      (sym (c.close.ensures.closed ∙ ap (closing c.args.client) (c.in-Ok.ensures (first_session 0))))
       (as-many c.args.self.now c.requires.legal);
 }
 
@@ -27,54 +27,54 @@ pub returns-in-Some-clause-legal : goal.returns-in-Some-clause-legal
 returns-in-Some-clause-legal c =
     let said = say-ok c.args.self.now c.requires.legal c.args.client c.requires.client (first_session 0) c.args.plan.body c.args.plan.effect
     (c.is_no_memory.ensures c.if-is_no_memory.false) c.requires.due
-    c.note.result c.perform.new.self c.close.new.self c.note.new.self c.in-Some.open (c.in_ok-perform.ensures (first_session 0))
-    c.close.ensures.closed (c.in-Some.ensures.was None) c.note.ensures in
+    c.note_opened.result c.perform.new.self c.close.new.self c.note_opened.new.self c.in-Some.opened (c.in-Ok.ensures (first_session 0))
+    c.close.ensures.closed (c.in-Some.ensures.was None) c.note_opened.ensures in
     said.0
 
 pub returns-in-Some-clause-same : goal.returns-in-Some-clause-same
 returns-in-Some-clause-same c =
     let said = say-ok c.args.self.now c.requires.legal c.args.client c.requires.client (first_session 0) c.args.plan.body c.args.plan.effect
     (c.is_no_memory.ensures c.if-is_no_memory.false) c.requires.due
-    c.note.result c.perform.new.self c.close.new.self c.note.new.self c.in-Some.open (c.in_ok-perform.ensures (first_session 0))
-    c.close.ensures.closed (c.in-Some.ensures.was None) c.note.ensures in
+    c.note_opened.result c.perform.new.self c.close.new.self c.note_opened.new.self c.in-Some.opened (c.in-Ok.ensures (first_session 0))
+    c.close.ensures.closed (c.in-Some.ensures.was None) c.note_opened.ensures in
     said.1
 
 pub returns-in-Some-clause-turn : goal.returns-in-Some-clause-turn
 returns-in-Some-clause-turn c =
     let said = say-ok c.args.self.now c.requires.legal c.args.client c.requires.client (first_session 0) c.args.plan.body c.args.plan.effect
     (c.is_no_memory.ensures c.if-is_no_memory.false) c.requires.due
-    c.note.result c.perform.new.self c.close.new.self c.note.new.self c.in-Some.open (c.in_ok-perform.ensures (first_session 0))
-    c.close.ensures.closed (c.in-Some.ensures.was None) c.note.ensures in
+    c.note_opened.result c.perform.new.self c.close.new.self c.note_opened.new.self c.in-Some.opened (c.in-Ok.ensures (first_session 0))
+    c.close.ensures.closed (c.in-Some.ensures.was None) c.note_opened.ensures in
     said.2
 
 pub returns-in-None-clause-legal : goal.returns-in-None-clause-legal
 returns-in-None-clause-legal c =
     say-none c.args.self.now c.requires.legal c.args.client c.requires.client (first_session 0) c.args.plan.body c.args.plan.effect
     (c.is_no_memory.ensures c.if-is_no_memory.false) c.requires.due
-    c.perform.new.self (c.in_ok-perform.ensures (first_session 0)) (c.in-None.ensures.was None) _
+    c.perform.new.self (c.in-Ok.ensures (first_session 0)) (c.in-None.ensures.was None) _
 
 pub returns-in-None-clause-same : goal.returns-in-None-clause-same
 returns-in-None-clause-same c =
     say-none c.args.self.now c.requires.legal c.args.client c.requires.client (first_session 0) c.args.plan.body c.args.plan.effect
     (c.is_no_memory.ensures c.if-is_no_memory.false) c.requires.due
-    c.perform.new.self (c.in_ok-perform.ensures (first_session 0)) (c.in-None.ensures.was None) _
+    c.perform.new.self (c.in-Ok.ensures (first_session 0)) (c.in-None.ensures.was None) _
 
 pub returns-in-None-clause-turn : goal.returns-in-None-clause-turn
 returns-in-None-clause-turn c =
     say-none c.args.self.now c.requires.legal c.args.client c.requires.client (first_session 0) c.args.plan.body c.args.plan.effect
     (c.is_no_memory.ensures c.if-is_no_memory.false) c.requires.due
-    c.perform.new.self (c.in_ok-perform.ensures (first_session 0)) (c.in-None.ensures.was None) _
+    c.perform.new.self (c.in-Ok.ensures (first_session 0)) (c.in-None.ensures.was None) _
 
 pub returns-in-Some-clause-timed : goal.returns-in-Some-clause-timed
 returns-in-Some-clause-timed c = λ step told.
-    say-timed-ok c.note.result c.args.self.now c.perform.new.self c.close.new.self c.note.new.self c.args.client (first_session 0)
-    c.in-Some.open c.args.plan.body c.args.plan.effect step c.requires.legal
+    say-timed-ok c.note_opened.result c.args.self.now c.perform.new.self c.close.new.self c.note_opened.new.self c.args.client (first_session 0)
+    c.in-Some.opened c.args.plan.body c.args.plan.effect step c.requires.legal
     (client-below c.args.self.now c.requires.legal c.args.client c.requires.client) (c.is_no_memory.ensures c.if-is_no_memory.false)
-    (c.requires.due (first_session 0) None) (told (first_session 0) None) (c.in_ok-perform.ensures (first_session 0))
-    c.close.ensures.closed (c.in-Some.ensures.was None) c.note.ensures
+    (c.requires.due (first_session 0) None) (told (first_session 0) None) (c.in-Ok.ensures (first_session 0))
+    c.close.ensures.closed (c.in-Some.ensures.was None) c.note_opened.ensures
 
 pub returns-in-None-clause-timed : goal.returns-in-None-clause-timed
 returns-in-None-clause-timed c =
     say-none c.args.self.now c.requires.legal c.args.client c.requires.client (first_session 0) c.args.plan.body c.args.plan.effect
     (c.is_no_memory.ensures c.if-is_no_memory.false) c.requires.due
-    c.perform.new.self (c.in_ok-perform.ensures (first_session 0)) (c.in-None.ensures.was None) _
+    c.perform.new.self (c.in-Ok.ensures (first_session 0)) (c.in-None.ensures.was None) _
