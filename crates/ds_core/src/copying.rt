@@ -135,7 +135,7 @@ fn copy_terms(
     Ok((filters, orders, select))
 }
 
-/// All three, where none is refused.
+/// All three, where none is refused. So the arms of a query and of a statement have one way out each, at which no copy is held.
 fn all_three<A: Drop, B: Drop, C: Drop>(
     first: Result<A, NoMemory>,
     second: Result<B, NoMemory>,

@@ -1,6 +1,6 @@
 use Rattle.std.proofs.Common.{ℕ, List, ◌∙◌, ap, sym, subst, length}
 use Rattle.std.specs.Prelude.{All}
-use Rattle.ds_model.specs.Sessions.{Session, met}
+use Rattle.ds_model.specs.Sessions.{met}
 use Rattle.ds_plans.specs.States.{IsSession}
 use Rattle.ds_core.proofs.Cores.{have-counts, met-core, whole_written}
 use Rattle.ds_core.proofs.whole.Core.meet.Goals as goal
