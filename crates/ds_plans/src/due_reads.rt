@@ -17,6 +17,7 @@ ghost use Rattle.ds_plans.specs.Answered.{IsPlan};
 
 use crate::effect::{CountsSeen, Effect, GroupRead, Plan};
 use crate::gathered::{Gathered, Step};
+use crate::queries::{forget, give_up};
 use crate::session::Session;
 use crate::state::State;
 use ds_base::{Counts, Key, NoMemory, TryCopy};
@@ -171,14 +172,21 @@ impl State {
     {
         let ready = match prepare(alloc, &self.defs, session.in_transaction(), &search) {
             Ok(ready) => ready,
-            Err(body) => return Some(Plan::refused(body)),
+            Err(body) => {
+                give_up(search);
+                return Some(Plan::refused(body));
+            }
         };
         match group_of(alloc, &search) {
             Ok(Some(group)) => self.in_group_due(
                 alloc, session, client, search, ready, group, gathered, step,
             ),
             Ok(None) => self.in_all_due(alloc, session, client, search, ready, gathered),
-            Err(_) => Some(Plan::no_memory()),
+            Err(_) => {
+                give_up(search);
+                forget(ready);
+                Some(Plan::no_memory())
+            }
         }
     }
 
@@ -205,8 +213,16 @@ impl State {
     {
         match self.group_due(alloc, session, group, gathered, step) {
             Ok(Some(read)) => Some(self.find_in_group(alloc, session, client, search, ready, read)),
-            Ok(None) => None,
-            Err(body) => Some(Plan::refused(body)),
+            Ok(None) => {
+                give_up(search);
+                forget(ready);
+                None
+            }
+            Err(body) => {
+                give_up(search);
+                forget(ready);
+                Some(Plan::refused(body))
+            }
         }
     }
 
@@ -231,12 +247,24 @@ impl State {
     {
         let counts = match gathered.counts(alloc) {
             Ok(Some(counts)) => counts,
-            Ok(None) => return None,
-            Err(_) => return Some(Plan::no_memory()),
+            Ok(None) => {
+                give_up(search);
+                forget(ready);
+                return None;
+            }
+            Err(_) => {
+                give_up(search);
+                forget(ready);
+                return Some(Plan::no_memory());
+            }
         };
         match self.pull(alloc) {
             Ok(()) => Some(self.find_in_all_at(alloc, session, client, search, ready, counts)),
-            Err(_) => Some(Plan::no_memory()),
+            Err(_) => {
+                give_up(search);
+                forget(ready);
+                Some(Plan::no_memory())
+            }
         }
     }
 
@@ -260,18 +288,28 @@ impl State {
         ensures told { ToldAtCounts self.now session.now counts result.body result.effect }
     {
         let Ok(told) = counts.copy(alloc) else {
+            give_up(search);
+            forget(ready);
             return Plan::no_memory();
         };
         let Ok(_all) = self.applied.counts(alloc) else {
+            give_up(search);
+            forget(ready);
             return Plan::no_memory();
         };
         let commit = self.applied.counted_place(counts.as_slice());
         match self.find_at_counts(alloc, search, &ready, told) {
-            Ok(body) => Plan {
-                body,
-                effect: Effect::SeeCounts(CountsSeen { commit, counts }),
-            },
-            Err(_) => Plan::no_memory(),
+            Ok(body) => {
+                forget(ready);
+                Plan {
+                    body,
+                    effect: Effect::SeeCounts(CountsSeen { commit, counts }),
+                }
+            }
+            Err(_) => {
+                forget(ready);
+                Plan::no_memory()
+            }
         }
     }
 }

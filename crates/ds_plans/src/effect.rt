@@ -37,6 +37,14 @@ pub enum Effect {
     SeeCount(CountSeen),
 }
 
+impl Effect {
+    /// The effect is dropped, which is shown here once.
+    pub(crate) fn discard(self) {}
+}
+
+/// What was to be said is dropped, which is shown here once.
+pub(crate) fn discard_body(_body: Body) {}
+
 /// A write that is committed by itself, and its number is shown.
 #[derive(Drop)]
 pub struct WriteCommit {
@@ -128,7 +136,11 @@ impl Plan {
     }
 
     /// The plan is dropped. It owns much, so that is shown here once, and not in each function that gives a plan up.
-    pub(crate) fn discard(self) {}
+    pub(crate) fn discard(self) {
+        let Plan { body, effect } = self;
+        discard_body(body);
+        effect.discard();
+    }
 
     /// Whether it changes nothing but the id counter that is shown, as a refusal does.
     pub fn is_refusal(&self) -> bool

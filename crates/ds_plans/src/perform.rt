@@ -11,7 +11,7 @@ ghost use Rattle.ds_model.specs.Sessions.{saw_next};
 ghost use Rattle.ds_plans.specs.Effects.{IsAllowed, MayCommit, MayCommitWrite, MayWriteGroup, ids_drawn, store_after, session_after};
 ghost use Rattle.ds_plans.specs.States.{IsSession, Grows};
 
-use crate::effect::{Effect, GroupWrite, Plan, WriteCommit};
+use crate::effect::{Effect, GroupWrite, Plan, WriteCommit, discard_body};
 use crate::session::Session;
 use crate::state::State;
 use ds_base::{Buffer, NoMemory};
@@ -48,6 +48,8 @@ impl State {
             body,
         };
         if !make_room(&reply, keep, out) {
+            effect.discard();
+            discard_body(reply.body);
             return say_no_memory(client, number, keep, out);
         }
         match self.take(alloc, session, effect) {
@@ -55,7 +57,10 @@ impl State {
                 write_within(&reply, out);
                 reply
             }
-            Err(_) => say_no_memory(client, number, keep, out),
+            Err(_) => {
+                discard_body(reply.body);
+                say_no_memory(client, number, keep, out)
+            }
         }
     }
 

@@ -52,12 +52,19 @@ impl State {
     {
         let ready = match prepare(alloc, &self.defs, session.in_transaction(), &search) {
             Ok(ready) => ready,
-            Err(body) => return Plan::refused(body),
+            Err(body) => {
+                give_up(search);
+                return Plan::refused(body);
+            }
         };
         match group_of(alloc, &search) {
             Ok(Some(group)) => self.plan_in_group(alloc, session, client, search, ready, group),
             Ok(None) => self.plan_in_all(alloc, session, client, search, ready),
-            Err(_) => Plan::no_memory(),
+            Err(_) => {
+                give_up(search);
+                forget(ready);
+                Plan::no_memory()
+            }
         }
     }
 
@@ -79,12 +86,18 @@ impl State {
         ensures counts { AreUpTo self.old.applied.counts self.new.applied.counts }
     {
         if let Some(body) = session.group_refusal(alloc, Some(&group)) {
+            give_up(search);
+            forget(ready);
             return Plan::refused(body);
         }
         let place = self.stands_at(session, &group, None);
         match self.reach(alloc, group, place) {
             Ok(read) => self.find_in_group(alloc, session, client, search, ready, read),
-            Err(_) => Plan::no_memory(),
+            Err(_) => {
+                give_up(search);
+                forget(ready);
+                Plan::no_memory()
+            }
         }
     }
 
@@ -104,18 +117,28 @@ impl State {
         ensures told { ToldAtPlace self.now session.now read.place result.body result.effect }
     {
         let Ok(visible) = self.applied.visible(alloc, read.shard, read.entries) else {
+            give_up(search);
+            forget(ready);
             return Plan::no_memory();
         };
         let Ok(entities) = visible.entities(alloc) else {
+            give_up(search);
+            forget(ready);
             return Plan::no_memory();
         };
         let seen = Seen::Place(read.place);
         match find(alloc, search, &ready, entities.as_slice(), seen) {
-            Ok(body) => Plan {
-                body,
-                effect: Effect::ReadGroup(read),
-            },
-            Err(_) => Plan::no_memory(),
+            Ok(body) => {
+                forget(ready);
+                Plan {
+                    body,
+                    effect: Effect::ReadGroup(read),
+                }
+            }
+            Err(_) => {
+                forget(ready);
+                Plan::no_memory()
+            }
         }
     }
 
@@ -137,7 +160,11 @@ impl State {
     {
         match self.pull(alloc) {
             Ok(()) => self.find_in_all(alloc, session, client, search, ready),
-            Err(_) => Plan::no_memory(),
+            Err(_) => {
+                give_up(search);
+                forget(ready);
+                Plan::no_memory()
+            }
         }
     }
 
@@ -157,6 +184,8 @@ impl State {
         ensures { (call : Call) → IsSearchOf call search → IsPlan self.now session.now client call result.body result.effect }
     {
         let Ok(counts) = self.applied.counts(alloc) else {
+            give_up(search);
+            forget(ready);
             return Plan::no_memory();
         };
         self.find_in_all_at(alloc, session, client, search, ready, counts)
@@ -176,8 +205,20 @@ impl State {
             (sorted_by_key (shard_views self.now.applied.lists counts)) (Seen.Counts counts)) }
         ensures quiet { IfOk result IsQuiet }
     {
-        let visible = self.applied.all_visible(alloc, counts.as_slice())?;
-        let entities = visible.entities(alloc)?;
+        let visible = match self.applied.all_visible(alloc, counts.as_slice()) {
+            Ok(visible) => visible,
+            Err(error) => {
+                give_up(search);
+                return Err(error);
+            }
+        };
+        let entities = match visible.entities(alloc) {
+            Ok(entities) => entities,
+            Err(error) => {
+                give_up(search);
+                return Err(error);
+            }
+        };
         find(
             alloc,
             search,
@@ -187,6 +228,12 @@ impl State {
         )
     }
 }
+
+/// The search is dropped. It owns much, so that is shown here once, and not in each function that gives a search up.
+pub(crate) fn give_up(_search: Search) {}
+
+/// What was prepared of a search is dropped, which is shown here once.
+pub(crate) fn forget(_ready: Ready) {}
 
 /// What the reply says of the results of a prepared search over entities, which stand by key. A refusal is want of memory.
 fn find(

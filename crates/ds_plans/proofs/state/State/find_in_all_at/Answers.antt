@@ -51,8 +51,8 @@ returns-in-Ok-find_at_counts-clause-plan c = λ call of.
     ∙ ap (λ (st : StateParts). counted_place st.applied.lists c.args.counts) c.self.view_is)
     c.in-Ok-find_at_counts.body c.in-Ok-find_at_counts.ensures.found
 
-pub returns-clause-plan : goal.returns-clause-plan
-returns-clause-plan c = λ call of. memory_as c.args.self.now c.args.session.now c.args.client call c.no_memory-in-Err.result.body
+pub returns-in-Err-clause-plan : goal.returns-in-Err-clause-plan
+returns-in-Err-clause-plan c = λ call of. memory_as c.args.self.now c.args.session.now c.args.client call c.no_memory-in-Err.result.body
     c.no_memory-in-Err.result.effect c.no_memory-in-Err.ensures.body c.no_memory-in-Err.ensures.effect
 
 pub returns-in-Ok-find_at_counts-clause-told : goal.returns-in-Ok-find_at_counts-clause-told

@@ -29,8 +29,8 @@ returns-in-Ok-find-clause-plan c = λ call of.
     (ap (map (λ e. e.now)) c.as_slice.ensures.value ∙ c.in-Ok-entities.ensures ∙ c.in-Ok.ensures
     ∙ ap (λ (st : StateParts). shard_view st.applied.lists c.args.read.shard c.args.read.entries) c.self.view_is))
 
-pub returns-clause-plan : goal.returns-clause-plan
-returns-clause-plan c = λ call of. memory_as c.args.self.now c.args.session.now c.args.client call _ _ c.no_memory-in-Err.ensures.body
+pub returns-in-Err-clause-plan : goal.returns-in-Err-clause-plan
+returns-in-Err-clause-plan c = λ call of. memory_as c.args.self.now c.args.session.now c.args.client call _ _ c.no_memory-in-Err.ensures.body
     c.no_memory-in-Err.ensures.effect
 
 pub returns-in-Ok-find-clause-told : goal.returns-in-Ok-find-clause-told
