@@ -8,8 +8,14 @@ mod bytes;
 #[cfg(test)]
 mod log;
 #[cfg(test)]
+mod parts;
+#[cfg(test)]
 mod query;
 #[cfg(test)]
 mod reply;
 #[cfg(test)]
 mod request;
+#[cfg(test)]
+mod request_queries;
+#[cfg(test)]
+mod told;
