@@ -15,7 +15,7 @@ use std::test::Fail;
 pub type Line<'a> = (u32, Step, &'a str);
 
 /// Whether a run of these steps over so many shards gives exactly these replies, one line each.
-pub fn replies_are(
+pub(crate) fn replies_are(
     alloc: Global,
     shards: u32,
     script: &[Line<'_>],

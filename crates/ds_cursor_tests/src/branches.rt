@@ -9,7 +9,7 @@ use std::alloc::Global;
 use std::test::Fail;
 
 /// Columns with the same name as in the list, each with its direction; `__key__` ascending is the last.
-pub fn columns(alloc: Global, first: Option<(&str, bool)>) -> Result<Columns, NoMemory> {
+pub(crate) fn columns(alloc: Global, first: Option<(&str, bool)>) -> Result<Columns, NoMemory> {
     let key = Column {
         name: TextString::of(alloc, "__key__")?,
         descending: false,
@@ -25,7 +25,7 @@ pub fn columns(alloc: Global, first: Option<(&str, bool)>) -> Result<Columns, No
 }
 
 /// The branch of a kind of a namespace, without conditions, sorted by one column and then by key, or by key alone.
-pub fn branch(
+pub(crate) fn branch(
     alloc: Global,
     namespace: &str,
     kind: &str,
@@ -49,7 +49,7 @@ pub fn branch(
 }
 
 /// The key of one element with a name, in a namespace.
-pub fn key(alloc: Global, namespace: &str, kind: &str, name: &str) -> Result<Key, Fail> {
+pub(crate) fn key(alloc: Global, namespace: &str, kind: &str, name: &str) -> Result<Key, Fail> {
     let kind = TextString::of(alloc, kind)?;
     let ident = Ident::Name(TextString::of(alloc, name)?);
     let path = Elems::from(vec![in alloc; Elem { kind, ident }]?);
@@ -57,7 +57,7 @@ pub fn key(alloc: Global, namespace: &str, kind: &str, name: &str) -> Result<Key
 }
 
 /// The key of a child with an id.
-pub fn child(alloc: Global, parent: &Key, kind: &str, id: u64) -> Result<Key, Fail> {
+pub(crate) fn child(alloc: Global, parent: &Key, kind: &str, id: u64) -> Result<Key, Fail> {
     let mut path = parent.elems().copy(alloc)?.into_vec();
     let kind = TextString::of(alloc, kind)?;
     path.push(Elem {
@@ -68,7 +68,11 @@ pub fn child(alloc: Global, parent: &Key, kind: &str, id: u64) -> Result<Key, Fa
 }
 
 /// The place of a row with this key and, before it, the value of one column with its direction.
-pub fn place(alloc: Global, first: Option<(i64, bool)>, key: &Key) -> Result<Place, NoMemory> {
+pub(crate) fn place(
+    alloc: Global,
+    first: Option<(i64, bool)>,
+    key: &Key,
+) -> Result<Place, NoMemory> {
     let mut bytes = Buffer::new(alloc);
     if let Some((number, descending)) = first {
         encode(&IndexValue::Num(number), descending, &mut bytes)?;

@@ -14,7 +14,7 @@ fn are_all_from(first: u64, numbers: &[u64]) -> bool {
 }
 
 /// Whether two lists have all numbers from the first on, each once.
-pub fn drew_all(
+pub(crate) fn drew_all(
     first: u64,
     ones: &[u64],
     others: &[u64],
