@@ -9,7 +9,7 @@
         client.settle()
         print(client.query("Task").results)      # [Entity(Key('Task', 'a'), n=5)]
 
-One file over the standard library, for Python 3.9 and later. A reply is an object that has the protocol's names as attributes
+It stands on the standard library alone, for Python 3.9 and later. A reply is an object that has the protocol's names as attributes
 (`reply.commit`, `reply.place`, `reply.results`). A refusal is an exception named as the protocol names it (`Conflict`,
 `MissingIndex`), with its number and its further members. A server that dies, a pipe that breaks and a line that is no reply are
 a `ServerFailed`, and so is a reply that doesn't come in time.
@@ -593,7 +593,7 @@ def _found_program():
     named = os.environ.get("TORFYLLAN")
     if named:
         return named.split()
-    beside = pathlib.Path(__file__).resolve().parents[2] / "run"
+    beside = pathlib.Path(__file__).resolve().parents[3] / "run"
     if beside.exists():
         return [str(beside)]
     raise ServerFailed("no server was found: name it by the environment's TORFYLLAN or by Server(program=...)")
