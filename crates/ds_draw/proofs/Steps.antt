@@ -1,5 +1,6 @@
 -- Each kind of step keeps the rule.
-use Rattle.std.proofs.Common.{◌≡◌, ◌≢◌, ℕ, zero, suc, ◌+◌, ◌^◌, ◌<◌, ◌≤◌, Bool, true, false, List, [], ◌∷◌, ◌++◌, length, set, refl, sym, ap, ◌∙◌, subst, ⊎_elim, arith}
+use Rattle.std.proofs.Common.{◌≡◌, ◌≢◌, ℕ, zero, suc, ◌+◌, ◌^◌, ◌<◌, ◌≤◌, Bool, true, false, List, [], ◌∷◌, ◌++◌, length, set, refl, sym}
+use Rattle.std.proofs.Common.{ap, ◌∙◌, subst, ⊎_elim, arith}
 use Rattle.std.specs.Prelude.{sum_by, slice_index, ◌==◌}
 use mathlib.Core.Option.{Option, some, none, some-ne-none, some-injective}
 use lib.ListN.{get_elem?}

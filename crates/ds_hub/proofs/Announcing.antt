@@ -1,5 +1,6 @@
 -- The exchange that announces an operation keeps the rule of the history.
-use Rattle.std.proofs.Common.{◌≡◌, ℕ, ◌+◌, ◌<◌, ◌==◌, Bool, true, false, List, [], ◌∷◌, ◌++◌, length, refl, ap, sym, ◌∙◌, subst, arith, inl, length-append, None}
+use Rattle.std.proofs.Common.{◌≡◌, ℕ, ◌+◌, ◌<◌, ◌==◌, Bool, true, false, List, [], ◌∷◌, ◌++◌, length, refl, ap, sym, subst, arith, inl}
+use Rattle.std.proofs.Common.{length-append, None}
 use Rattle.std.proofs.lemmas.List.{append-nil}
 use Rattle.std.proofs.lemmas.Bool.Decides.{nat_tests}
 use mathlib.Core.List.{IsPrefix}
@@ -8,14 +9,14 @@ use Rattle.logbook.specs.Pages.{Cell, cell, keeps, no_nib, step, Moves, Goes}
 use Rattle.ds_hub.specs.Line.{IsCounted, Announced}
 use Rattle.ds_hub.proofs.Beginnings.{begins_whole}
 
-module _ {O : Type 0} where
-  abbrev pub shown : List O → List O
+module _ {E : Type 0} where
+  abbrev pub shown : List E → List E
   shown log = []
 
-  abbrev pub moved : List O → List O → ℕ → Type 0
+  abbrev pub moved : List E → List E → ℕ → Type 0
   moved before after answer = Unit {0}
 
-  pub announcing : (log v : List O) (op : O) (old : ℕ) → length v ≡ old → IsPrefix v log
+  pub announcing : (log v : List E) (op : E) (old : ℕ) → length v ≡ old → IsPrefix v log
       → (b : Bool) → (length log == old) ≡ b
       → Goes IsCounted shown moved 0 (v, (no_nib, None)) (λ n. either (n == old) (old + 1) n) (Announced (step 0 old (old + 1) op) (v, (no_nib, None))) ((length log, true) ∷ (0, true) ∷ []) log
   announcing log v op old len pre true is =
@@ -42,7 +43,7 @@ module _ {O : Type 0} where
       )
 
   -- whatever the history is, the exchange puts the operation behind all that was known, or finds more operations
-  pub announces : (v : List O) (op : O) (old : ℕ) → length v ≡ old
+  pub announces : (v : List E) (op : E) (old : ℕ) → length v ≡ old
       → Moves IsCounted shown moved 0 (v, (no_nib, None)) (λ n. either (n == old) (old + 1) n) (Announced (step 0 old (old + 1) op) (v, (no_nib, None)))
   announces v op old len cs log kept pre away =
       let P : List Cell → Type 0 = λ c. (0 < length c) × ((cell c 0).1 ≡ true) × Goes IsCounted shown moved 0 (v, (no_nib, None)) (λ n. either (n == old) (old + 1) n) (Announced (step 0 old (old + 1) op) (v, (no_nib, None))) c log in

@@ -1,4 +1,5 @@
 pub mod Beginnings
+pub mod Growing
 pub mod Announcing
 pub mod Turning
 pub mod Counting

@@ -1,5 +1,6 @@
 pub mod Line
 pub mod Logs
 pub mod Holding
+pub mod Growing
 pub mod Running
 pub mod Copied

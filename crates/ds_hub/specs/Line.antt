@@ -12,18 +12,18 @@ abbrev pub no_hub : HubId
 no_hub = record { number = 0; log_name = 0; cells_name = 0 }
 
 -- which hub it is, and a beginning of the list that this hub has published
-pub record Line (O : Type 0) : Type 0 where
+pub record Line (E : Type 0) : Type 0 where
   pub hub : HubId
-  pub list : List O
+  pub list : List E
 
--- The first word counts the operations. A history has two words, of which a hub leaves the second at 0
-abbrev pub IsCounted : {O : Type 0} → List Cell → List O → Type 0
+-- The first word counts what was announced. A history has two words, of which a hub leaves the second at 0
+abbrev pub IsCounted : {E : Type 0} → List Cell → List E → Type 0
 IsCounted cells log = cells ≡ (length log, true) ∷ (0, true) ∷ []
 
 -- the word of the history of this hub
 abbrev pub head_of : HubId → Named
 head_of hub = record { tracked = true; key = 0; book = hub }
 
--- where the word was found as it was expected, the operation stands behind all that was known
-abbrev pub Announced : {O : Type 0} → Step O → View O ℕ → ℕ → View O ℕ → Type 0
+-- where the word was found as it was expected, what is told stands behind all that was known
+abbrev pub Announced : {E : Type 0} → Step E → View E ℕ → ℕ → View E ℕ → Type 0
 Announced step known found after = OnTrue (found == step.old) (after.0 ≡ known.0 ++ step.ask ∷ [])

@@ -6,31 +6,34 @@ use Rattle.ds_hub.specs.Line.{Line}
 use Rattle.ds_hub.specs.declared.version.Logged.{Logged}
 use Rattle.ds_hub.specs.declared.rule.Origin.{Origin}
 
-module _ {T O : Type 0} where
-  -- an operation changes the state, and its mark says which operations are in it then
-  abbrev pub taken_in : (T → O → T) → T × Line O → Logged O → T × Line O
-  taken_in applied (state, line) logged = (applied state logged.operation, logged.mark)
+-- what a told element makes of a state: what the operation does for which it stands
+abbrev pub told_by : {T O E : Type 0} → (E → O) → (T → O → T) → T → E → T
+told_by asks applied state told = applied state (asks told)
 
+-- an operation changes the state, and its mark says which operations are in it then
+abbrev pub taken_in : {T O E : Type 0} → (T → O → T) → T × Line E → Logged O E → T × Line E
+taken_in applied (state, line) logged = (applied state logged.operation, logged.mark)
+
+module _ {T E : Type 0} where
   -- Whoever knows where the hub begins: the copy that is shown is of this hub, and is the fold of its prefix from there
-  abbrev pub Fits : (T → O → T) → T → Line O → Option (Origin T O) → Type 0
-  Fits applied state line None = Unit {0}
-  Fits applied state line (Some origin) = (line.hub ≡ origin.prefix.hub) × (state ≡ fold applied origin.start line.list)
+  abbrev pub Fits : (T → E → T) → T → Line E → Option (Origin T E) → Type 0
+  Fits makes state line None = Unit {0}
+  Fits makes state line (Some origin) = (line.hub ≡ origin.prefix.hub) × (state ≡ fold makes origin.start line.list)
 
-  abbrev pub AllFit : (T → O → T) → T → Line O → List (Option (Origin T O)) → Type 0
-  AllFit applied state line views = (seat : ℕ) (v : Option (Origin T O)) → get_elem? views seat ≡ some v → Fits applied state line v
+  abbrev pub AllFit : (T → E → T) → T → Line E → List (Option (Origin T E)) → Type 0
+  AllFit makes state line views = (seat : ℕ) (v : Option (Origin T E)) → get_elem? views seat ≡ some v → Fits makes state line v
 
-module _ {O : Type 0} where
-  -- what is in the log, and then what is kept aside, if anything is
-  abbrev pub queued : List (Logged O) → Option (Logged O) → List (Logged O)
-  queued log None = log
-  queued log (Some parked) = log ++ parked ∷ []
+-- what is in the log, and then what is kept aside, if anything is
+abbrev pub queued : {L : Type 0} → List L → Option L → List L
+queued log None = log
+queued log (Some parked) = log ++ parked ∷ []
 
-  -- the operations of the log
-  abbrev pub operations : List (Logged O) → List O
-  operations [] = []
-  operations (logged ∷ log) = logged.operation ∷ operations log
-
-  -- each mark is of the hub, and has the operations of the mark before it, the first those of the line, and then its own
-  abbrev pub IsMarked : Line O → List (Logged O) → Type 0
-  IsMarked line [] = Unit {0}
-  IsMarked line (logged ∷ log) = (logged.mark.hub ≡ line.hub) × (logged.mark.list ≡ line.list ++ logged.operation ∷ []) × IsMarked logged.mark log
+module _ {O E : Type 0} where
+  -- Each mark is of the hub, and has the list of the mark before it, the first that of the line, and then one told element
+  -- more, which stands for the operation
+  abbrev pub IsMarked : (E → O) → Line E → List (Logged O E) → List E → Type 0
+  IsMarked asks line [] [] = Unit {0}
+  IsMarked asks line [] (t ∷ told) = ⊥
+  IsMarked asks line (logged ∷ log) [] = ⊥
+  IsMarked asks line (logged ∷ log) (t ∷ told) =
+      (logged.mark.hub ≡ line.hub) × (logged.mark.list ≡ line.list ++ t ∷ []) × (asks t ≡ logged.operation) × IsMarked asks logged.mark log told

@@ -1,20 +1,25 @@
 -- What a hub's writer keeps between two calls.
-use Rattle.std.specs.Prelude.{◌≡◌, ℕ, ◌+◌, ◌≤◌, ◌^◌, List, ◌++◌, length, Option}
+use Rattle.std.specs.Prelude.{◌≡◌, ℕ, ◌≤◌, ◌^◌, List, ◌++◌, drop, length, Option}
 use Rattle.ds_hub.specs.Line.{HubId, Line}
-use Rattle.ds_hub.specs.Logs.{Fits, operations, IsMarked}
+use Rattle.ds_hub.specs.Logs.{Fits, IsMarked, told_by}
 use Rattle.ds_hub.specs.Holding.{IsOf}
 use Rattle.ds_hub.specs.declared.version.Logged.{Logged}
 use Rattle.ds_hub.specs.declared.rule.Origin.{Origin}
 
+-- what was announced and isn't seen yet
+abbrev pub unseen : {E : Type 0} → Line E → Line E → List E
+unseen shown announced = drop (length shown.list) announced.list
+
 -- `log` has the pending operations, with the one that is kept aside
-pub record IsRunning {T O : Type 0} (applied : T → O → T) (hub : HubId) (knows : Option (Origin T O)) (state : T) (shown : Line O) (log : List (Logged O)) (announced : Line O) (waiting : ℕ) : Type 0 where
+pub record IsRunning {T O E : Type 0} (asks : E → O) (applied : T → O → T) (hub : HubId) (knows : Option (Origin T E)) (state : T) (shown : Line E)
+    (log : List (Logged O E)) (announced : Line E) (waiting : ℕ) : Type 0 where
   -- it was told where the hub begins, and what readers see is the fold of the published list from there
   pub told : IsOf hub knows
-  pub fits : Fits applied state shown knows
+  pub fits : Fits (told_by asks applied) state shown knows
   pub shown_hub : shown.hub ≡ hub
   pub announced_hub : announced.hub ≡ hub
-  -- the pending operations go on from the published ones, and the history has just these
-  pub marked : IsMarked shown log
-  pub whole : announced.list ≡ shown.list ++ operations log
-  pub waiting_is : waiting ≡ length (operations log)
-  pub room : length shown.list + length (operations log) ≤ 2 ^ 62
+  -- the history has the published list and then what is pending, which stands for the operations of the log
+  pub marked : IsMarked asks shown log (unseen shown announced)
+  pub whole : announced.list ≡ shown.list ++ unseen shown announced
+  pub waiting_is : waiting ≡ length (unseen shown announced)
+  pub room : length announced.list ≤ 2 ^ 62

@@ -5,15 +5,25 @@ use crate::NoMemory;
 
 /// A state that takes in operations of type `O`, one after another. A hub has two copies of it, and each operation is taken in
 /// by the one and then by the other.
+///
+/// What a hub's list in contracts is a list of is told beside each operation, and stands for it: a journal's hub has operations
+/// that say no more than "one more", and tells commits. Where a hub tells its operations themselves, `Told` is `O` and `asks`
+/// the identity.
 pub trait Absorb<O: Drop> {
     /// What contracts see of the state. No value of this type is made.
     type State;
+
+    /// What a hub's list is a list of. The hub keeps no value of this type.
+    type Told;
 
     // What contracts see of a state.
     ghost state: { Self → Self.State };
 
     // What an operation makes of it.
     ghost applied: { Self.State → O → Self.State };
+
+    // The operation that a told element stands for.
+    ghost asks: { Self.Told → O };
 
     // What shows that absorbing never fails, if anything does.
     ghost never_fails: { Type 0 } = { ⊥ };

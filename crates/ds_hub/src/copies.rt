@@ -3,7 +3,6 @@ ghost use Rattle.std.specs.Prelude.{◌≡◌, ◌^◌, ◌<◌, ◌∷◌, ◌+
 ghost use Rattle.crossbeam_utils.specs.Register.{Admits, TurnsAt, Forks, Merges};
 ghost use Rattle.left_right.specs.Sides.{view as knows};
 
-use crate::version::Logged;
 use atomic_table::{Join, Split};
 use core::mem::replace_with;
 use crossbeam_utils::rule::{Outcome, Protocol};
@@ -16,27 +15,27 @@ use std::sync::Wait;
 
 /// The two copies, and what readers don't see yet. Contracts see the seat of the writer and what it knows, the copy
 /// that is shown, and what it lacks.
-pub struct Copies<O: Drop, T: Absorb<Logged<O>> + Drop, V, P: Protocol<T, V>> {
-    writer: Writer<T, Logged<O>, V, P>,
+pub struct Copies<L: Drop, T: Absorb<L> + Drop, V, P: Protocol<T, V>> {
+    writer: Writer<T, L, V, P>,
 }
 
-impl<O: Drop, T: Absorb<Logged<O>> + Drop, V, P: Protocol<T, V>> Model for Copies<O, T, V, P> {
+impl<L: Drop, T: Absorb<L> + Drop, V, P: Protocol<T, V>> Model for Copies<L, T, V, P> {
     ghost use Rattle.std.specs.Prelude.{drop};
     ghost use Rattle.left_right.specs.Sides.{view as knows};
     ghost use Rattle.ds_hub.specs.Copied.{Copied};
 
-    ghost Value = { Copied O T V };
+    ghost Value = { Copied L T V };
 
     ghost view = { λ c. record { seat = c.writer.desk.place.id; knows = knows c.writer.desk.place; shown = c.writer.desk.shown.value; log = drop c.writer.behind c.writer.log.items } };
 }
 
-impl<O: Drop, T: Absorb<Logged<O>> + Drop, V, P: Protocol<T, V>> Copies<O, T, V, P> {
+impl<L: Drop, T: Absorb<L> + Drop, V, P: Protocol<T, V>> Copies<L, T, V, P> {
     pub fn new(
         alloc: Global,
         first: T,
         second: T,
         readers: u32,
-    ) -> Result<Copies<O, T, V, P>, AllocError>
+    ) -> Result<Copies<L, T, V, P>, AllocError>
         requires readers { 0 < readers }
         requires alike { T.state first ≡ T.state second }
         requires rule { P.holds first (P.first ∷ []) }
@@ -55,7 +54,7 @@ impl<O: Drop, T: Absorb<Logged<O>> + Drop, V, P: Protocol<T, V>> Copies<O, T, V,
     }
 
     /// Adds an operation with its mark. It comes back where there is no memory.
-    pub fn append(&mut self, logged: Logged<O>) -> Result<(), Logged<O>>
+    pub fn append(&mut self, logged: L) -> Result<(), L>
         ensures { MatchResult result (λ _. self.new ≡ record self.old { log = self.old.log ++ logged ∷ [] }) (λ back. (back ≡ logged) × (self.new ≡ self.old)) }
     {
         self.writer.append(logged)
@@ -72,10 +71,7 @@ impl<O: Drop, T: Absorb<Logged<O>> + Drop, V, P: Protocol<T, V>> Copies<O, T, V,
         replace_with(
             &mut self.writer,
             rt,
-            |writer: Writer<T, Logged<O>, V, P>, rt: &R| -> (
-                Writer<T, Logged<O>, V, P>,
-                Result<(), AllocError>,
-            )
+            |writer: Writer<T, L, V, P>, rt: &R| -> (Writer<T, L, V, P>, Result<(), AllocError>)
                 requires { (next : T) → T.state next ≡ fold T.applied (T.state writer.desk.shown.value) (drop writer.behind writer.log.items) → TurnsAt P.holds writer.desk.place.id (knows writer.desk.place) writer.desk.shown.value next M.then }
             { writer.publish_as::<M, R>(rt) },
         )

@@ -1,11 +1,13 @@
-//! The ghost history of a hub: the operations that its writer announced, and the rule that its one word keeps.
+//! The ghost history of a hub: what its writer announced, and the rule that its one word keeps.
 
+use crate::tells::Tells;
 use logbook::{Gain, Plain, Play, Rule};
+use std::marker::PhantomData;
 
-/// The rule of a hub's history: its word counts the operations that were announced.
+/// The rule of a hub's history: its word counts what was announced.
 pub struct CountsAnnounced;
 
-impl<O> Rule<O, u64> for CountsAnnounced {
+impl<E> Rule<E, u64> for CountsAnnounced {
     ghost use Rattle.std.specs.Prelude.{[]};
     ghost use base.Fml.{ftrue};
     ghost use Rattle.ds_hub.specs.Line.{IsCounted};
@@ -26,25 +28,27 @@ impl<O> Rule<O, u64> for CountsAnnounced {
 /// Nothing is traded for a step on the history.
 pub struct NoGain;
 
-impl<O> Gain<O, u64> for NoGain {
+impl<E> Gain<E, u64> for NoGain {
     ghost use base.Fml.{ftrue};
 
     ghost after = { λ names about answer. ftrue };
 }
 
-/// The step that announces an operation.
-pub struct Announce;
+/// The step that announces what `M` tells of a value.
+pub struct Announce<M> {
+    of: PhantomData<M>,
+}
 
-impl<O> Play<O, u64> for Announce {
+impl<E, M> Play<E, u64> for Announce<M> {
     ghost use Rattle.ds_hub.specs.Line.{Announced};
 
     ghost then = { Announced };
 }
 
-impl<O> Plain<O, O, u64> for Announce {
+impl<X, E, M: Tells<X, E>> Plain<X, E, u64> for Announce<M> {
     ghost use Rattle.std.specs.Prelude.{None};
 
-    ghost ask = { λ operation. operation };
+    ghost ask = { λ about. M.told about };
 
-    ghost state = { λ operation. None };
+    ghost state = { λ about. None };
 }

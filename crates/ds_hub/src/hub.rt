@@ -1,5 +1,5 @@
 //! How a hub is made.
-ghost use Rattle.std.specs.Prelude.{◌≡◌, ◌++◌, ◌<◌, [], Some, None, replicate, IfOk};
+ghost use Rattle.std.specs.Prelude.{◌≡◌, ◌++◌, ◌<◌, [], Some, None, false, replicate, IfOk};
 ghost use Rattle.left_right.specs.Sides.{view as knows};
 ghost use Rattle.ds_hub.specs.Holding.{IsOf, start_of};
 
@@ -9,7 +9,7 @@ use crate::copies::Copies;
 use crate::prefix::{Head, Prefix};
 use crate::reader::{IdleReader, Reader};
 use crate::readers::Readers;
-use crate::rule::{Begins, Tells};
+use crate::rule::{Begins, HandsOn};
 use crate::version::Version;
 use crate::writer::{Ruled, Writer};
 use std::alloc::{AllocError, Global};
@@ -34,7 +34,7 @@ pub fn make<O: Drop, S: Absorb<O> + Drop, Rt: Wait>(
 ) -> Result<Hub<O, S>, NoMemory>
     requires some { 0 < readers }
     requires alike { S.state first ≡ S.state second }
-    ensures writer { IfOk result (λ hub. (hub.writer.start ≡ Some (S.state first)) × (hub.writer.published ≡ []) × (hub.writer.pending ≡ [])) }
+    ensures writer { IfOk result (λ hub. (hub.writer.start ≡ Some (S.state first)) × (hub.writer.published ≡ []) × (hub.writer.pending ≡ []) × (hub.writer.is_parked ≡ false)) }
     ensures readers { IfOk result (λ hub. hub.readers ≡ replicate readers (record { hub = hub.writer.hub; start = Some (S.state first); known = [] })) }
 {
     let (head, prefix) = Head::open();
@@ -62,7 +62,7 @@ fn open<O: Drop, S: Absorb<O> + Drop, R: Wait>(
     alloc: Global,
     first: S,
     second: S,
-    prefix: &Prefix<O>,
+    prefix: &Prefix<S::Told>,
     readers: u32,
 ) -> Result<Ruled<O, S>, AllocError>
     requires some { 0 < readers }
@@ -80,7 +80,7 @@ fn open<O: Drop, S: Absorb<O> + Drop, R: Wait>(
         prefix: prefix.duplicate(),
     };
     let mut copies = Copies::new(alloc, first, second, readers)?;
-    match copies.publish_as::<Begins, R>(rt) {
+    match copies.publish_as::<Begins<O>, R>(rt) {
         Ok(()) => Ok(copies),
         Err(refused) => {
             copies.end(rt);
@@ -95,7 +95,7 @@ fn seat<O: Drop, S: Absorb<O> + Drop, R: Wait>(rt: &R, copies: &mut Ruled<O, S>)
     ensures told { knows result.place ≡ copies.old.knows }
 {
     for _ in rt.forever() {
-        if let Ok(reader) = copies.reader::<Tells, Tells>() {
+        if let Ok(reader) = copies.reader::<HandsOn, HandsOn>() {
             return reader;
         }
         thread::yield_now();
@@ -107,7 +107,7 @@ fn seat<O: Drop, S: Absorb<O> + Drop, R: Wait>(rt: &R, copies: &mut Ruled<O, S>)
 fn seat_all<O: Drop, S: Absorb<O> + Drop, R: Wait>(
     rt: &R,
     copies: &mut Ruled<O, S>,
-    prefix: &Prefix<O>,
+    prefix: &Prefix<S::Told>,
     list: &mut Readers<O, S>,
     count: u32,
 ) -> Result<(), AllocError>

@@ -20,6 +20,9 @@ mod prefix;
 mod reader;
 mod readers;
 mod rule;
+mod slot;
+mod slots;
+mod tells;
 mod version;
 mod writer;
 
@@ -29,5 +32,8 @@ pub use hub::{Hub, make};
 pub use note::Note;
 pub use reader::{Reader, View};
 pub use readers::Readers;
+pub use slot::Slot;
+pub use slots::{enter_all, leave_all};
 pub use std::alloc::AllocError as NoMemory;
+pub use tells::{InSnapshot, Itself, Tells};
 pub use writer::Writer;

@@ -3,22 +3,23 @@ ghost use Rattle.std.specs.Prelude.{◌≡◌, ◌+◌, ◌<◌, ◌^◌, ◌∷
 ghost use mathlib.Core.List.{IsPrefix};
 
 use crate::history::{Announce, CountsAnnounced, NoGain};
+use crate::tells::Tells;
 use logbook::{Offer, Seen, Start, Word};
 use std::marker::Model;
 
-/// A beginning of the list that a hub publishes, as far as its holder knows it. It holds a number and no operation.
+/// A beginning of the list that a hub publishes, as far as its holder knows it. It holds a number, and nothing of the list.
 /// Contracts see the hub and that beginning.
 #[derive(Drop)]
-pub struct Prefix<O> {
+pub struct Prefix<E> {
     held: u64,
-    seen: Seen<O, u64, CountsAnnounced>,
+    seen: Seen<E, u64, CountsAnnounced>,
 }
 
-impl<O> Model for Prefix<O> {
+impl<E> Model for Prefix<E> {
     ghost use Rattle.std.specs.Prelude.{◌≡◌, length};
     ghost use Rattle.ds_hub.specs.Line.{Line};
 
-    ghost Value = { Line O };
+    ghost Value = { Line E };
 
     ghost view = { λ p. record { hub = p.seen.book; list = p.seen.log } };
 
@@ -27,11 +28,11 @@ impl<O> Model for Prefix<O> {
 
 /// The word of a hub's history, which its writer alone holds. Contracts see which hub it is.
 #[derive(Drop)]
-pub struct Head<O> {
-    word: Word<O, u64, CountsAnnounced>,
+pub struct Head<E> {
+    word: Word<E, u64, CountsAnnounced>,
 }
 
-impl<O> Model for Head<O> {
+impl<E> Model for Head<E> {
     ghost use Rattle.std.specs.Prelude.{◌≡◌};
     ghost use Rattle.logbook.specs.Pages.{Book, book_coded};
     ghost use Rattle.ds_hub.specs.Line.{head_of};
@@ -45,9 +46,9 @@ impl<O> Model for Head<O> {
     ghost invariant = { λ h. h.word ≡ head_of h.word.book };
 }
 
-impl<O> Head<O> {
-    /// A new history, with no operation in it.
-    pub fn open() -> (Head<O>, Prefix<O>)
+impl<E> Head<E> {
+    /// A new history, with nothing in it.
+    pub fn open() -> (Head<E>, Prefix<E>)
         ensures { (result.1.hub ≡ result.0) × (result.1.list ≡ []) }
     {
         let (seen, mut first, _second) = Seen::open(Start::alone(), 0, 0);
@@ -59,23 +60,31 @@ impl<O> Head<O> {
         )
     }
 
-    /// Puts an operation behind all that the prefix has, and says whether it did. It didn't where another had written the
-    /// history, which no other can.
-    pub fn announce(&self, prefix: &mut Prefix<O>, operation: &O) -> bool
+    /// Puts what `M` tells of a value behind all that the prefix has, and says whether it did. It didn't where another had
+    /// written the history, which no other can.
+    pub fn announce<X, M: Tells<X, E>>(&self, prefix: &mut Prefix<E>, about: &X) -> bool
         requires hub { prefix.old.hub ≡ self.now }
         requires room { length prefix.old.list < 2 ^ 62 }
         ensures hub { prefix.new.hub ≡ prefix.old.hub }
-        ensures list { MatchBool result (prefix.new.list ≡ prefix.old.list ++ operation.now ∷ []) (prefix.new ≡ prefix.old) }
+        ensures list { MatchBool result (prefix.new.list ≡ prefix.old.list ++ M.told about.now ∷ []) (prefix.new ≡ prefix.old) }
     {
         let mut seen = prefix.seen.again();
-        let mut offer: Offer<O, u64, CountsAnnounced, NoGain> = seen.plain::<NoGain, O, Announce>(
-            operation,
-        );
+        let mut offer: Offer<E, u64, CountsAnnounced, NoGain> = seen.plain::<
+            NoGain,
+            X,
+            Announce<M>,
+        >(about);
         let mut pen = seen.no_pen();
         let held = prefix.held;
         let found = self
             .word
-            .compare_exchange::<Announce, NoGain>(held, held + 1, &mut seen, &mut offer, &mut pen);
+            .compare_exchange::<Announce<M>, NoGain>(
+                held,
+                held + 1,
+                &mut seen,
+                &mut offer,
+                &mut pen,
+            );
         if found == held {
             *prefix = Prefix {
                 held: held + 1,
@@ -88,8 +97,8 @@ impl<O> Head<O> {
     }
 }
 
-impl<O> Prefix<O> {
-    /// How many operations it has.
+impl<E> Prefix<E> {
+    /// How long its list is.
     pub fn len(&self) -> u64
         ensures { result ≡ length self.now.list }
     {
@@ -97,7 +106,7 @@ impl<O> Prefix<O> {
     }
 
     /// A copy, which takes no memory.
-    pub fn duplicate(&self) -> Prefix<O>
+    pub fn duplicate(&self) -> Prefix<E>
         ensures { result ≡ self.now }
     {
         Prefix {
@@ -107,7 +116,7 @@ impl<O> Prefix<O> {
     }
 
     /// Whether the other prefix of this hub begins with this one.
-    pub fn begins(&self, other: &Prefix<O>) -> bool
+    pub fn begins(&self, other: &Prefix<E>) -> bool
         requires { other.now.hub ≡ self.now.hub }
         ensures { IsTrue result ↔ IsPrefix self.now.list other.now.list }
     {
@@ -117,7 +126,7 @@ impl<O> Prefix<O> {
     }
 
     /// The longer of two prefixes of one hub, which the other begins.
-    pub fn longer(&self, other: &Prefix<O>) -> Prefix<O>
+    pub fn longer(&self, other: &Prefix<E>) -> Prefix<E>
         requires { other.now.hub ≡ self.now.hub }
         ensures one { (result ≡ self.now) ⊎ (result ≡ other.now) }
         ensures this { IsPrefix self.now.list result.list }

@@ -2,6 +2,7 @@
 ghost use Rattle.std.specs.Prelude.{◌≡◌, ◌⊎◌, MatchResult};
 ghost use mathlib.Core.List.{IsPrefix};
 ghost use Rattle.ds_hub.specs.Holding.{IsFold};
+ghost use Rattle.ds_hub.specs.Logs.{told_by};
 
 use crate::absorb::Absorb;
 use crate::note::Note;
@@ -12,34 +13,39 @@ use std::marker::Model;
 
 /// A reader of the two copies, which doesn't read.
 pub(crate) type IdleReader<O, S> = left_right::reader::Reader<
-    Version<O, S>,
+    Version<<S as Absorb<O>>::Told, S>,
     Knows<O, S>,
-    ShownIsFold,
+    ShownIsFold<O>,
 >;
 
 // A reader of the two copies, with the copy that it reads.
-type ReadingReader<O, S> = left_right::reader::Reading<Version<O, S>, Knows<O, S>, ShownIsFold>;
+type ReadingReader<O, S> = left_right::reader::Reading<
+    Version<<S as Absorb<O>>::Told, S>,
+    Knows<O, S>,
+    ShownIsFold<O>,
+>;
 
 /// A reader that is not reading. Contracts see its hub, the state with which the hub begins, and the longest list that
 /// it saw or learnt.
 #[derive(Drop)]
 pub struct Reader<O: Drop, S: Absorb<O> + Drop> {
     pub(crate) reader: IdleReader<O, S>,
-    pub(crate) prefix: Prefix<O>,
+    pub(crate) prefix: Prefix<S::Told>,
 }
 
 impl<O: Drop, S: Absorb<O> + Drop> Model for Reader<O, S> {
     ghost use Rattle.left_right.specs.Sides.{view as knows};
     ghost use Rattle.ds_hub.specs.Holding.{Following, start_of, IsOf};
 
-    ghost Value = { Following S.State O };
+    ghost Value = { Following S.State S.Told };
 
     ghost view = { λ r. record { hub = r.prefix.hub; start = start_of (knows r.reader.place); known = r.prefix.list } };
 
     ghost invariant = { λ r. IsOf r.prefix.hub (knows r.reader.place) };
 }
 
-/// A reader with the state that it reads, which stays as it is. It isn't `Drop`: end it by `leave`. Contracts see its hub,
+/// A reader with the state that it reads, which stays as it is. It isn't `Drop`: end it by `leave`, before this thread publishes
+/// in the hub, since a publish waits for the views of the copy that it changes. Contracts see its hub,
 /// the state with which the hub begins, the list of published operations that are in the state, and the state.
 pub struct View<O: Drop, S: Absorb<O> + Drop> {
     reading: ReadingReader<O, S>,
@@ -48,18 +54,18 @@ pub struct View<O: Drop, S: Absorb<O> + Drop> {
 impl<O: Drop, S: Absorb<O> + Drop> Model for View<O, S> {
     ghost use Rattle.left_right.specs.Sides.{view as knows};
     ghost use Rattle.ds_hub.specs.Holding.{Showing, start_of, IsOf};
-    ghost use Rattle.ds_hub.specs.Logs.{Fits};
+    ghost use Rattle.ds_hub.specs.Logs.{Fits, told_by};
 
-    ghost Value = { Showing S.State O S };
+    ghost Value = { Showing S.State S.Told S };
 
     ghost view = { λ v. record { hub = v.reading.part.value.prefix.hub; start = start_of (knows v.reading.place); list = v.reading.part.value.prefix.list; state = v.reading.part.value.state } };
 
-    ghost invariant = { λ v. IsOf v.reading.part.value.prefix.hub (knows v.reading.place) × Fits S.applied (S.state v.reading.part.value.state) v.reading.part.value.prefix (knows v.reading.place) };
+    ghost invariant = { λ v. IsOf v.reading.part.value.prefix.hub (knows v.reading.place) × Fits (told_by S.asks S.applied) (S.state v.reading.part.value.state) v.reading.part.value.prefix (knows v.reading.place) };
 }
 
 impl<O: Drop, S: Absorb<O> + Drop> Reader<O, S> {
     /// Takes in what the writer of this hub told, and spends the note. The next view's list begins with it.
-    pub fn learn(&mut self, note: Note<O>)
+    pub fn learn(&mut self, note: Note<S::Told>)
         requires { note.hub ≡ self.old.hub }
         ensures hub { (self.new.hub ≡ self.old.hub) × (self.new.start ≡ self.old.start) }
         ensures kept { IsPrefix self.old.known self.new.known }
@@ -71,7 +77,7 @@ impl<O: Drop, S: Absorb<O> + Drop> Reader<O, S> {
 
     /// Tells the longest list that this reader saw or learnt. It takes no memory, and no lock: a reader that learns the note is as
     /// far as this one at its next view.
-    pub fn tell(&self) -> Note<O>
+    pub fn tell(&self) -> Note<S::Told>
         ensures { (result.hub ≡ self.now.hub) × (result.list ≡ self.now.known) }
     {
         Note {
@@ -82,10 +88,10 @@ impl<O: Drop, S: Absorb<O> + Drop> Reader<O, S> {
     /// Takes the state that was published last, and waits for nobody. The list of the view begins with all that this reader
     /// saw or learnt. The reader comes back as it was where the writer has ended.
     pub fn enter(self) -> Result<View<O, S>, Reader<O, S>>
-        ensures { MatchResult result (λ view. (view.hub ≡ self.hub) × (view.start ≡ self.start) × IsPrefix self.known view.list × IsFold S.applied view.start view.list (S.state view.state)) (λ reader. reader ≡ self) }
+        ensures { MatchResult result (λ view. (view.hub ≡ self.hub) × (view.start ≡ self.start) × IsPrefix self.known view.list × IsFold (told_by S.asks S.applied) view.start view.list (S.state view.state)) (λ reader. reader ≡ self) }
     {
         let Reader { reader, prefix } = self;
-        match reader.enter_as::<Stays>() {
+        match reader.enter_as::<Stays<O>>() {
             Ok(reading) => {
                 let is_known = prefix.begins(&reading.get().prefix);
                 if is_known {
@@ -106,9 +112,18 @@ impl<O: Drop, S: Absorb<O> + Drop> View<O, S> {
     /// The state: the fold of the view's list from the state with which the hub begins.
     pub fn state(&self) -> &S
         ensures state { result.now ≡ self.now.state }
-        ensures fold { IsFold S.applied self.now.start self.now.list (S.state result.now) }
+        ensures fold { IsFold (told_by S.asks S.applied) self.now.start self.now.list (S.state result.now) }
     {
         &self.reading.get().state
+    }
+
+    /// Tells the view's list. It takes no memory, and no lock.
+    pub fn tell(&self) -> Note<S::Told>
+        ensures { (result.hub ≡ self.now.hub) × (result.list ≡ self.now.list) }
+    {
+        Note {
+            prefix: self.reading.get().prefix.duplicate(),
+        }
     }
 
     /// Gives the reader back, which has then seen the view's list.

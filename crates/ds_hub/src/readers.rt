@@ -1,10 +1,12 @@
 //! A list of readers.
-ghost use Rattle.std.specs.Prelude.{◌≡◌, ◌∷◌, ◌++◌, [], None, length, slice_get, option_copied, MatchOption, MatchResult};
+ghost use Rattle.std.specs.Prelude.{◌≡◌, ◌∷◌, ◌++◌, ◌<◌, [], None, Some, length, slice_get, slice_set, option_copied, MatchOption};
+ghost use Rattle.std.specs.Prelude.{MatchResult};
 
 use crate::absorb::Absorb;
 use crate::reader::Reader;
 use std::alloc::Global;
 use std::marker::Model;
+use std::mem;
 
 /// A list of readers. Contracts see what they see of each reader.
 #[derive(Drop)]
@@ -16,7 +18,7 @@ impl<O: Drop, S: Absorb<O> + Drop> Model for Readers<O, S> {
     ghost use Rattle.std.specs.Prelude.{List};
     ghost use Rattle.ds_hub.specs.Holding.{Following};
 
-    ghost Value = { List (Following S.State O) };
+    ghost Value = { List (Following S.State S.Told) };
 
     ghost view = { λ r. r.items.items };
 }
@@ -29,6 +31,22 @@ impl<O: Drop, S: Absorb<O> + Drop> Readers<O, S> {
         Readers {
             items: Vec::new(alloc),
         }
+    }
+
+    /// The list as a vector.
+    pub fn into_vec(self) -> Vec<Reader<O, S>>
+        ensures { result.items ≡ self }
+    {
+        self.items
+    }
+
+    /// Puts a reader in the place of that at `i`, which it gives.
+    pub fn replace(&mut self, i: usize, item: Reader<O, S>) -> Reader<O, S>
+        requires { i < length self.old }
+        ensures given { Some result ≡ slice_get self.old i }
+        ensures replaced { self.new ≡ slice_set self.old i item }
+    {
+        mem::replace(&mut self.items[i], item)
     }
 
     /// How many readers there are.
@@ -60,5 +78,14 @@ impl<O: Drop, S: Absorb<O> + Drop> Readers<O, S> {
         ensures { MatchOption result ((self.old ≡ []) × (self.new ≡ [])) (λ last. self.old ≡ self.new ++ last ∷ []) }
     {
         self.items.pop()
+    }
+}
+
+impl<O: Drop, S: Absorb<O> + Drop> From<Vec<Reader<O, S>>> for Readers<O, S> {
+    /// The list of a vector's readers. It takes no memory.
+    fn from(items: Vec<Reader<O, S>>) -> Self
+        ensures { result ≡ items.items }
+    {
+        Readers { items }
     }
 }

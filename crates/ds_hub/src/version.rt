@@ -3,24 +3,24 @@ use crate::absorb::Absorb;
 use crate::prefix::Prefix;
 use std::alloc::AllocError;
 
-/// One of the two copies: its state has the operations of the prefix.
+/// One of the two copies: its state has the operations that the prefix's list stands for.
 #[derive(Drop)]
-pub struct Version<O, S: Drop> {
+pub struct Version<E, S: Drop> {
     pub state: S,
-    pub prefix: Prefix<O>,
+    pub prefix: Prefix<E>,
 }
 
 /// What a copy takes in: an operation, with the mark that says which operations are in the state after it.
 #[derive(Drop)]
-pub struct Logged<O: Drop> {
+pub struct Logged<O: Drop, E> {
     pub operation: O,
-    pub mark: Prefix<O>,
+    pub mark: Prefix<E>,
 }
 
-impl<O: Drop, S: Absorb<O> + Drop> left_right::Absorb<Logged<O>> for Version<O, S> {
+impl<O: Drop, S: Absorb<O> + Drop> left_right::Absorb<Logged<O, S::Told>> for Version<S::Told, S> {
     ghost use Rattle.ds_hub.specs.Logs.{taken_in};
 
-    type State = (S::State, Prefix<O>);
+    type State = (S::State, Prefix<S::Told>);
 
     ghost state = { λ v. (S.state v.state, v.prefix) };
 
@@ -30,8 +30,8 @@ impl<O: Drop, S: Absorb<O> + Drop> left_right::Absorb<Logged<O>> for Version<O, 
 
     fn absorb_first(
         &mut self,
-        logged: &Logged<O>,
-        _other: &Version<O, S>,
+        logged: &Logged<O, S::Told>,
+        _other: &Version<S::Told, S>,
     ) -> Result<(), AllocError> {
         self.state.absorb(&logged.operation)?;
         self.prefix = logged.mark.duplicate();
@@ -40,9 +40,9 @@ impl<O: Drop, S: Absorb<O> + Drop> left_right::Absorb<Logged<O>> for Version<O, 
 
     fn absorb_second(
         &mut self,
-        logged: Logged<O>,
-        _other: &Version<O, S>,
-    ) -> Result<(), Logged<O>> {
+        logged: Logged<O, S::Told>,
+        _other: &Version<S::Told, S>,
+    ) -> Result<(), Logged<O, S::Told>> {
         let Logged { operation, mark } = logged;
         match self.state.absorb_second(operation) {
             Ok(()) => {

@@ -1,5 +1,5 @@
 //! A hub's writer.
-ghost use Rattle.std.specs.Prelude.{◌≡◌, ◌+◌, ◌<◌, ◌^◌, ◌∷◌, ◌++◌, ◌↔◌, IsTrue, IsOk, [], length, MatchResult};
+ghost use Rattle.std.specs.Prelude.{◌≡◌, ◌+◌, ◌<◌, ◌^◌, ◌∷◌, ◌++◌, ◌↔◌, IsTrue, false, is_some, IsOk, [], length, MatchResult};
 ghost use mathlib.Core.List.{IsPrefix};
 ghost use Rattle.ds_hub.specs.Logs.{queued};
 
@@ -10,38 +10,53 @@ use crate::note::Note;
 use crate::prefix::{Head, Prefix};
 use crate::reader::Reader;
 use crate::rule::{Knows, ShownIsFold, Stays};
+use crate::tells::{InSnapshot, Itself, Tells};
 use crate::version::{Logged, Version};
+use std::alloc::AllocError;
 use std::marker::Model;
+use std::snapshot::Snapshot;
 use std::sync::Wait;
 use std::thread;
 
 /// The copies of a hub, under its rule.
-pub type Ruled<O, S> = Copies<O, Version<O, S>, Knows<O, S>, ShownIsFold>;
+pub type Ruled<O, S> = Copies<
+    Logged<O, <S as Absorb<O>>::Told>,
+    Version<<S as Absorb<O>>::Told, S>,
+    Knows<O, S>,
+    ShownIsFold<O>,
+>;
 
 /// The one writer of a hub. It isn't `Drop`: end it by `end`. Contracts see its hub, the state with which the hub begins, the
-/// list of operations that are published, which is that of the copy that readers are shown, and the list of those that are
-/// pending.
+/// published list, which is that of the copy that readers are shown, the list of what is pending, and whether the last operation
+/// of that is kept aside.
 pub struct Writer<O: Drop, S: Absorb<O> + Drop> {
-    pub(crate) copies: Copies<O, Version<O, S>, Knows<O, S>, ShownIsFold>,
-    pub(crate) head: Head<O>,
-    /// What the history has: the published operations and the pending ones.
-    pub(crate) announced: Prefix<O>,
+    pub(crate) copies: Copies<Logged<O, S::Told>, Version<S::Told, S>, Knows<O, S>, ShownIsFold<O>>,
+    pub(crate) head: Head<S::Told>,
+    /// What the history has: the published list and what is pending.
+    pub(crate) announced: Prefix<S::Told>,
     /// The last pending operation, where it was announced and the copies then had no memory for it.
-    pub(crate) parked: Option<Logged<O>>,
+    pub(crate) parked: Option<Logged<O, S::Told>>,
     /// How many operations are pending.
     pub(crate) waiting: u64,
 }
 
 impl<O: Drop, S: Absorb<O> + Drop> Model for Writer<O, S> {
+    ghost use Rattle.std.specs.Prelude.{is_some};
     ghost use Rattle.ds_hub.specs.Holding.{Publishing, start_of};
-    ghost use Rattle.ds_hub.specs.Logs.{operations, queued};
-    ghost use Rattle.ds_hub.specs.Running.{IsRunning};
+    ghost use Rattle.ds_hub.specs.Logs.{queued};
+    ghost use Rattle.ds_hub.specs.Running.{IsRunning, unseen};
 
-    ghost Value = { Publishing S.State O };
+    ghost Value = { Publishing S.State S.Told };
 
-    ghost view = { λ w. record { hub = w.head; start = start_of w.copies.knows; published = w.copies.shown.prefix.list; pending = operations (queued w.copies.log w.parked) } };
+    ghost view = { λ w. record {
+      hub = w.head;
+      start = start_of w.copies.knows;
+      published = w.copies.shown.prefix.list;
+      pending = unseen w.copies.shown.prefix w.announced;
+      is_parked = is_some w.parked;
+    } };
 
-    ghost invariant = { λ w. IsRunning S.applied w.head w.copies.knows (S.state w.copies.shown.state) w.copies.shown.prefix (queued w.copies.log w.parked) w.announced w.waiting };
+    ghost invariant = { λ w. IsRunning S.asks S.applied w.head w.copies.knows (S.state w.copies.shown.state) w.copies.shown.prefix (queued w.copies.log w.parked) w.announced w.waiting };
 }
 
 impl<O: Drop, S: Absorb<O> + Drop> Writer<O, S> {
@@ -59,14 +74,22 @@ impl<O: Drop, S: Absorb<O> + Drop> Writer<O, S> {
         self.waiting
     }
 
-    /// Adds an operation to the pending ones. `Err` hands it back for want of memory, and changes nothing.
-    pub fn add(&mut self, op: O) -> Result<(), O>
-        requires { length self.old.published + length self.old.pending < 2 ^ 62 }
-        ensures { MatchResult result (λ _. self.new ≡ record self.old { pending = self.old.pending ++ op ∷ [] }) (λ back. (back ≡ op) × (self.new ≡ self.old)) }
+    /// Whether the last pending operation is kept aside: it was announced, and then the copies had no memory for it.
+    pub fn is_parked(&self) -> bool
+        ensures { result ≡ self.now.is_parked }
     {
-        let parked = self.parked.take();
-        self.parked = let_in(&mut self.copies, parked);
-        if self.parked.is_some() || !self.head.announce(&mut self.announced, &op) {
+        self.parked.is_some()
+    }
+
+    /// Adds an operation to the pending ones, of which it tells what `M` says of `about`, which stands for the operation. `Err`
+    /// hands it back for want of memory, which an operation that is kept aside counts as, and changes nothing. After an Ok
+    /// `is_parked` says whether `publish` still wants memory.
+    pub fn add_as<X, M: Tells<X, S::Told>>(&mut self, op: O, about: &X) -> Result<(), O>
+        requires room { length self.old.published + length self.old.pending < 2 ^ 62 }
+        requires asks { S.asks (M.told about.now) ≡ op }
+        ensures { MatchResult result (λ _. self.new ≡ record self.old { pending = self.old.pending ++ M.told about.now ∷ []; is_parked = self.new.is_parked }) (λ back. (back ≡ op) × (self.new ≡ self.old)) }
+    {
+        if self.parked.is_some() || !self.head.announce::<X, M>(&mut self.announced, about) {
             return Err(op);
         }
         let logged = Logged {
@@ -78,20 +101,42 @@ impl<O: Drop, S: Absorb<O> + Drop> Writer<O, S> {
         Ok(())
     }
 
-    /// Publishes the pending operations, all at once. It waits for the readers that still read the copy from before the last
-    /// call. It asks for no memory of its own but in one case, in which it waits until there is some: where there was none for
-    /// the last operation after it had been announced, so that `add` had to keep it aside. `Err` is want of memory where a copy
-    /// takes in an operation, and changes neither list.
-    pub fn publish<Rt: Wait>(&mut self, rt: &Rt) -> Result<(), NoMemory>
-        ensures succeeds { S.never_fails → IsOk result }
-        ensures lists { MatchResult result (λ _. self.new ≡ record self.old { published = self.old.published ++ self.old.pending; pending = [] }) (λ _. self.new ≡ self.old) }
+    /// Adds an operation to the pending ones, and tells by reference what stands for it, which is copied nowhere: else as `add`.
+    pub fn add_told(&mut self, op: O, told: &S::Told) -> Result<(), O>
+        requires room { length self.old.published + length self.old.pending < 2 ^ 62 }
+        requires asks { S.asks told.now ≡ op }
+        ensures { MatchResult result (λ _. self.new ≡ record self.old { pending = self.old.pending ++ told.now ∷ []; is_parked = self.new.is_parked }) (λ back. (back ≡ op) × (self.new ≡ self.old)) }
     {
-        if self.waiting == 0 {
+        self.add_as::<S::Told, Itself>(op, told)
+    }
+
+    /// Takes in the operation that is kept aside, if there is one: it waits until there is memory for it.
+    pub fn take_in_parked<Rt: Wait>(&mut self, rt: &Rt)
+        ensures { self.new ≡ record self.old { is_parked = false } }
+    {
+        let parked = self.parked.take();
+        wait_in(rt, &mut self.copies, parked);
+    }
+
+    /// Publishes what is pending, all at once. It waits for the readers that still read the copy from before the last call, and
+    /// never for memory. `Err` is want of memory where a copy takes in an operation, or for an operation that is kept aside; it
+    /// changes neither list.
+    ///
+    /// A thread that holds a view of this hub and publishes in it waits for itself, at the second publish at the latest: it
+    /// leaves its views before.
+    pub fn publish<Rt: Wait>(&mut self, rt: &Rt) -> Result<(), NoMemory>
+        ensures succeeds { S.never_fails → self.old.is_parked ≡ false → IsOk result }
+        ensures lists { MatchResult result (λ _. self.new ≡ record self.old { published = self.old.published ++ self.old.pending; pending = []; is_parked = false }) (λ _. self.new ≡ record self.old { is_parked = self.new.is_parked }) }
+    {
+        if self.parked.is_none() && self.waiting == 0 {
             return Ok(());
         }
         let parked = self.parked.take();
-        wait_in(rt, &mut self.copies, parked);
-        match self.copies.publish_as::<Stays, Rt>(rt) {
+        self.parked = let_in(&mut self.copies, parked);
+        if self.parked.is_some() {
+            return Err(AllocError);
+        }
+        match self.copies.publish_as::<Stays<O>, Rt>(rt) {
             Ok(()) => {
                 self.waiting = 0;
                 Ok(())
@@ -101,7 +146,7 @@ impl<O: Drop, S: Absorb<O> + Drop> Writer<O, S> {
     }
 
     /// Tells what is published. A reader that learns it enters no earlier list.
-    pub fn tell(&mut self) -> Note<O>
+    pub fn tell(&mut self) -> Note<S::Told>
         ensures same { self.new ≡ self.old }
         ensures note { (result.hub ≡ self.old.hub) × (result.list ≡ self.old.published) }
     {
@@ -148,12 +193,27 @@ impl<O: Drop, S: Absorb<O> + Drop> Writer<O, S> {
     }
 }
 
+impl<O: Drop, S: Absorb<O, Told = O> + Drop> Writer<O, S> {
+    /// Adds an operation to the pending ones, in a hub that tells its operations themselves. `Err` hands it back for want of
+    /// memory, which an operation that is kept aside counts as, and changes nothing. After an Ok `is_parked` says whether
+    /// `publish` still wants memory.
+    pub fn add(&mut self, op: O) -> Result<(), O>
+        requires room { length self.old.published + length self.old.pending < 2 ^ 62 }
+        requires asks { S.asks op ≡ op }
+        ensures { MatchResult result (λ _. self.new ≡ record self.old { pending = self.old.pending ++ op ∷ []; is_parked = self.new.is_parked }) (λ back. (back ≡ op) × (self.new ≡ self.old)) }
+    {
+        let about = Snapshot::of(&op);
+        self.add_as::<Snapshot<O>, InSnapshot>(op, &about)
+    }
+}
+
 // Gives the copies an operation, if there is one. It comes back where there is no memory.
 fn let_in<O: Drop, S: Absorb<O> + Drop>(
     copies: &mut Ruled<O, S>,
-    parked: Option<Logged<O>>,
-) -> Option<Logged<O>>
+    parked: Option<Logged<O, S::Told>>,
+) -> Option<Logged<O, S::Told>>
     ensures queued { queued copies.new.log result ≡ queued copies.old.log parked }
+    ensures nothing { is_some parked ≡ false → is_some result ≡ false }
     ensures same { (copies.new.seat ≡ copies.old.seat) × (copies.new.knows ≡ copies.old.knows) × (copies.new.shown ≡ copies.old.shown) }
 {
     match parked {
@@ -166,7 +226,7 @@ fn let_in<O: Drop, S: Absorb<O> + Drop>(
 fn wait_in<O: Drop, S: Absorb<O> + Drop, R: Wait>(
     rt: &R,
     copies: &mut Ruled<O, S>,
-    parked: Option<Logged<O>>,
+    parked: Option<Logged<O, S::Told>>,
 )
     ensures { copies.new ≡ record copies.old { log = queued copies.old.log parked } }
 {

@@ -186,9 +186,13 @@ impl Absorb<u64> for Lent {
 
     type State = u64;
 
+    type Told = u64;
+
     ghost state = { λ s. s.sum };
 
     ghost applied = { λ total x. (total + x) % 2 ^ 64 };
+
+    ghost asks = { λ told. told };
 
     fn absorb(&mut self, operation: &u64) -> Result<(), NoMemory> {
         self.sum = self.sum.wrapping_add(*operation);

@@ -10,9 +10,13 @@ impl Absorb<u64> for Sum {
 
     type State = u64;
 
+    type Told = u64;
+
     ghost state = { λ s. s.0 };
 
     ghost applied = { λ total x. (total + x) % 2 ^ 64 };
+
+    ghost asks = { λ told. told };
 
     ghost never_fails = { Unit {0} };
 
