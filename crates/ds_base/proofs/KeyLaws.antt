@@ -9,7 +9,8 @@ use Rattle.ds_base.specs.declared.key.Ident.{Ident}
 use Rattle.ds_base.specs.declared.key.Ident.TheVariants.{Id, Name}
 use Rattle.ds_base.specs.declared.key.Elem.{Elem}
 use Rattle.ds_base.specs.Limits.{greatest_id, most_elements}
-use Rattle.ds_base.specs.Keys.{KeyParts, is_key, is_path, is_namespace, is_elem, is_ident, is_name, is_reserved_elem, is_writable, ends_in_id, with_last_id, renumbered}
+use Rattle.ds_base.specs.Keys.{KeyParts, is_key, is_path, is_namespace, is_elem, is_ident, is_name, is_reserved_elem, is_writable}
+use Rattle.ds_base.specs.Keys.{ends_in_id, with_last_id, renumbered}
 use Rattle.ds_base.specs.Entities.{elem_size, entity_size, entity_refusal, IsEntity, property_size, refusal_by, is_faulty_property}
 use Rattle.ds_base.specs.declared.entity.Property.{Property}
 

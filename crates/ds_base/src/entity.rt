@@ -1,5 +1,5 @@
 //! Entities: a key and named properties, within the Datastore's limits.
-ghost use Rattle.std.specs.Prelude.{◌≡◌, ◌<◌, ◌^◌, ◌⊎◌, IsTrue, IfOk, Some, None, length, min};
+ghost use Rattle.std.specs.Prelude.{◌≡◌, ◌<◌, ◌^◌, IsTrue, IfOk, length, min};
 
 use crate::entity_rules::{first_faulty, size_of};
 use crate::key::Key;
@@ -69,6 +69,7 @@ impl Entity {
     ghost use Rattle.ds_base.specs.Keys.{renumbered, ends_in_id};
     ghost use Rattle.ds_base.specs.Limits.{greatest_id};
     ghost use Rattle.ds_base.specs.Entities.{EntityParts, IsEntity, entity_refusal, names_ascend};
+    ghost use Rattle.ds_base.specs.Memory.{IsDueOrNoMemory};
 
     /// The entity of this key and these properties, whose names strictly ascend by bytes. The refusals, of which the first
     /// that holds is answered, are those of `EntityRefused`. It takes one pass over the entity, and memory for what its
@@ -77,8 +78,7 @@ impl Entity {
         requires ascending { IsTrue (names_ascend properties) }
         requires few { length properties < 2 ^ 32 }
         ensures ok { IfOk result (λ e. e ≡ record { key = key; properties = properties }) }
-        ensures refused { (result_err result ≡ entity_refusal key properties)
-            ⊎ ((result_err result ≡ Some EntityRefused.NoMemory) × (entity_refusal key properties ≡ None)) }
+        ensures refused { IsDueOrNoMemory EntityRefused.NoMemory (entity_refusal key properties) (result_err result) }
     {
         if !key.writable() {
             return Err(EntityRefused::BadKey);

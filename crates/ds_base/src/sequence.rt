@@ -13,6 +13,22 @@ pub trait TryCopy: Drop {
         ensures copied { IfOk result (λ c. c ≡ self.now) };
 }
 
+impl<T: TryCopy> TryCopy for Option<T> {
+    fn copy(&self, alloc: Global) -> Result<Self, AllocError> {
+        copy_of(alloc, self.as_ref())
+    }
+}
+
+/// A copy of what is lent, if there is something.
+pub fn copy_of<T: TryCopy>(alloc: Global, item: Option<&T>) -> Result<Option<T>, AllocError>
+    ensures { IfOk result (λ c. c ≡ option_copied item.entry) }
+{
+    match item {
+        Some(item) => Ok(Some(item.copy(alloc)?)),
+        None => Ok(None),
+    }
+}
+
 /// A list in the order in which its items were pushed.
 #[derive(Drop)]
 pub struct Sequence<T> {

@@ -6,7 +6,8 @@ use Rattle.ds_base.specs.declared.key.Ident.TheVariants.{Id, Name}
 use Rattle.ds_base.specs.declared.index_value.IndexValue.{IndexValue}
 use Rattle.ds_base.specs.declared.index_value.IndexValue.TheVariants as class
 use Rattle.ds_bytes.specs.Encoding.{escaped, eight_bytes, raised, ident_bytes, key_bytes, value_bytes}
-use Rattle.ds_bytes.specs.Lawful.{AreBytes, IsText, IsLawfulIdent, IsLawfulKey, IsLawfulValue}
+use Rattle.ds_bytes.specs.Lawful.{IsText, IsLawfulIdent, IsLawfulKey, IsLawfulValue}
+use Rattle.ds_base.specs.Bytes.{AreBytes}
 use Rattle.ds_bytes.specs.Reading.{NoneBegins}
 
 -- ---- identifiers

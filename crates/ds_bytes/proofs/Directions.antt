@@ -2,7 +2,7 @@
 use Rattle.std.proofs.Common.{◌≡◌, ℕ, ◌-◌, ◌<◌, Bool, true, false, List, [], ◌∷◌, ◌++◌, drop, sym, ap, ◌∙◌, arith, refl}
 use Rattle.std.proofs.lemmas.List.Elements.{All-head, All-tail}
 use Rattle.ds_bytes.specs.Encoding.{directed}
-use Rattle.ds_bytes.specs.Lawful.{AreBytes}
+use Rattle.ds_base.specs.Bytes.{AreBytes}
 use Rattle.ds_bytes.specs.Reading.{Begins, NoneBegins}
 use Rattle.ds_bytes.proofs.Putting.{directed-append, length-directed}
 use Rattle.ds_bytes.proofs.Readings.{directed-drop}

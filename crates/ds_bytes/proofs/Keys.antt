@@ -9,7 +9,7 @@ use Rattle.std.proofs.lemmas.List.Elements.{All-nil}
 use Rattle.ds_base.specs.Keys.{KeyParts, is_key}
 use Rattle.ds_bytes.specs.Encoding.{escaped, path_bytes, namespace_bytes, key_bytes}
 use Rattle.ds_bytes.specs.Lawful.{IsText, IsLawfulElem, IsLawfulKey, IsDefaultKey, IsNamedKey}
-use Rattle.ds_bytes.specs.Reading.{NoneBegins, Found, Reads, IsKeyOf}
+use Rattle.ds_bytes.specs.Reading.{NoneBegins, Found, ReadsFront, IsKeyOf}
 use Rattle.ds_bytes.specs.AncestorLaws.{escaped-reads_once}
 use Rattle.ds_bytes.proofs.Readings.{begins_from}
 use Rattle.ds_bytes.proofs.Elements.{path_bytes-reads_once}
@@ -136,9 +136,9 @@ not_empty s t is test empty = apart (test ∙ ap (λ (xs : List ℕ). length xs 
   apart e = cc
 
 -- what a reader of keys outside the default namespace found, as a reader of keys
-pub named_reads : {E : Type 0} (bytes whole : List ℕ) (r : Result (Option (KeyParts × ℕ)) E) → whole ≡ 0x03 ∷ bytes → Reads IsNamedKey key_bytes (0x03 ∷ bytes) r → Reads IsLawfulKey key_bytes whole r
-named_reads {E = E} bytes whole r is reads = subst (λ bs. Reads {E = E} IsLawfulKey key_bytes bs r) (sym is) (by r reads) where
-  by : (r : Result (Option (KeyParts × ℕ)) E) → Reads IsNamedKey key_bytes (0x03 ∷ bytes) r → Reads IsLawfulKey key_bytes (0x03 ∷ bytes) r
+pub named_reads : {E : Type 0} (bytes whole : List ℕ) (r : Result (Option (KeyParts × ℕ)) E) → whole ≡ 0x03 ∷ bytes → ReadsFront IsNamedKey key_bytes (0x03 ∷ bytes) r → ReadsFront IsLawfulKey key_bytes whole r
+named_reads {E = E} bytes whole r is reads = subst (λ bs. ReadsFront {E = E} IsLawfulKey key_bytes bs r) (sym is) (by r reads) where
+  by : (r : Result (Option (KeyParts × ℕ)) E) → ReadsFront IsNamedKey key_bytes (0x03 ∷ bytes) r → ReadsFront IsLawfulKey key_bytes (0x03 ∷ bytes) r
   by (Ok None) none = no_key_named bytes none
   by (Ok (Some x)) found = record { begins = found.begins; lawful = found.lawful.lawful }
   by (Err e) reads = tt

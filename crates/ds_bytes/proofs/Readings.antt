@@ -5,7 +5,7 @@ use Rattle.std.proofs.Common.{get_or}
 use Rattle.std.specs.Prelude.{Option, MatchOption}
 use Rattle.std.proofs.lemmas.List.{drop-map, get_or_default, get_or-map, length-map}
 use Rattle.std.proofs.lemmas.Option.{slice_get_within}
-use Rattle.ds_bytes.specs.Lawful.{AreBytes}
+use Rattle.ds_base.specs.Bytes.{AreBytes}
 use Rattle.ds_bytes.proofs.Putting.{length-directed}
 use Rattle.std.proofs.lemmas.List.Prefix.{front_rest}
 use Rattle.ds_bytes.specs.Encoding.{directed}

@@ -8,7 +8,7 @@ use Rattle.std.proofs.lemmas.List.Elements.{All-nil, All-cons, All-head, All-tai
 use Rattle.std.proofs.Math.Seq.{take-append-add, take-length}
 use Rattle.ds_lanes.specs.Kernels.{first_zero, complement}
 use Rattle.ds_bytes.specs.Encoding.{escaped_byte, escaped}
-use Rattle.ds_bytes.specs.Lawful.{AreBytes}
+use Rattle.ds_base.specs.Bytes.{AreBytes}
 use Rattle.ds_bytes.specs.Reading.{NoneBegins, Found}
 use Rattle.ds_bytes.proofs.Escapes.{first_zero-suc, flat-run, zero_pair, behind_zero, text_begins}
 use Rattle.ds_bytes.proofs.Readings.{begins_from}

@@ -11,7 +11,8 @@ use Rattle.ds_base.specs.declared.index_value.IndexValue.TheVariants as class
 use Rattle.ds_base.specs.Keys.{KeyParts}
 use Rattle.ds_bytes.specs.Encoding.{escaped_byte, escaped, eight_bytes, raised, ident_bytes, elem_bytes, path_bytes, namespace_bytes}
 use Rattle.ds_bytes.specs.Encoding.{key_bytes, value_bytes}
-use Rattle.ds_bytes.specs.Lawful.{AreBytes, IsIdentOfBytes, IsElemOfBytes, IsKeyOfBytes, IsValueOfBytes}
+use Rattle.ds_bytes.specs.Lawful.{IsIdentOfBytes, IsElemOfBytes, IsKeyOfBytes, IsValueOfBytes}
+use Rattle.ds_base.specs.Bytes.{AreBytes}
 
 one : (b : ℕ) (bs : List ℕ) → b < 256 → AreBytes bs → AreBytes (b ∷ bs)
 one b bs p q = All-cons (λ b. b < 256) b bs p q

@@ -1,6 +1,7 @@
 -- Which keys and values there are: what the types of the code keep, in the words of the definitions.
 use Rattle.std.specs.Prelude.{◌≡◌, ◌≢◌, ℕ, ◌<◌, ◌^◌, List, [], All, IsTrue, IsUtf8, FitsSigned}
 use Rattle.std.specs.Int.{w64}
+use Rattle.ds_base.specs.Bytes.{AreBytes}
 use Rattle.ds_base.specs.declared.key.Ident.{Ident}
 use Rattle.ds_base.specs.declared.key.Ident.TheVariants.{Id, Name}
 use Rattle.ds_base.specs.declared.key.Elem.{Elem}
@@ -9,9 +10,6 @@ use Rattle.ds_base.specs.declared.index_value.IndexValue.TheVariants as class
 use Rattle.ds_base.specs.Keys.{KeyParts, is_key}
 
 -- ---- what has an encoding: bytes, and numbers of 64 bits
-
-abbrev pub AreBytes : List ℕ → Type 0
-AreBytes = All (λ b. b < 256)
 
 abbrev pub IsIdentOfBytes : Ident → Type 0
 IsIdentOfBytes (Id n) = n < 2 ^ 64

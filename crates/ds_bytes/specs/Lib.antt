@@ -5,6 +5,7 @@ pub mod Encoding
 pub mod EncodingLaws
 pub mod Lawful
 pub mod LawfulLaws
+pub mod Laws
 pub mod NumberLaws
 pub mod Ordered
 pub mod OrderedLaws

@@ -11,6 +11,7 @@ use Rattle.std.specs.Cmp.Lexicographic.{slice_cmp, nat_list_cmp_total}
 use Rattle.std.specs.FinMap.{IsAntisymmetric}
 use Rattle.ds_base.specs.KeyOrder.{bytes_cmp}
 use Rattle.ds_base.specs.KeyOrderLaws.{bytes_cmp-same}
+use Rattle.ds_base.specs.OrderLaws.{then-Equal}
 use Rattle.ds_bytes.specs.Ordered.{IsOrderedBy}
 
 -- ---- comparisons one after another
@@ -19,11 +20,6 @@ pub then-assoc : (p q r : Ordering) → ordering_then (ordering_then p q) r ≡ 
 then-assoc Less q r = refl
 then-assoc Equal q r = refl
 then-assoc Greater q r = refl
-
-then-Equal : (r : Ordering) → ordering_then r Equal ≡ r
-then-Equal Less = refl
-then-Equal Equal = refl
-then-Equal Greater = refl
 
 -- two comparisons answer Equal only where both do
 both_Equal : (r s : Ordering) → ordering_then r s ≡ Equal → (r ≡ Equal) × (s ≡ Equal)

@@ -18,8 +18,8 @@ pub record Found {A : Type 0} (Lawful : A → Type 0) (written : A → List ℕ)
   pub lawful : Lawful value
 
 -- A reader gives the value that stands at the front and how many bytes it takes, and none exactly where no value does.
-abbrev pub Reads : {A E : Type 0} → (A → Type 0) → (A → List ℕ) → List ℕ → Result (Option (A × ℕ)) E → Type 0
-Reads Lawful written bytes r = IfOk r (λ found. MatchOption found (NoneBegins Lawful written bytes)
+abbrev pub ReadsFront : {A E : Type 0} → (A → Type 0) → (A → List ℕ) → List ℕ → Result (Option (A × ℕ)) E → Type 0
+ReadsFront Lawful written bytes r = IfOk r (λ found. MatchOption found (NoneBegins Lawful written bytes)
     (λ x. Found Lawful written bytes x.0 x.1))
 
 -- a namespace and a path that make this key

@@ -1,8 +1,9 @@
 //! Keys and values, read from the front of bytes.
 ghost use Rattle.std.specs.Prelude.{◌≡◌, ℕ, List, ◌∷◌, ◌++◌, All, IsTrue, MatchOption, IfOk, IfSome, IfNone};
-ghost use Rattle.ds_bytes.specs.Encoding.{directed, encoding, key_encoding, raised, ident_bytes, elem_rest, key_bytes, namespace_bytes, path_bytes, value_bytes};
+ghost use Rattle.ds_bytes.specs.Encoding.{directed, encoding, key_encoding, raised, ident_bytes, elem_rest, key_bytes, namespace_bytes};
+ghost use Rattle.ds_bytes.specs.Encoding.{path_bytes, value_bytes};
 ghost use Rattle.ds_bytes.specs.Lawful.{IsText, IsLawfulIdent, IsLawfulElem, IsLawfulKey, IsDefaultKey, IsNamedKey, IsLawfulValue};
-ghost use Rattle.ds_bytes.specs.Reading.{Begins, NoneBegins, Found, Reads, IsKeyOf};
+ghost use Rattle.ds_bytes.specs.Reading.{Begins, NoneBegins, Found, ReadsFront, IsKeyOf};
 ghost use Rattle.ds_base.specs.Keys.{is_key};
 
 use crate::input::{behind, byte_at, read_bytes, read_number, read_text};
@@ -58,7 +59,7 @@ fn read_value(
     bytes: &[u8],
     descending: bool,
 ) -> Result<Option<(IndexValue, usize)>, NoMemory>
-    ensures { Reads IsLawfulValue value_bytes (directed descending bytes.now) result }
+    ensures { ReadsFront IsLawfulValue value_bytes (directed descending bytes.now) result }
 {
     let class = match byte_at(bytes, 0, descending) {
         None => return Ok(None),
@@ -82,7 +83,7 @@ fn read_value(
 
 /// The number whose bytes stand behind its class.
 fn read_signed(rest: &[u8], descending: bool) -> Result<Option<(IndexValue, usize)>, NoMemory>
-    ensures { Reads IsLawfulValue value_bytes (NUMBER ∷ directed descending rest.now) result }
+    ensures { ReadsFront IsLawfulValue value_bytes (NUMBER ∷ directed descending rest.now) result }
 {
     match read_number(rest, descending) {
         None => Ok(None),
@@ -99,7 +100,7 @@ fn lowered(number: u64) -> i64
 
 /// The truth value whose byte stands behind its class.
 fn read_truth(rest: &[u8], descending: bool) -> Result<Option<(IndexValue, usize)>, NoMemory>
-    ensures { Reads IsLawfulValue value_bytes (TRUTH ∷ directed descending rest.now) result }
+    ensures { ReadsFront IsLawfulValue value_bytes (TRUTH ∷ directed descending rest.now) result }
 {
     match byte_at(rest, 0, descending) {
         Some(0x00) => Ok(Some((IndexValue::Bool(false), 2))),
@@ -114,7 +115,7 @@ fn read_sequence(
     rest: &[u8],
     descending: bool,
 ) -> Result<Option<(IndexValue, usize)>, NoMemory>
-    ensures { Reads IsLawfulValue value_bytes (SEQUENCE ∷ directed descending rest.now) result }
+    ensures { ReadsFront IsLawfulValue value_bytes (SEQUENCE ∷ directed descending rest.now) result }
 {
     match read_bytes(alloc, rest, descending)? {
         None => Ok(None),
@@ -128,7 +129,7 @@ fn read_key_value(
     rest: &[u8],
     descending: bool,
 ) -> Result<Option<(IndexValue, usize)>, NoMemory>
-    ensures { Reads IsLawfulValue value_bytes (KEY ∷ directed descending rest.now) result }
+    ensures { ReadsFront IsLawfulValue value_bytes (KEY ∷ directed descending rest.now) result }
 {
     match read_key(alloc, rest, descending)? {
         None => Ok(None),
@@ -138,7 +139,7 @@ fn read_key_value(
 
 /// A namespace and a path that make a key.
 fn read_key(alloc: Global, bytes: &[u8], descending: bool) -> Result<Option<(Key, usize)>, NoMemory>
-    ensures { Reads IsLawfulKey key_bytes (directed descending bytes.now) result }
+    ensures { ReadsFront IsLawfulKey key_bytes (directed descending bytes.now) result }
 {
     let first = match byte_at(bytes, 0, descending) {
         None => return Ok(None),
@@ -157,7 +158,7 @@ fn read_default_key(
     bytes: &[u8],
     descending: bool,
 ) -> Result<Option<(Key, usize)>, NoMemory>
-    ensures { Reads IsDefaultKey key_bytes (directed descending bytes.now) result }
+    ensures { ReadsFront IsDefaultKey key_bytes (directed descending bytes.now) result }
 {
     match read_path(alloc, bytes, descending)? {
         None => Ok(None),
@@ -171,7 +172,7 @@ fn read_named_key(
     rest: &[u8],
     descending: bool,
 ) -> Result<Option<(Key, usize)>, NoMemory>
-    ensures { Reads IsNamedKey key_bytes (NAMESPACE ∷ directed descending rest.now) result }
+    ensures { ReadsFront IsNamedKey key_bytes (NAMESPACE ∷ directed descending rest.now) result }
 {
     match read_text(alloc, rest, descending)? {
         None => Ok(None),
@@ -189,7 +190,8 @@ fn read_named_key(
 
 /// The key of these parts, which take so many bytes; none where they break a rule of keys.
 fn key_of(namespace: TextString, path: Elems, taken: usize) -> Option<(Key, usize)>
-    ensures { MatchOption result (IsTrue (is_key (record { namespace = namespace; elems = path })) → ⊥) (λ x. IsKeyOf namespace path x.0 × (x.1 ≡ taken)) }
+    ensures { MatchOption result (IsTrue (is_key (record { namespace = namespace; elems = path })) → ⊥)
+        (λ x. IsKeyOf namespace path x.0 × (x.1 ≡ taken)) }
 {
     match Key::within(namespace, path) {
         Ok(key) => Some((key, taken)),
@@ -203,7 +205,7 @@ fn read_path(
     bytes: &[u8],
     descending: bool,
 ) -> Result<Option<(Elems, usize)>, NoMemory>
-    ensures { Reads (All IsLawfulElem) path_bytes (directed descending bytes.now) result }
+    ensures { ReadsFront (All IsLawfulElem) path_bytes (directed descending bytes.now) result }
 {
     let mut path = Vec::new(alloc);
     let mut taken = 0;
@@ -236,7 +238,7 @@ fn read_elem(
     bytes: &[u8],
     descending: bool,
 ) -> Result<Option<(Elem, usize)>, NoMemory>
-    ensures { Reads IsLawfulElem elem_rest (directed descending bytes.now) result }
+    ensures { ReadsFront IsLawfulElem elem_rest (directed descending bytes.now) result }
 {
     match read_text(alloc, bytes, descending)? {
         None => Ok(None),
@@ -252,7 +254,7 @@ fn read_ident(
     bytes: &[u8],
     descending: bool,
 ) -> Result<Option<(Ident, usize)>, NoMemory>
-    ensures { Reads IsLawfulIdent ident_bytes (directed descending bytes.now) result }
+    ensures { ReadsFront IsLawfulIdent ident_bytes (directed descending bytes.now) result }
 {
     let tag = match byte_at(bytes, 0, descending) {
         None => return Ok(None),
@@ -270,7 +272,7 @@ fn read_ident(
 
 /// The id whose bytes stand behind the byte that announces it.
 fn read_id(rest: &[u8], descending: bool) -> Result<Option<(Ident, usize)>, NoMemory>
-    ensures { Reads IsLawfulIdent ident_bytes (ID ∷ directed descending rest.now) result }
+    ensures { ReadsFront IsLawfulIdent ident_bytes (ID ∷ directed descending rest.now) result }
 {
     match read_number(rest, descending) {
         None => Ok(None),
@@ -284,7 +286,7 @@ fn read_name(
     rest: &[u8],
     descending: bool,
 ) -> Result<Option<(Ident, usize)>, NoMemory>
-    ensures { Reads IsLawfulIdent ident_bytes (NAME ∷ directed descending rest.now) result }
+    ensures { ReadsFront IsLawfulIdent ident_bytes (NAME ∷ directed descending rest.now) result }
 {
     match read_text(alloc, rest, descending)? {
         None => Ok(None),

@@ -1,9 +1,10 @@
 //! Keys and values as bytes.
 ghost use Rattle.std.specs.Prelude.{◌≡◌, ◌+◌, ◌≤◌, ◌++◌, ◌∷◌, length, All, OnOk, OnErr, IsOk};
-ghost use Rattle.ds_bytes.specs.Encoding.{encoding, key_encoding, escaped, ancestor_of, eight_bytes, raised, ident_bytes, elem_bytes, key_bytes, namespace_bytes, path_bytes, value_bytes};
+ghost use Rattle.ds_bytes.specs.Encoding.{encoding, key_encoding, escaped, ancestor_of, eight_bytes, raised, ident_bytes, elem_bytes};
+ghost use Rattle.ds_bytes.specs.Encoding.{key_bytes, namespace_bytes, path_bytes, value_bytes};
 ghost use Rattle.ds_bytes.specs.Lawful.{IsText, IsLawfulValue, IsLawfulKey, IsLawfulElem, IsLawfulIdent};
 ghost use Rattle.ds_bytes.specs.Writing.{Puts};
-ghost use Rattle.ds_bytes.specs.Appending.{Appends};
+ghost use Rattle.ds_bytes.specs.Appending.{IsAppended};
 
 use crate::marks::{ELEMENT, ID, KEY, NAME, NAMESPACE, NULL, NUMBER, PATH_END, SEQUENCE, TRUTH};
 use crate::output::{Output, begin, end, put, put_tagged, put_text};
@@ -53,7 +54,7 @@ pub fn encode_ancestor(key: &Key, elements: usize, onto: &mut Buffer) -> Result<
         key,
         |buffer: Buffer, key: &Key| -> (Buffer, Result<(), NoMemory>)
             requires { elements ≤ length key.now.elems }
-            ensures { Appends (key_bytes (ancestor_of key.now elements)) (Unit {0}) buffer result.0 result.1 }
+            ensures { IsAppended (key_bytes (ancestor_of key.now elements)) (Unit {0}) buffer result.0 result.1 }
         { append_ancestor(buffer, key, elements) },
     )
 }
@@ -78,7 +79,7 @@ fn append_value(
     value: &IndexValue,
     descending: bool,
 ) -> (Buffer, Result<(), NoMemory>)
-    ensures { Appends (encoding descending value.now) (IsLawfulValue value.now) buffer result.0 result.1 }
+    ensures { IsAppended (encoding descending value.now) (IsLawfulValue value.now) buffer result.0 result.1 }
 {
     let mut output = begin(buffer, descending);
     put_value(value, &mut output);
@@ -87,7 +88,7 @@ fn append_value(
 
 /// The buffer with the encoding of the key at its end, where it wasn't refused.
 fn append_key(buffer: Buffer, key: &Key, descending: bool) -> (Buffer, Result<(), NoMemory>)
-    ensures { Appends (key_encoding descending key.now) (IsLawfulKey key.now) buffer result.0 result.1 }
+    ensures { IsAppended (key_encoding descending key.now) (IsLawfulKey key.now) buffer result.0 result.1 }
 {
     let mut output = begin(buffer, descending);
     put_key(key, &mut output);
@@ -97,7 +98,7 @@ fn append_key(buffer: Buffer, key: &Key, descending: bool) -> (Buffer, Result<()
 /// The buffer with the encoding of the first elements of the key at its end, where it wasn't refused.
 fn append_ancestor(buffer: Buffer, key: &Key, elements: usize) -> (Buffer, Result<(), NoMemory>)
     requires { elements ≤ length key.now.elems }
-    ensures { Appends (key_bytes (ancestor_of key.now elements)) (Unit {0}) buffer result.0 result.1 }
+    ensures { IsAppended (key_bytes (ancestor_of key.now elements)) (Unit {0}) buffer result.0 result.1 }
 {
     let mut output = begin(buffer, false);
     put_namespace(key.namespace(), &mut output);
@@ -107,7 +108,7 @@ fn append_ancestor(buffer: Buffer, key: &Key, elements: usize) -> (Buffer, Resul
 
 /// The buffer with the escaped text at its end, where it wasn't refused.
 fn append_text(buffer: Buffer, text: &[u8]) -> (Buffer, Result<(), NoMemory>)
-    ensures { Appends (escaped text.now) (Unit {0}) buffer result.0 result.1 }
+    ensures { IsAppended (escaped text.now) (Unit {0}) buffer result.0 result.1 }
 {
     let mut output = begin(buffer, false);
     put_text(text, &mut output);

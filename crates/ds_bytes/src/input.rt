@@ -2,8 +2,9 @@
 ghost use Rattle.std.specs.Prelude.{◌≡◌, ℕ, ◌<◌, ◌≤◌, ◌++◌, ◌^◌, length, take, drop, slice_get, string_bytes, IsUtf8, MatchOption, IfOk};
 ghost use Rattle.ds_lanes.specs.Kernels.{first_zero, complement};
 ghost use Rattle.ds_bytes.specs.Encoding.{directed, escaped, eight_bytes};
-ghost use Rattle.ds_bytes.specs.Lawful.{AreBytes, IsText};
-ghost use Rattle.ds_bytes.specs.Reading.{Begins, NoneBegins, Reads};
+ghost use Rattle.ds_bytes.specs.Lawful.{IsText};
+ghost use Rattle.ds_base.specs.Bytes.{AreBytes};
+ghost use Rattle.ds_bytes.specs.Reading.{Begins, NoneBegins, ReadsFront};
 
 use crate::blocks::BLOCK;
 use crate::marks::{STAYS, TEXT_END, ZERO};
@@ -59,7 +60,7 @@ pub(crate) fn read_bytes(
     bytes: &[u8],
     descending: bool,
 ) -> Result<Option<(ByteString, usize)>, NoMemory>
-    ensures { Reads AreBytes escaped (directed descending bytes.now) result }
+    ensures { ReadsFront AreBytes escaped (directed descending bytes.now) result }
 {
     let mut text = Vec::new(alloc);
     let mut taken = 0;
@@ -82,7 +83,7 @@ pub(crate) fn read_bytes(
     }
 }
 
-/// Appends the bytes before the first zero byte, and gives how many they are.
+/// IsAppended the bytes before the first zero byte, and gives how many they are.
 fn append_run(bytes: &[u8], descending: bool, text: &mut Vec<u8>) -> Result<usize, NoMemory>
     ensures run { IfOk result (λ run. run ≡ first_zero (directed descending bytes.now)) }
     ensures appended { IfOk result (λ run. text.new.items ≡ text.old.items ++ take run (directed descending bytes.now)) }
@@ -137,7 +138,7 @@ pub(crate) fn read_text(
     bytes: &[u8],
     descending: bool,
 ) -> Result<Option<(TextString, usize)>, NoMemory>
-    ensures { Reads IsText escaped (directed descending bytes.now) result }
+    ensures { ReadsFront IsText escaped (directed descending bytes.now) result }
 {
     match read_bytes(alloc, bytes, descending)? {
         None => Ok(None),

@@ -4,13 +4,14 @@
 //! `specs/Encoding`, which says what each encoding is; `encoder` writes them, and `decoder` reads them. What later crates
 //! may know of the bytes is proved in `specs/`: that they have the order of what is encoded, in both directions, and are
 //! read in one way (`EncodingLaws`); the same of rows (`RowLaws`); which bytes the keys under an ancestor begin with
-//! (`AncestorLaws`); and how writings in order are put together (`OrderedLaws`).
+//! (`AncestorLaws`); and how writings in order are put together (`OrderedLaws`). The functions of `laws` tell the first three.
 #![tactic(auto)]
 
 mod blocks;
 pub mod decoder;
 pub mod encoder;
 mod input;
+pub mod laws;
 mod marks;
 mod output;
 

@@ -1,7 +1,8 @@
 -- A row is read column by column, in one way.
-use Rattle.std.proofs.Common.{◌≡◌, ℕ, ◌+◌, ◌≤◌, Bool, true, false, List, [], ◌∷◌, ◌++◌, length, drop, sym, ap, ◌∙◌, refl, subst, get_or, ◌<◌, arith}
-use Rattle.std.proofs.Common.{append_assoc, append-nil, length-append, length-drop}
-use Rattle.std.specs.Prelude.{◌↔◌, IsTrue, All, not}
+use Rattle.std.proofs.Common.{◌≡◌, ℕ, ◌+◌, ◌≤◌, Bool, true, false, List, [], ◌∷◌, ◌++◌, length, drop, sym, ap, ◌∙◌, refl, subst, get_or}
+use Rattle.std.proofs.Common.{◌<◌, arith}
+use Rattle.std.proofs.Common.{append_assoc, append-nil, length-append}
+use Rattle.std.specs.Prelude.{◌↔◌, All}
 use Rattle.std.proofs.lemmas.List.{drop_all, drop_more}
 use Rattle.std.proofs.lemmas.List.Elements.{All-head, All-tail, All-cons, All-nil}
 use Rattle.ds_base.specs.declared.column.Column.{Column}
@@ -12,8 +13,8 @@ use Rattle.ds_bytes.specs.EncodingLaws.{encoding-reads_once, key_encoding-reads_
 use Rattle.ds_bytes.specs.Lawful.{IsLawfulKey, IsLawfulValue}
 use Rattle.ds_bytes.specs.LawfulLaws.{key_of_bytes, value_of_bytes}
 use Rattle.ds_bytes.specs.Reading.{Begins, NoneBegins}
-use Rattle.ds_bytes.specs.Rows.{RowParts, columns_bytes, row_bytes}
-use Rattle.ds_query.specs.Filters.{is_key_name}
+use Rattle.ds_bytes.specs.Rows.{columns_bytes}
+use Rattle.ds_base.specs.KeyColumn.{is_key_name}
 use Rattle.ds_cursor.specs.RowsOfColumns.{IsRowIn, directions}
 use Rattle.ds_cursor.specs.RowSteps.{NoneStands, Behind}
 

@@ -1,6 +1,7 @@
 -- What is written as a cursor is read as the place that it was written for, and under no branch with other query bytes.
-use Rattle.std.specs.Prelude.{◌≡◌, ℕ, zero, suc, ◌+◌, ◌*◌, ◌/◌, ◌%◌, ◌^◌, ◌<◌, ◌≤◌, Bool, true, false, ◌&&◌, nat_le, nat_eq, bytes_eq, cond, refl}
-use Rattle.std.specs.Prelude.{List, [], ◌∷◌, ◌++◌, length, take, drop, Option, Some, None, Result, Ok, Err, IfOk, IsTrue}
+use Rattle.std.specs.Prelude.{◌≡◌, ℕ, zero, suc, ◌+◌, ◌*◌, ◌/◌, ◌%◌, ◌^◌, ◌<◌, ◌≤◌, Bool, true, false, ◌&&◌, nat_le, nat_eq, bytes_eq, cond}
+use Rattle.std.specs.Prelude.{refl}
+use Rattle.std.specs.Prelude.{List, [], ◌∷◌, ◌++◌, length, take, drop, Option, Some, None, Result, Ok, Err, IfOk}
 use Rattle.std.specs.declared.alloc.AllocError.{AllocError}
 use Rattle.std.specs.Result.{result_ok}
 use Rattle.std.proofs.Common.{ap, sym, ◌∙◌, subst, arith, length-append}
@@ -16,8 +17,9 @@ use Rattle.ds_query.specs.declared.branch.Branch.{Branch}
 use Rattle.ds_query.specs.declared.row.Place.{Place}
 use Rattle.ds_cursor.specs.declared.cursor.CursorRefused.TheVariants as refused
 use Rattle.ds_cursor.specs.QueryBytes.{namespace_front, namespace_version, branch_bytes, query_bytes, version_of}
-use Rattle.ds_cursor.specs.Cursors.{place_bytes, cursor_bytes, CursorParts, is_version, parts_with, parts_of, parts_of_decoded, is_of_branch}
-use Rattle.ds_cursor.specs.Cursors.{IsPlaceOf, StandsFor, OfBranch, PartsAre, CursorIs, IsReadBack, IsOfOneQuery}
+use Rattle.ds_cursor.specs.Cursors.{place_bytes, cursor_bytes, CursorParts, is_version, parts_with, parts_of, parts_of_decoded}
+use Rattle.ds_cursor.specs.Cursors.{is_of_branch}
+use Rattle.ds_cursor.specs.Cursors.{IsPlaceIn, EncodesPlace, OfBranch, PartsAre, CursorIs, IsReadBack, IsOfOneQuery}
 
 -- ---- the parts
 
@@ -66,13 +68,14 @@ falsity false no_truth = refl
 another : (q other : Branch) (place : List ℕ) → (query_bytes q ≡ query_bytes other → ⊥)
     → is_of_branch other (record { version = version_of q; query = query_bytes q; place = place }) ≡ false
 another q other place differ = and_right (nat_eq (version_of q) (version_of other)) (bytes_eq (query_bytes q) (query_bytes other))
-    (falsity (bytes_eq (query_bytes q) (query_bytes other)) (λ same. differ ((bytes_eq-Decides (query_bytes q) (query_bytes other)).0 same)))
+    (falsity (bytes_eq (query_bytes q) (query_bytes other))
+    (λ same. differ ((bytes_eq-Decides (query_bytes q) (query_bytes other)).0 same)))
 
 -- What is written is a cursor of its own branch, at the place that it was written for.
 pub written_is_own : (q : Branch) (place : Option Place) (text : List ℕ) → decode_of standard text ≡ Ok (cursor_bytes q place)
-    → length (query_bytes q) < 2 ^ 32 → IsPlaceOf q.columns place → CursorIs q text (Ok place)
+    → length (query_bytes q) < 2 ^ 32 → IsPlaceIn q.columns place → CursorIs q text (Ok place)
 written_is_own q place text decoded short lawful =
-    let stands : StandsFor q.columns (place_bytes place) place = record { written = refl; lawful = lawful } in
+    let stands : EncodesPlace q.columns (place_bytes place) place = record { written = refl; lawful = lawful } in
     subst (λ (parts : Option CursorParts). PartsAre q parts (Ok place)) (sym (parts_of_written q place text decoded short))
     (subst (λ (b : Bool). OfBranch b q.columns (place_bytes place) (Ok place)) (sym (own q (place_bytes place))) stands)
 
@@ -80,8 +83,10 @@ written_is_own q place text decoded short lawful =
 pub written_is_others : (q other : Branch) (place : Option Place) (text : List ℕ) → decode_of standard text ≡ Ok (cursor_bytes q place)
     → length (query_bytes q) < 2 ^ 32 → (query_bytes q ≡ query_bytes other → ⊥) → CursorIs other text (Err refused.CursorMismatch)
 written_is_others q other place text decoded short differ =
-    subst (λ (parts : Option CursorParts). PartsAre other parts (Err refused.CursorMismatch)) (sym (parts_of_written q place text decoded short))
-    (subst (λ (b : Bool). OfBranch b other.columns (place_bytes place) (Err refused.CursorMismatch)) (sym (another q other (place_bytes place) differ)) refl)
+    subst (λ (parts : Option CursorParts). PartsAre other parts (Err refused.CursorMismatch))
+    (sym (parts_of_written q place text decoded short))
+    (subst (λ (b : Bool). OfBranch b other.columns (place_bytes place) (Err refused.CursorMismatch))
+    (sym (another q other (place_bytes place) differ)) refl)
 
 -- ---- what a writer gives
 

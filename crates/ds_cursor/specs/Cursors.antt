@@ -65,19 +65,19 @@ is_of_branch q parts = (parts.version == version_of q) && bytes_eq parts.query (
 -- ---- what a text is to a branch
 
 -- a place in rows of these columns: before the first row, or behind one row
-abbrev pub IsPlaceOf : List Column → Option Place → Type 0
-IsPlaceOf columns None = Unit {0}
-IsPlaceOf columns (Some row) = IsRowOf columns row.bytes
+abbrev pub IsPlaceIn : List Column → Option Place → Type 0
+IsPlaceIn columns None = Unit {0}
+IsPlaceIn columns (Some row) = IsRowOf columns row.bytes
 
 -- the bytes are those of this place in rows of these columns
-pub record StandsFor (columns : List Column) (bytes : List ℕ) (place : Option Place) : Type 0 where
+pub record EncodesPlace (columns : List Column) (bytes : List ℕ) (place : Option Place) : Type 0 where
   pub written : bytes ≡ place_bytes place
-  pub lawful : IsPlaceOf columns place
+  pub lawful : IsPlaceIn columns place
 
 -- the place that the bytes stand for; a bad cursor where they stand for none
 abbrev pub PlaceIs : List Column → List ℕ → Result (Option Place) CursorRefused → Type 0
-PlaceIs columns bytes (Ok place) = StandsFor columns bytes place
-PlaceIs columns bytes (Err refused.BadCursor) = (place : Option Place) → StandsFor columns bytes place → ⊥
+PlaceIs columns bytes (Ok place) = EncodesPlace columns bytes place
+PlaceIs columns bytes (Err refused.BadCursor) = (place : Option Place) → EncodesPlace columns bytes place → ⊥
 PlaceIs columns bytes (Err refused.CursorMismatch) = ⊥
 PlaceIs columns bytes (Err refused.NoMemory) = ⊥
 
@@ -96,18 +96,17 @@ PartsAre q (Some parts) result = OfBranch (is_of_branch q parts) q.columns parts
 abbrev pub CursorIs : Branch → List ℕ → Result (Option Place) CursorRefused → Type 0
 CursorIs q text result = PartsAre q (parts_of text) result
 
--- what a reader promises of its result: nothing where memory was refused
-abbrev pub UnlessNoMemory : (Result (Option Place) CursorRefused → Type 0) → Result (Option Place) CursorRefused → Type 0
-UnlessNoMemory Is (Ok place) = Is (Ok place)
-UnlessNoMemory Is (Err refused.BadCursor) = Is (Err refused.BadCursor)
-UnlessNoMemory Is (Err refused.CursorMismatch) = Is (Err refused.CursorMismatch)
-UnlessNoMemory Is (Err refused.NoMemory) = Unit {0}
+-- why the text is no cursor, but for want of memory
+abbrev pub cursor_fault : CursorRefused → Option CursorRefused
+cursor_fault refused.BadCursor = Some refused.BadCursor
+cursor_fault refused.CursorMismatch = Some refused.CursorMismatch
+cursor_fault refused.NoMemory = None
 
 -- ---- what a writer promises of its text
 
 -- it is read as the place, where that is one in rows of the branch's columns
 abbrev pub IsReadBack : Branch → Option Place → List ℕ → Type 0
-IsReadBack q place text = IsPlaceOf q.columns place → CursorIs q text (Ok place)
+IsReadBack q place text = IsPlaceIn q.columns place → CursorIs q text (Ok place)
 
 -- it is a cursor of another query under each branch with other query bytes
 abbrev pub IsOfOneQuery : Branch → List ℕ → Type 0

@@ -8,10 +8,9 @@
 pub mod cursor;
 mod query_bytes;
 pub mod reader;
-pub mod rows;
+mod rows;
 pub mod writer;
 
 pub use cursor::CursorRefused;
 pub use reader::read;
-pub use rows::is_row_of;
 pub use writer::write;

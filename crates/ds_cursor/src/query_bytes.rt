@@ -1,20 +1,39 @@
 //! A branch as bytes, so that a cursor of one query is never taken for another's.
-ghost use Rattle.std.specs.Prelude.{◌≡◌, ◌++◌, ◌∷◌, [], List, ℕ, flat_map, OnOk, cond};
-ghost use Rattle.ds_bytes.specs.Encoding.{escaped, escaped_byte, key_bytes, value_bytes};
-ghost use Rattle.ds_cursor.specs.QueryBytes.{optional_bytes, listed_bytes, pair_bytes, bound_bytes, bounds_bytes, first_name, range_bytes, column_bytes, select_bytes, branch_bytes, query_bytes, version_of};
+ghost use Rattle.std.specs.Prelude.{◌≡◌, ◌++◌, ◌∷◌, [], List, ℕ, OnOk, cond};
+ghost use Rattle.ds_bytes.specs.Encoding.{escaped, key_bytes, value_bytes};
+ghost use Rattle.ds_cursor.specs.QueryBytes.{optional_bytes, listed_bytes, pair_bytes, bound_bytes, bounds_bytes, first_name, range_bytes};
+ghost use Rattle.ds_cursor.specs.QueryBytes.{column_bytes, select_bytes, branch_bytes, query_bytes, version_of};
 
 use ds_base::{Buffer, Column, IndexValue, Key, NoMemory, TextString};
-use ds_bytes::{encode, encode_key};
+use ds_bytes::{encode, encode_key, encode_text};
 use ds_query::{Bound, Branch, Pair, Range, Select};
 
-/// What is absent, the end of a list, an ascending column, entities.
-const NOTHING: u8 = 0x00;
+/// The tags in front of what may be absent.
+const ABSENT: u8 = 0x00;
 
-/// What is there, one more of a list, an exclusive bound, a descending column, keys.
-const SOMETHING: u8 = 0x01;
+const PRESENT: u8 = 0x01;
 
-/// An inclusive bound, a projection.
-const MORE: u8 = 0x02;
+/// The tags of a list: its end, and one more item.
+const END: u8 = 0x00;
+
+const ITEM: u8 = 0x01;
+
+/// The tags of a bound that is there.
+const EXCLUSIVE: u8 = 0x01;
+
+const INCLUSIVE: u8 = 0x02;
+
+/// The tags of a column's direction.
+const ASCENDING: u8 = 0x00;
+
+const DESCENDING: u8 = 0x01;
+
+/// The tags of what a branch gives.
+const ENTITIES: u8 = 0x00;
+
+const KEYS: u8 = 0x01;
+
+const PROJECTION: u8 = 0x02;
 
 /// What has bytes of its own among the query bytes.
 trait Put {
@@ -29,7 +48,7 @@ impl Put for TextString {
     ghost bytes = { escaped };
 
     fn put(&self, onto: &mut Buffer) -> Result<(), NoMemory> {
-        put_text(self.bytes(), onto)
+        encode_text(self.bytes(), onto)
     }
 }
 
@@ -45,7 +64,7 @@ impl Put for Pair {
     ghost bytes = { pair_bytes };
 
     fn put(&self, onto: &mut Buffer) -> Result<(), NoMemory> {
-        put_text(self.property.bytes(), onto)?;
+        encode_text(self.property.bytes(), onto)?;
         encode(&self.value, false, onto)
     }
 }
@@ -54,8 +73,12 @@ impl Put for Column {
     ghost bytes = { column_bytes };
 
     fn put(&self, onto: &mut Buffer) -> Result<(), NoMemory> {
-        put_text(self.name.bytes(), onto)?;
-        onto.append(&[if self.descending { SOMETHING } else { NOTHING }])
+        encode_text(self.name.bytes(), onto)?;
+        onto.append(&[if self.descending {
+            DESCENDING
+        } else {
+            ASCENDING
+        }])
     }
 }
 
@@ -76,7 +99,7 @@ pub(crate) fn put_query(branch: &Branch, onto: &mut Buffer) -> Result<(), NoMemo
 {
     let namespace = branch.namespace.bytes();
     if !namespace.is_empty() {
-        put_text(namespace, onto)?;
+        encode_text(namespace, onto)?;
     }
     put_branch(branch, onto)
 }
@@ -98,9 +121,9 @@ fn put_optional<T: Put>(part: &Option<T>, onto: &mut Buffer) -> Result<(), NoMem
     ensures { OnOk result (onto.new.bytes ≡ onto.old.bytes ++ optional_bytes T.bytes part.now) }
 {
     match part {
-        None => onto.append(&[NOTHING]),
+        None => onto.append(&[ABSENT]),
         Some(part) => {
-            onto.append(&[SOMETHING])?;
+            onto.append(&[PRESENT])?;
             part.put(onto)
         }
     }
@@ -110,20 +133,20 @@ fn put_list<T: Put>(parts: &[T], onto: &mut Buffer) -> Result<(), NoMemory>
     ensures { OnOk result (onto.new.bytes ≡ onto.old.bytes ++ listed_bytes T.bytes parts.now) }
 {
     for part in parts {
-        onto.append(&[SOMETHING])?;
+        onto.append(&[ITEM])?;
         part.put(onto)?;
     }
-    onto.append(&[NOTHING])
+    onto.append(&[END])
 }
 
 fn put_range(columns: &[Column], range: &Range, onto: &mut Buffer) -> Result<(), NoMemory>
     ensures { OnOk result (onto.new.bytes ≡ onto.old.bytes ++ range_bytes columns.now range.now) }
 {
     if range.lower.is_none() && range.upper.is_none() {
-        return onto.append(&[NOTHING]);
+        return onto.append(&[ABSENT]);
     }
-    onto.append(&[SOMETHING])?;
-    put_text(first_name(columns), onto)?;
+    onto.append(&[PRESENT])?;
+    encode_text(first_name(columns), onto)?;
     put_bound(&range.lower, onto)?;
     put_bound(&range.upper, onto)
 }
@@ -142,9 +165,13 @@ fn put_bound(bound: &Option<Bound>, onto: &mut Buffer) -> Result<(), NoMemory>
     ensures { OnOk result (onto.new.bytes ≡ onto.old.bytes ++ bound_bytes bound.now) }
 {
     match bound {
-        None => onto.append(&[NOTHING]),
+        None => onto.append(&[ABSENT]),
         Some(bound) => {
-            onto.append(&[if bound.inclusive { MORE } else { SOMETHING }])?;
+            onto.append(&[if bound.inclusive {
+                INCLUSIVE
+            } else {
+                EXCLUSIVE
+            }])?;
             encode(&bound.value, false, onto)
         }
     }
@@ -154,50 +181,11 @@ fn put_select(select: &Select, onto: &mut Buffer) -> Result<(), NoMemory>
     ensures { OnOk result (onto.new.bytes ≡ onto.old.bytes ++ select_bytes select.now) }
 {
     match select {
-        Select::Entities => onto.append(&[NOTHING]),
-        Select::Keys => onto.append(&[SOMETHING]),
+        Select::Entities => onto.append(&[ENTITIES]),
+        Select::Keys => onto.append(&[KEYS]),
         Select::Projection(names) => {
-            onto.append(&[MORE])?;
+            onto.append(&[PROJECTION])?;
             put_list(names.as_slice(), onto)
         }
-    }
-}
-
-/// Puts a text escaped.
-fn put_text(text: &[u8], onto: &mut Buffer) -> Result<(), NoMemory>
-    ensures { OnOk result (onto.new.bytes ≡ onto.old.bytes ++ escaped text.now) }
-{
-    put_inside(text, onto)?;
-    onto.append(&[0x00, 0x01])
-}
-
-/// Puts a text escaped, without its end. Texts with a zero byte are rare, so they alone are taken byte by byte.
-fn put_inside(text: &[u8], onto: &mut Buffer) -> Result<(), NoMemory>
-    ensures { OnOk result (onto.new.bytes ≡ onto.old.bytes ++ flat_map escaped_byte text.now) }
-{
-    if text.contains(&0) {
-        put_escaped_bytes(text, onto)
-    } else {
-        onto.append(text)
-    }
-}
-
-/// Puts each byte, a zero byte with 255 behind it.
-fn put_escaped_bytes(text: &[u8], onto: &mut Buffer) -> Result<(), NoMemory>
-    ensures { OnOk result (onto.new.bytes ≡ onto.old.bytes ++ flat_map escaped_byte text.now) }
-{
-    for byte in text {
-        put_escaped_byte(*byte, onto)?;
-    }
-    Ok(())
-}
-
-fn put_escaped_byte(byte: u8, onto: &mut Buffer) -> Result<(), NoMemory>
-    ensures { OnOk result (onto.new.bytes ≡ onto.old.bytes ++ escaped_byte byte) }
-{
-    if byte == 0 {
-        onto.append(&[0x00, 0xff])
-    } else {
-        onto.append(&[byte])
     }
 }

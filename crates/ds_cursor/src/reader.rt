@@ -3,7 +3,8 @@ ghost use Rattle.std.specs.Prelude.{◌≡◌, ◌+◌, ◌*◌, ◌^◌, IfOk, 
 ghost use Rattle.std.specs.Result.{result_ok};
 ghost use Rattle.base64.specs.Engines.{standard};
 ghost use Rattle.base64.specs.GeneralPurpose.{decode_of};
-ghost use Rattle.ds_cursor.specs.Cursors.{CursorIs, PartsAre, PlaceIs, UnlessNoMemory, parts_of_bytes, parts_with, is_version, is_of_branch};
+ghost use Rattle.ds_base.specs.Memory.{UnlessNoMemory};
+ghost use Rattle.ds_cursor.specs.Cursors.{CursorIs, PartsAre, PlaceIs, parts_of_bytes, parts_with, is_version, is_of_branch, cursor_fault};
 
 use crate::cursor::CursorRefused;
 use crate::query_bytes::{put_query, version_of};
@@ -35,7 +36,7 @@ impl<'a> Model for Parts<'a> {
 /// text is no cursor of any query, or its place is none in rows of the branch's columns; `CursorMismatch` where it is a cursor
 /// of another query, whatever its place; `NoMemory` for want of memory alone. The query bytes are compared where they stand.
 pub fn read(alloc: Global, branch: &Branch, text: &str) -> Result<Option<Place>, CursorRefused>
-    ensures { UnlessNoMemory (CursorIs branch.now text.now) result }
+    ensures { UnlessNoMemory cursor_fault (CursorIs branch.now text.now) result }
 {
     match decode(alloc, text)? {
         None => Err(CursorRefused::BadCursor),
@@ -55,7 +56,7 @@ fn decode(alloc: Global, text: &str) -> Result<Option<ByteString>, NoMemory>
 }
 
 fn read_bytes(alloc: Global, branch: &Branch, bytes: &[u8]) -> Result<Option<Place>, CursorRefused>
-    ensures { UnlessNoMemory (PartsAre branch.now (parts_of_bytes bytes.now)) result }
+    ensures { UnlessNoMemory cursor_fault (PartsAre branch.now (parts_of_bytes bytes.now)) result }
 {
     match parts_of(bytes) {
         None => Err(CursorRefused::BadCursor),
@@ -64,7 +65,7 @@ fn read_bytes(alloc: Global, branch: &Branch, bytes: &[u8]) -> Result<Option<Pla
 }
 
 fn read_parts(alloc: Global, branch: &Branch, parts: &Parts) -> Result<Option<Place>, CursorRefused>
-    ensures { UnlessNoMemory (PartsAre branch.now (Some parts.now)) result }
+    ensures { UnlessNoMemory cursor_fault (PartsAre branch.now (Some parts.now)) result }
 {
     if is_of_branch(alloc, branch, parts)? {
         read_place(alloc, &branch.columns, parts.place)
@@ -135,7 +136,7 @@ fn read_place(
     columns: &Columns,
     bytes: &[u8],
 ) -> Result<Option<Place>, CursorRefused>
-    ensures { UnlessNoMemory (PlaceIs columns.now bytes.now) result }
+    ensures { UnlessNoMemory cursor_fault (PlaceIs columns.now bytes.now) result }
 {
     match bytes {
         [0x00] => Ok(None),

@@ -1,16 +1,16 @@
 //! Which bytes are a row of columns.
 ghost use Rattle.std.specs.Prelude.{◌≡◌, ◌↔◌, ◌&&◌, [], IsTrue, IfOk, MatchOption};
-ghost use Rattle.ds_query.specs.Filters.{is_key_name};
+ghost use Rattle.ds_base.specs.KeyColumn.{is_key_name, key_descends};
 ghost use Rattle.ds_cursor.specs.RowSteps.{NoneStands, Behind};
-ghost use Rattle.ds_cursor.specs.RowsOfColumns.{IsRowOf, IsRowIn, directions, key_descends};
+ghost use Rattle.ds_cursor.specs.RowsOfColumns.{IsRowOf, IsRowIn, directions};
 
-use ds_base::{Column, Columns, NoMemory, TextString};
+use ds_base::{Column, Columns, NoMemory, is_key_name, key_descends};
 use ds_bytes::{decode, decode_key};
 use std::alloc::Global;
 
 /// Whether the bytes are one row of the columns, each in its direction, and nothing behind it: a value for each column other
 /// than `__key__`, and then a key, which ascends where no column is `__key__`. A refusal is want of memory. One pass.
-pub fn is_row_of(alloc: Global, columns: &Columns, bytes: &[u8]) -> Result<bool, NoMemory>
+pub(crate) fn is_row_of(alloc: Global, columns: &Columns, bytes: &[u8]) -> Result<bool, NoMemory>
     ensures { IfOk result (λ row. IsTrue row ↔ IsRowOf columns.now bytes.now) }
 {
     let columns = columns.as_slice();
@@ -43,7 +43,8 @@ fn behind_value<'a>(
     bytes: &'a [u8],
     descending: bool,
 ) -> Result<Option<&'a [u8]>, NoMemory>
-    ensures { IfOk result (λ found. MatchOption found (NoneStands descending bytes.now) (λ behind. Behind descending bytes.now behind.now)) }
+    ensures { IfOk result (λ found. MatchOption found (NoneStands descending bytes.now)
+        (λ behind. Behind descending bytes.now behind.now)) }
 {
     match decode(alloc, bytes, descending)? {
         None => Ok(None),
@@ -59,23 +60,4 @@ fn is_key(alloc: Global, bytes: &[u8], descending: bool) -> Result<bool, NoMemor
         None => Ok(false),
         Some(found) => Ok(found.rest == bytes.len()),
     }
-}
-
-fn is_key_name(name: &TextString) -> bool
-    ensures { result ≡ is_key_name name.now }
-{
-    name.text() == "__key__"
-}
-
-/// Whether a column `__key__` descends.
-fn key_descends(columns: &[Column]) -> bool
-    ensures { result ≡ key_descends columns.now }
-{
-    columns.iter().any(|c| descends_by_key(c))
-}
-
-fn descends_by_key(column: &Column) -> bool
-    ensures { result ≡ (is_key_name column.now.name && column.now.descending) }
-{
-    is_key_name(&column.name) && column.descending
 }

@@ -1,5 +1,6 @@
 -- What is read of a text is a sentence, and so is what the tokens before the place where one stops go on to.
-use Rattle.std.proofs.Common.{◌≡◌, ℕ, suc, Bool, true, false, cond, not, List, [], ◌∷◌, ◌++◌, length, map, Option, Some, None, inl, inr, refl, sym, ap, ◌∙◌, subst, arith, append_assoc}
+use Rattle.std.proofs.Common.{◌≡◌, ℕ, suc, Bool, true, false, cond, not, List, [], ◌∷◌, ◌++◌, length, map, Option, Some, None, inl, inr}
+use Rattle.std.proofs.Common.{refl, sym, ap, ◌∙◌, subst, arith, append_assoc}
 use Rattle.std.specs.Prelude.{pos, option_map, option_and_then, ◌||◌, ◌==◌, bytes_eq}
 use Rattle.std.specs.List.{list_any}
 use Rattle.std.proofs.lemmas.Bool.Decides.{nat_tests}
@@ -12,8 +13,11 @@ use Rattle.ds_gql.specs.declared.draft.Phase.TheVariants as phase
 use Rattle.ds_gql.specs.declared.draft.Draft.{Draft}
 use Rattle.ds_gql.specs.declared.token.Mark.TheVariants as mark
 use Rattle.ds_gql.specs.Pieces.{Piece, fixed, name, is}
-use Rattle.ds_gql.specs.Steps.{step, empty, complete, selected, count_of, key_name}
-use Rattle.ds_gql.specs.Sentences.{What, everything, keys, names, Limits, none, limit, limit_offset, pair, offset, Sentence, comma, led_by, what_pieces, kind_pieces, condition_pieces, order_pieces, limits_pieces, pieces, is_what, select_of, column_of, bounds_of, says}
+use Rattle.ds_gql.specs.Steps.{step, empty, complete, selected, count_of}
+use Rattle.ds_base.specs.KeyColumn.{key_name}
+use Rattle.ds_gql.specs.Sentences.{What, everything, keys, names, Limits, none, limit, limit_offset, pair, offset, Sentence, comma, led_by}
+use Rattle.ds_gql.specs.Sentences.{what_pieces, kind_pieces, condition_pieces, order_pieces, limits_pieces, pieces, is_what, select_of}
+use Rattle.ds_gql.specs.Sentences.{column_of, bounds_of, says}
 use Rattle.ds_gql.proofs.SentenceSteps.{Shown, Open, draft, stepped_to, read_pieces}
 use Rattle.ds_gql.proofs.GoingOn.{shown_of, open_of}
 use Rattle.ds_gql.proofs.Rests.{shows, after_limits, AreCounts, or_else, Led, SelectedRest, WhatRest, Rest}

@@ -1,5 +1,6 @@
 -- What is read of a text is a sentence: each token that takes a step is one more of what is left of a sentence.
-use Rattle.std.proofs.Common.{◌≡◌, ℕ, Bool, true, false, cond, List, [], ◌∷◌, ◌++◌, length, map, Option, Some, None, inl, inr, refl, sym, ap, ◌∙◌, subst, append_assoc, append-nil}
+use Rattle.std.proofs.Common.{◌≡◌, ℕ, Bool, true, false, cond, List, [], ◌∷◌, ◌++◌, length, map, Option, Some, None, inl, inr, refl, sym}
+use Rattle.std.proofs.Common.{ap, ◌∙◌, subst, append_assoc, append-nil}
 use Rattle.std.specs.Prelude.{option_map, option_and_then, pos, nat_lt, ◌||◌, bytes_eq, unwrap_or}
 use Rattle.std.specs.List.{list_any}
 use Rattle.std.proofs.lemmas.Slice.Eq.{bytes_eq-Decides}
@@ -22,13 +23,23 @@ use Rattle.ds_gql.specs.declared.draft.Draft.{Draft}
 use Rattle.ds_gql.specs.declared.token.Mark.{Mark}
 use Rattle.ds_gql.specs.declared.token.Mark.TheVariants as mark
 use Rattle.ds_gql.specs.Pieces.{Piece, fixed, name, integer, string, is, name_in}
-use Rattle.ds_gql.specs.Steps.{step, on_if, at_end, at_limits, at_orders, at_conditions, at_kind, at_direction_read, at_condition_read, select_named, next_named, kind_named, property_named, order_named, projected, key_name, no_ancestor, compare_by, compare_in, operand_by, listed_by, ancestor_by, value_of, key_in, elem_kind_by, key_text, ident_by, ident_in, key_read, key_read_for, with_order, limit_by, offset_by, paired_by, count_in}
-use Rattle.ds_gql.specs.Sentences.{Operand, one, key, Condition, compare, among, under, Conditions, Order, none, limit, limit_offset, pair, offset, comma, others, elem_pieces, ident_piece, key_pieces, operand_pieces, condition_pieces, direction_pieces, order_pieces, operand_value, operand_values, with_condition, with_conditions, column_of}
+use Rattle.ds_gql.specs.Steps.{step, on_if, at_end, at_limits, at_orders, at_conditions, at_kind, at_direction_read, at_condition_read}
+use Rattle.ds_gql.specs.Steps.{select_named, next_named, kind_named, property_named, order_named, projected, no_ancestor, compare_by}
+use Rattle.ds_gql.specs.Steps.{compare_in, operand_by, listed_by, ancestor_by, value_of, key_in, elem_kind_by, key_text, ident_by, ident_in}
+use Rattle.ds_gql.specs.Steps.{key_read, key_read_for, with_order, limit_by, offset_by, paired_by, count_in}
+use Rattle.ds_base.specs.KeyColumn.{key_name}
+use Rattle.ds_gql.specs.Sentences.{Operand, one, key, Condition, compare, among, under, Conditions, Order, none, limit, limit_offset, pair}
+use Rattle.ds_gql.specs.Sentences.{offset, comma, others, elem_pieces, ident_piece, key_pieces, operand_pieces, condition_pieces}
+use Rattle.ds_gql.specs.Sentences.{direction_pieces, order_pieces, operand_value, operand_values, with_condition, with_conditions}
+use Rattle.ds_gql.specs.Sentences.{column_of}
 use Rattle.ds_gql.proofs.SentenceSteps.{Shown, Open, draft, only_if}
 use Rattle.ds_gql.proofs.GoingOn.{shown_of, open_of}
 use Rattle.ds_gql.proofs.PieceLemmas.{is_mark, is_name_piece, compares, counts, kind_text, ident_text}
 use Rattle.ds_gql.proofs.TokenLaws.{chosen}
-use Rattle.ds_gql.proofs.Rests.{with_filter_of, default_key, elem_of, order_by, Led, EndRest, LimitsRest, OffsetRest, PairedRest, LimitReadRest, LimitRest, OrdersRest, FurtherOrders, OrderRest, DirectionRest, WhereRest, FurtherRest, ConditionRest, ListedRest, ListedReadRest, AncestorRest, AfterKey, ElemRest, KindRest, IdentRest, SelectedRest, NameRest, WhatRest, Rest}
+use Rattle.ds_gql.proofs.Rests.{with_filter_of, default_key, elem_of, order_by, Led, EndRest, LimitsRest, OffsetRest, PairedRest}
+use Rattle.ds_gql.proofs.Rests.{LimitReadRest, LimitRest, OrdersRest, FurtherOrders, OrderRest, DirectionRest, WhereRest, FurtherRest}
+use Rattle.ds_gql.proofs.Rests.{ConditionRest, ListedRest, ListedReadRest, AncestorRest, AfterKey, ElemRest, KindRest, IdentRest}
+use Rattle.ds_gql.proofs.Rests.{SelectedRest, NameRest, WhatRest, Rest}
 
 -- ---- parts put together
 

@@ -1,5 +1,6 @@
 -- The length of the longest string behind an opening quote, place by place.
-use Rattle.std.proofs.Common.{◌≡◌, ℕ, ◌+◌, ◌<◌, ◌≤◌, Bool, true, false, List, [], ◌∷◌, length, get_or, drop, Option, Some, None, refl, ap, ◌∙◌, arith, length-drop, eqb-true}
+use Rattle.std.proofs.Common.{◌≡◌, ℕ, ◌+◌, ◌<◌, ◌≤◌, Bool, true, false, List, [], ◌∷◌, length, get_or, drop, Option, Some, None, refl, ap}
+use Rattle.std.proofs.Common.{◌∙◌, arith, length-drop, eqb-true}
 use Rattle.std.specs.Prelude.{option_map, unwrap_or, cond}
 use Rattle.std.proofs.lemmas.List.{drop_more, drop_all}
 use Rattle.ds_gql.specs.Tokens.{closing, is_quote}

@@ -1,5 +1,6 @@
 -- How the tokens of a condition are read.
-use Rattle.std.proofs.Common.{◌≡◌, ℕ, Bool, true, false, cond, List, [], ◌∷◌, ◌++◌, Some, None, refl, sym, ap, ◌∙◌, subst, append_assoc, append-nil}
+use Rattle.std.proofs.Common.{◌≡◌, ℕ, Bool, true, false, cond, List, [], ◌∷◌, ◌++◌, Some, None, refl, sym, ap, ◌∙◌, subst, append_assoc}
+use Rattle.std.proofs.Common.{append-nil}
 use Rattle.std.specs.Prelude.{option_map, option_and_then}
 use Rattle.ds_base.specs.Keys.{KeyParts, is_path}
 use Rattle.ds_base.specs.declared.key.Elem.{Elem}
@@ -14,8 +15,10 @@ use Rattle.ds_gql.specs.declared.draft.KeyFor.TheVariants as for
 use Rattle.ds_gql.specs.declared.token.Mark.{Mark}
 use Rattle.ds_gql.specs.declared.token.Mark.TheVariants as mark
 use Rattle.ds_gql.specs.Pieces.{Piece, fixed, name, integer, string, numbered, named, strange, is}
-use Rattle.ds_gql.specs.Steps.{step, value_of, constant_of, key_in, compare_of, key_begins, operand_by, listed_by, ancestor_by, on_if, compare_by, no_ancestor}
-use Rattle.ds_gql.specs.Sentences.{Operand, one, key, Condition, compare, among, under, Conditions, comma, others, operand_pieces, condition_pieces, operand_value, operand_values, with_condition, with_conditions}
+use Rattle.ds_gql.specs.Steps.{step, value_of, constant_of, key_in, compare_of, key_begins, operand_by, listed_by, ancestor_by, on_if}
+use Rattle.ds_gql.specs.Steps.{compare_by, no_ancestor}
+use Rattle.ds_gql.specs.Sentences.{Operand, one, key, Condition, compare, among, under, Conditions, comma, others, operand_pieces}
+use Rattle.ds_gql.specs.Sentences.{condition_pieces, operand_value, operand_values, with_condition, with_conditions}
 use Rattle.ds_gql.proofs.SentenceSteps.{Shown, Open, draft, Goes, stay, more, then, chain_some, map_some, only_if, key_behind}
 
 -- ---- tokens that are values or operators are no others

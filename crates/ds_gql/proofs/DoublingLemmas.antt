@@ -1,5 +1,6 @@
 -- A string without the quotes that double others, quote by quote.
-use Rattle.std.proofs.Common.{◌≡◌, ℕ, suc, ◌+◌, ◌<◌, Bool, true, false, not, List, [], ◌∷◌, ◌++◌, length, take, drop, refl, sym, ap, ◌∙◌, arith, append_assoc, eqb-true}
+use Rattle.std.proofs.Common.{◌≡◌, ℕ, suc, ◌+◌, ◌<◌, Bool, true, false, not, List, [], ◌∷◌, ◌++◌, length, take, drop, refl, sym, ap, ◌∙◌}
+use Rattle.std.proofs.Common.{arith, append_assoc, eqb-true}
 use Rattle.std.specs.Prelude.{cond, ◌&&◌, ◌==◌}
 use Rattle.std.specs.List.{before_first, after_first, position_or_len}
 use Rattle.ds_gql.specs.Pieces.{undoubled, without_second}

@@ -1,5 +1,6 @@
 -- The end of a text is its last token and no other.
-use Rattle.std.proofs.Common.{◌≡◌, ℕ, zero, suc, ◌+◌, ◌^◌, Bool, true, false, cond, not, List, [], ◌∷◌, ◌++◌, length, take, drop, Option, Some, None, Ok, refl, sym, ap, ◌∙◌, append_assoc, append-nil}
+use Rattle.std.proofs.Common.{◌≡◌, ℕ, zero, suc, ◌+◌, ◌^◌, Bool, true, false, cond, not, List, [], ◌∷◌, ◌++◌, length, take, drop, Option}
+use Rattle.std.proofs.Common.{Some, None, Ok, refl, sym, ap, ◌∙◌, append_assoc, append-nil}
 use Rattle.std.specs.Prelude.{ℤ, nat_lt, ◌&&◌, ◌||◌, ◌==◌, slice_index}
 use Rattle.std.specs.Char.{is_ascii_digit}
 use Rattle.std.specs.List.{list_all, prefix_len, position_or_len}
@@ -12,7 +13,9 @@ use Rattle.ds_gql.specs.declared.draft.Draft.{Draft}
 use Rattle.ds_gql.specs.declared.token.Mark.{Mark}
 use Rattle.ds_gql.specs.declared.token.Mark.TheVariants as mark
 use Rattle.ds_gql.specs.Pieces.{Piece, fixed, is}
-use Rattle.ds_gql.specs.Tokens.{Front, Token, tokens_from, tokens_of, front, is_blank, begins_word, is_word_byte, is_quote, is_double_quote, lookup, keywords, word_by, word_of, word, quoted_name, closing, string_by, string_front, integer_of, integer_by, integer_front, numbered_front, named_front, binding, sign}
+use Rattle.ds_gql.specs.Tokens.{Front, Token, tokens_from, tokens_of, front, is_blank, begins_word, is_word_byte, is_quote, is_double_quote}
+use Rattle.ds_gql.specs.Tokens.{lookup, keywords, word_by, word_of, word, quoted_name, closing, string_by, string_front, integer_of}
+use Rattle.ds_gql.specs.Tokens.{integer_by, integer_front, numbered_front, named_front, binding, sign}
 use Rattle.ds_gql.specs.Steps.{step, empty, complete}
 use Rattle.ds_gql.specs.Statements.{read_on, stepped, statement_of}
 use Rattle.ds_gql.specs.Sentences.{Sentence, pieces, Derives}

@@ -1,5 +1,6 @@
 -- Names in double quotes, and strings, at the front of a text.
-use Rattle.std.proofs.Common.{◌≡◌, ℕ, ◌+◌, ◌<◌, true, false, cond, List, length, take, Some, None, sym, ap, ◌∙◌, arith, eqb-true, length-take-le}
+use Rattle.std.proofs.Common.{◌≡◌, ℕ, ◌+◌, ◌<◌, true, false, cond, List, length, take, Some, None, sym, ap, ◌∙◌, arith, eqb-true}
+use Rattle.std.proofs.Common.{length-take-le}
 use Rattle.std.specs.Prelude.{◌&&◌, ◌==◌, nat_lt}
 use Rattle.std.proofs.lemmas.Bool.Decides.{nat_tests}
 use Rattle.std.specs.List.{position_or_len, before_first}

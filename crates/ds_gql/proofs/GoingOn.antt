@@ -1,5 +1,6 @@
 -- What has been read of a text can always go on to a statement.
-use Rattle.std.proofs.Common.{◌≡◌, ℕ, ◌+◌, ◌<◌, Bool, true, false, cond, List, [], ◌∷◌, ◌++◌, length, Option, Some, None, refl, sym, ap, ◌∙◌, subst, arith, length-append}
+use Rattle.std.proofs.Common.{◌≡◌, ℕ, ◌+◌, ◌<◌, Bool, true, false, cond, List, [], ◌∷◌, ◌++◌, length, Option, Some, None, refl, sym, ap}
+use Rattle.std.proofs.Common.{◌∙◌, subst, arith, length-append}
 use Rattle.std.specs.Prelude.{option_map, option_and_then, pos, nat_lt, nat_le, ◌&&◌, bytes_eq, codes}
 use Rattle.std.specs.List.{list_all}
 use Rattle.std.proofs.lemmas.Bool.{and_parts}
@@ -21,7 +22,11 @@ use Rattle.ds_gql.specs.declared.draft.KeyFor.TheVariants as for
 use Rattle.ds_gql.specs.declared.draft.Draft.{Draft}
 use Rattle.ds_gql.specs.declared.token.Mark.TheVariants as mark
 use Rattle.ds_gql.specs.Pieces.{Piece, fixed, name, integer, string, is, name_in}
-use Rattle.ds_gql.specs.Steps.{step, complete, no_ancestor, on_if, at_end, at_limits, at_orders, at_conditions, at_kind, at_direction_read, with_order, select_named, next_named, kind_named, property_named, order_named, projected, key_name, compare_by, compare_in, operand_by, listed_by, ancestor_by, value_of, key_in, elem_kind_by, key_text, name_of, ident_by, ident_in, id_of, key_read, key_read_for, limit_by, offset_by, paired_by, count_in}
+use Rattle.ds_gql.specs.Steps.{step, complete, no_ancestor, on_if, at_end, at_limits, at_orders, at_conditions, at_kind, at_direction_read}
+use Rattle.ds_gql.specs.Steps.{with_order, select_named, next_named, kind_named, property_named, order_named, projected, compare_by}
+use Rattle.ds_gql.specs.Steps.{compare_in, operand_by, listed_by, ancestor_by, value_of, key_in, elem_kind_by, key_text, name_of, ident_by}
+use Rattle.ds_gql.specs.Steps.{ident_in, id_of, key_read, key_read_for, limit_by, offset_by, paired_by, count_in}
+use Rattle.ds_base.specs.KeyColumn.{key_name}
 use Rattle.ds_gql.proofs.SentenceSteps.{Shown, Open, draft, stepped_to, read_pieces, only_if}
 
 -- ---- what holds of a draft that was read so far

@@ -1,5 +1,6 @@
 -- The tokens before the place where a text stops go on to a statement.
-use Rattle.std.proofs.Common.{◌≡◌, ℕ, Bool, true, false, cond, List, [], ◌∷◌, ◌++◌, Option, Some, None, Ok, Err, inl, inr, refl, sym, ap, ◌∙◌, subst}
+use Rattle.std.proofs.Common.{◌≡◌, ℕ, Bool, true, false, cond, List, [], ◌∷◌, ◌++◌, Option, Some, None, Ok, Err, inl, inr, refl, sym, ap}
+use Rattle.std.proofs.Common.{◌∙◌, subst}
 use Rattle.ds_gql.specs.declared.statement.Bindings.{Bindings}
 use Rattle.ds_gql.specs.declared.statement.Statement.{Statement}
 use Rattle.ds_gql.specs.declared.draft.Draft.{Draft}

@@ -21,3 +21,4 @@ pub mod SentenceLaws
 pub mod SentenceSteps
 pub mod StatementValues
 pub mod TokenLaws
+pub mod WrittenNames

@@ -15,11 +15,14 @@ use Rattle.ds_gql.specs.declared.statement.Bindings.{Bindings}
 use Rattle.ds_gql.specs.declared.statement.Statement.{Statement}
 use Rattle.ds_gql.specs.Steps.{count_of, compare_of, key_in, no_ancestor}
 use Rattle.ds_gql.specs.GqlLaws.{StatementsCanBePrinted}
-use Rattle.ds_gql.specs.Sentences.{What, everything, keys, names, Condition, compare, among, under, Conditions, Limits, none, limit, limit_offset, pair, offset, Sentence, is_what, select_of, is_kind, operand_value, operand_values, with_condition, with_conditions, bounds_of, says}
+use Rattle.ds_gql.specs.Sentences.{What, everything, keys, names, Condition, compare, among, under, Conditions, Limits, none, limit}
+use Rattle.ds_gql.specs.Sentences.{limit_offset, pair, offset, Sentence, is_what, select_of, is_kind, operand_value, operand_values}
+use Rattle.ds_gql.specs.Sentences.{with_condition, with_conditions, bounds_of, says}
 use Rattle.ds_gql.specs.Printing.{can_print, is_short_kind, is_count, is_selection}
 use Rattle.ds_gql.proofs.SentenceSteps.{chain_some, map_some, only_if}
 use Rattle.ds_gql.proofs.EndLaws.{only_sentences_are_read}
 use Rattle.ds_gql.proofs.TokenLaws.{both}
+use Rattle.ds_gql.proofs.WrittenNames.{names_are_written}
 
 -- ---- filters
 
@@ -109,4 +112,6 @@ said_can_print given s st said =
     (both _ _ (both _ _ (both _ _ (both _ _ (short s.kind parts.1) (all_conditions given s.conditions ([], None) found.0 found.1 refl)) (selection s.what parts.0)) within.0) within.1)
 
 pub statements_can_be_printed : StatementsCanBePrinted
-statements_can_be_printed given text st e = let d = only_sentences_are_read given text st e in said_can_print given d.sentence st d.said
+statements_can_be_printed given text st e =
+    let d = only_sentences_are_read given text st e in
+    (said_can_print given d.sentence st d.said, names_are_written given text st d)

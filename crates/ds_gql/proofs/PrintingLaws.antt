@@ -1,5 +1,6 @@
 -- What is printed of a statement is read as that statement.
-use Rattle.std.proofs.Common.{◌≡◌, ℕ, ◌+◌, ◌-◌, Bool, true, false, cond, not, List, [], ◌∷◌, ◌++◌, length, map, Option, Some, None, Ok, refl, sym, ap, ◌∙◌, subst, arith, append_assoc, append-nil, length-append, eqb-true}
+use Rattle.std.proofs.Common.{◌≡◌, ℕ, ◌+◌, ◌-◌, Bool, true, false, cond, not, List, [], ◌∷◌, ◌++◌, length, map, Option, Some, None, Ok}
+use Rattle.std.proofs.Common.{refl, sym, ap, ◌∙◌, subst, arith, append_assoc, append-nil, length-append, eqb-true}
 use Rattle.std.specs.Prelude.{pos, nat_le, ◌&&◌, ◌==◌, option_map, option_and_then, codes, slice_get}
 use Rattle.std.specs.List.{list_all}
 use Rattle.std.proofs.lemmas.Bool.{and_parts}
@@ -27,8 +28,13 @@ use Rattle.ds_gql.specs.Tokens.{tokens_of}
 use Rattle.ds_gql.specs.Steps.{argument, compare_of, count_of, key_in}
 use Rattle.ds_gql.specs.Statements.{statement_of}
 use Rattle.ds_gql.specs.GqlLaws.{pieces_of}
-use Rattle.ds_gql.specs.Sentences.{one, key, compare, none, limit, limit_offset, offset, Sentence, Conditions, comma, led_by, what_pieces, kind_pieces, condition_pieces, order_pieces, limits_pieces, pieces, is_what, select_of, is_kind, operand_value, operand_values, with_condition, with_conditions, column_of, bounds_of, says}
-use Rattle.ds_gql.specs.Printing.{is_selection, is_short_kind, is_count, is_default, can_print, is_written_name, kind_names, selected_names, has_written_names, has_written_properties, has_written_orders, cited, all_cited, ancestor_values, filter_values, values_of, args_of, operand_of, operands_of, condition_by, conditions_of, all_conditions, what_of, order_of, limits_of, sentence_of, behind_space, spaced, text_of_pieces, text_of}
+use Rattle.ds_gql.specs.Sentences.{one, key, compare, none, limit, limit_offset, offset, Sentence, Conditions, comma, led_by, what_pieces}
+use Rattle.ds_gql.specs.Sentences.{kind_pieces, condition_pieces, order_pieces, limits_pieces, pieces, is_what, select_of, is_kind}
+use Rattle.ds_gql.specs.Sentences.{operand_value, operand_values, with_condition, with_conditions, column_of, bounds_of, says}
+use Rattle.ds_gql.specs.Printing.{is_selection, is_short_kind, is_count, is_default, can_print, is_written_name, kind_names, selected_names}
+use Rattle.ds_gql.specs.Printing.{has_written_names, has_written_properties, has_written_orders, cited, all_cited, ancestor_values}
+use Rattle.ds_gql.specs.Printing.{filter_values, values_of, args_of, operand_of, operands_of, condition_by, conditions_of, all_conditions}
+use Rattle.ds_gql.specs.Printing.{what_of, order_of, limits_of, sentence_of, behind_space, spaced, text_of_pieces, text_of}
 use Rattle.ds_gql.specs.Printers.{AreTokens, is_lawful, sentence_pieces, statement_pieces}
 use Rattle.ds_gql.proofs.SentenceLaws.{sentences_are_read}
 use Rattle.ds_gql.proofs.TokenLaws.{chosen, passed, both, mark_token, tokens_read}

@@ -1,5 +1,6 @@
 -- How what is printed grows, token by token.
-use Rattle.std.proofs.Common.{◌≡◌, ℕ, ◌+◌, ◌-◌, ◌<◌, ◌≤◌, ◌^◌, zero, suc, Bool, true, false, cond, not, List, [], ◌∷◌, ◌++◌, Some, length, take, drop, get_or, refl, sym, ap, ◌∙◌, subst, arith, append_assoc, append-nil, length-append}
+use Rattle.std.proofs.Common.{◌≡◌, ℕ, ◌+◌, ◌-◌, ◌<◌, ◌≤◌, ◌^◌, zero, suc, Bool, true, false, cond, not, List, [], ◌∷◌, ◌++◌, Some, length}
+use Rattle.std.proofs.Common.{take, drop, get_or, refl, sym, ap, ◌∙◌, subst, arith, append_assoc, append-nil, length-append}
 use Rattle.std.specs.Prelude.{◌&&◌, decimal}
 use Rattle.std.specs.String.{string_bytes}
 use Rattle.std.specs.List.{list_all, before_first, after_first, position_or_len}
@@ -19,8 +20,9 @@ use Rattle.ds_gql.specs.declared.token.Mark.TheVariants as mark
 use Rattle.ds_gql.specs.Pieces.{Piece, fixed, name, numbered, is}
 use Rattle.ds_gql.specs.Tokens.{is_quote}
 use Rattle.ds_gql.specs.Sentences.{Operand, comma, others, led_by, operand_pieces, condition_pieces}
-use Rattle.ds_gql.specs.Printing.{written, behind_space, spaced, has_literal, cited, all_cited, filter_values, ancestor_values, sign_of, key_operand, operand_of, operands_of, condition_by, condition_of, conditions_of, all_conditions, doubled}
-use Rattle.ds_gql.specs.Printers.{IsToken, AreTokens, is_lawful, Appends, Cites, Puts, operator_pieces}
+use Rattle.ds_gql.specs.Printing.{written, behind_space, spaced, has_literal, cited, all_cited, filter_values, ancestor_values, sign_of}
+use Rattle.ds_gql.specs.Printing.{key_operand, operand_of, operands_of, condition_by, condition_of, conditions_of, all_conditions, doubled}
+use Rattle.ds_gql.specs.Printers.{IsToken, AreTokens, is_lawful, PutsText, Cites, Puts, operator_pieces}
 use Rattle.ds_gql.proofs.TokenLaws.{passed, numbered_token}
 
 -- ---- one behind another
@@ -31,7 +33,7 @@ tokens_joined (p ∷ ps) qs one two = (one.0, tokens_joined ps qs one.1 two)
 
 module _ (s t u : Printer) where
   -- one text behind another
-  pub appends_joined : (a b : List ℕ) → Appends a s t → Appends b t u → Appends (a ++ b) s u
+  pub appends_joined : (a b : List ℕ) → PutsText a s t → PutsText b t u → PutsText (a ++ b) s u
   appends_joined a b one two ok =
       let second = two ok in
       let first = one second.0 in
@@ -69,23 +71,23 @@ puts_nothing s ok = (ok, sym (append-nil (string_bytes s.text)), sym (append-nil
 
 -- ---- single tokens
 
-pub puts_token : (s u : Printer) (p : Piece) (text : List ℕ) → IsToken p → text ≡ 32 ∷ written p → Appends text s u → Puts (p ∷ []) [] s u
+pub puts_token : (s u : Printer) (p : Piece) (text : List ℕ) → IsToken p → text ≡ 32 ∷ written p → PutsText text s u → Puts (p ∷ []) [] s u
 puts_token s u p text token text_is appends ok =
     let done = appends ok in
     let whole : text ≡ spaced (p ∷ []) = text_is ∙ sym (passed _ _ _ token.not_end) ∙ sym (append-nil (behind_space p)) in
     (done.0, done.1 ∙ ap (λ t. string_bytes s.text ++ t) whole, done.2 ∙ sym (append-nil s.args), (token, tt), refl)
 
 -- a space, and a token's text
-pub puts_spaced : (s t u : Printer) (p : Piece) (text : List ℕ) → IsToken p → text ≡ written p → Appends (32 ∷ []) s t → Appends text t u → Puts (p ∷ []) [] s u
+pub puts_spaced : (s t u : Printer) (p : Piece) (text : List ℕ) → IsToken p → text ≡ written p → PutsText (32 ∷ []) s t → PutsText text t u → Puts (p ∷ []) [] s u
 puts_spaced s t u p text token text_is one two = puts_token s u p (32 ∷ text) token (ap (λ x. 32 ∷ x) text_is) (appends_joined s t u (32 ∷ []) text one two)
 
 -- the same of three texts
-pub puts_three : (s t w u : Printer) (p : Piece) (a b c : List ℕ) → IsToken p → a ++ (b ++ c) ≡ 32 ∷ written p → Appends a s t → Appends b t w → Appends c w u → Puts (p ∷ []) [] s u
+pub puts_three : (s t w u : Printer) (p : Piece) (a b c : List ℕ) → IsToken p → a ++ (b ++ c) ≡ 32 ∷ written p → PutsText a s t → PutsText b t w → PutsText c w u → Puts (p ∷ []) [] s u
 puts_three s t w u p a b c token text_is one two three =
     puts_token s u p (a ++ (b ++ c)) token text_is (appends_joined s t u a (b ++ c) one (appends_joined t w u b c two three))
 
 -- the binding of an argument that was just pushed
-pub puts_argument : (s t u : Printer) (v : Value) → has_literal v ≡ false → is_lawful v ≡ true → Cites v s t → length t.args < 2 ^ 64 → Appends (32 ∷ 58 ∷ decimal (length t.args)) t u → Puts (numbered (length s.args + 1) ∷ []) (v ∷ []) s u
+pub puts_argument : (s t u : Printer) (v : Value) → has_literal v ≡ false → is_lawful v ≡ true → Cites v s t → length t.args < 2 ^ 64 → PutsText (32 ∷ 58 ∷ decimal (length t.args)) t u → Puts (numbered (length s.args + 1) ∷ []) (v ∷ []) s u
 puts_argument s t u v bound lawful cites small appends ok =
     let done = appends ok in
     let cited_so = cites done.0 in
@@ -131,11 +133,11 @@ doubled_none (b ∷ bytes) none = by (is_quote b) refl (doubled_none bytes) none
 
 -- one more run and its quote
 pub doubled_step : (s t w u : Printer) (rest run behind : List ℕ) → position_or_len is_quote rest < length rest → run ≡ before_first is_quote rest → behind ≡ after_first is_quote rest
-    → Appends run s t → Appends (39 ∷ 39 ∷ []) t w → Appends (doubled behind) w u → Appends (doubled rest) s u
+    → PutsText run s t → PutsText (39 ∷ 39 ∷ []) t w → PutsText (doubled behind) w u → PutsText (doubled rest) s u
 doubled_step s t w u rest run behind within run_is behind_is one two three =
     let whole : run ++ 39 ∷ 39 ∷ doubled behind ≡ doubled rest =
     ap (λ r. r ++ (39 ∷ 39 ∷ doubled behind)) run_is ∙ ap (λ t. before_first is_quote rest ++ 39 ∷ 39 ∷ doubled t) behind_is ∙ sym (doubled_turn rest within) in
-    subst (λ (x : List ℕ). Appends x s u) whole
+    subst (λ (x : List ℕ). PutsText x s u) whole
     (appends_joined s t u run (39 ∷ 39 ∷ doubled behind) one (appends_joined t w u (39 ∷ 39 ∷ []) (doubled behind) two three))
 
 -- ---- lists

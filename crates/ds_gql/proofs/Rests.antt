@@ -18,8 +18,12 @@ use Rattle.ds_gql.specs.declared.draft.KeyFor.TheVariants as for
 use Rattle.ds_gql.specs.declared.token.Mark.{Mark}
 use Rattle.ds_gql.specs.declared.token.Mark.TheVariants as mark
 use Rattle.ds_gql.specs.Pieces.{Piece, fixed, name, integer}
-use Rattle.ds_gql.specs.Steps.{selected, key_name, key_in, count_of}
-use Rattle.ds_gql.specs.Sentences.{Operand, Condition, Conditions, Order, Limits, none, limit, limit_offset, pair, offset, comma, others, led_by, name_pieces, kind_pieces, elem_pieces, ident_piece, operand_pieces, condition_pieces, direction_pieces, order_pieces, limits_pieces, is_kind, operand_value, operand_values, with_condition, with_conditions, column_of}
+use Rattle.ds_gql.specs.Steps.{selected, key_in, count_of}
+use Rattle.ds_base.specs.KeyColumn.{key_name}
+use Rattle.ds_gql.specs.Sentences.{Operand, Condition, Conditions, Order, Limits, none, limit, limit_offset, pair, offset, comma, others}
+use Rattle.ds_gql.specs.Sentences.{led_by, name_pieces, kind_pieces, elem_pieces, ident_piece, operand_pieces, condition_pieces}
+use Rattle.ds_gql.specs.Sentences.{direction_pieces, order_pieces, limits_pieces, is_kind, operand_value, operand_values, with_condition}
+use Rattle.ds_gql.specs.Sentences.{with_conditions, column_of}
 use Rattle.ds_gql.proofs.SentenceSteps.{Shown, Open}
 use Rattle.ds_gql.proofs.ConditionSteps.{with_found}
 

@@ -1,5 +1,6 @@
 -- Sentences are read, and where a text stops no sentence goes on.
-use Rattle.std.proofs.Common.{◌≡◌, ℕ, zero, suc, Bool, true, false, cond, not, List, [], ◌∷◌, ◌++◌, length, map, Option, Some, None, Ok, Err, ◌⊎◌, inl, inr, refl, sym, ap, ◌∙◌, subst, arith, append_assoc, append-nil}
+use Rattle.std.proofs.Common.{◌≡◌, ℕ, zero, suc, Bool, true, false, cond, not, List, [], ◌∷◌, ◌++◌, length, map, Option, Some, None, Ok}
+use Rattle.std.proofs.Common.{Err, ◌⊎◌, inl, inr, refl, sym, ap, ◌∙◌, subst, arith, append_assoc, append-nil}
 use Rattle.std.specs.Prelude.{option_map, unwrap_or, pos, ◌&&◌, ◌||◌, ◌==◌, bytes_eq}
 use Rattle.std.specs.List.{list_any}
 use Rattle.std.proofs.lemmas.Bool.{and_parts}
@@ -16,9 +17,13 @@ use Rattle.ds_gql.specs.declared.draft.Draft.{Draft}
 use Rattle.ds_gql.specs.declared.token.Mark.TheVariants as mark
 use Rattle.ds_gql.specs.Pieces.{Piece, fixed, name, integer, strange, is}
 use Rattle.ds_gql.specs.Tokens.{Front, Token, tokens_from, tokens_of, front, is_blank}
-use Rattle.ds_gql.specs.Steps.{step, empty, complete, selected, projected, count_of, key_name, limit_by, offset_by, paired_by}
+use Rattle.ds_gql.specs.Steps.{step, empty, complete, selected, projected, count_of, limit_by, offset_by, paired_by}
+use Rattle.ds_base.specs.KeyColumn.{key_name}
 use Rattle.ds_gql.specs.Statements.{read_on, stepped, statement_of}
-use Rattle.ds_gql.specs.Sentences.{What, everything, keys, names, Condition, Conditions, Order, Limits, none, limit, limit_offset, pair, offset, Sentence, comma, others, led_by, name_pieces, what_pieces, kind_pieces, condition_pieces, direction_pieces, order_pieces, limits_pieces, pieces, is_what, select_of, is_kind, with_conditions, column_of, bounds_of, says, Derives}
+use Rattle.ds_gql.specs.Sentences.{What, everything, keys, names, Condition, Conditions, Order, Limits, none, limit, limit_offset, pair}
+use Rattle.ds_gql.specs.Sentences.{offset, Sentence, comma, others, led_by, name_pieces, what_pieces, kind_pieces, condition_pieces}
+use Rattle.ds_gql.specs.Sentences.{direction_pieces, order_pieces, limits_pieces, pieces, is_what, select_of, is_kind, with_conditions}
+use Rattle.ds_gql.specs.Sentences.{column_of, bounds_of, says, Derives}
 use Rattle.ds_gql.specs.GqlLaws.{pieces_of, SentencesAreRead, NoSentenceGoesOn}
 use Rattle.ds_gql.proofs.SentenceSteps.{Shown, Open, draft, stepped_to, read_pieces, Goes, stay, more, chain_some, map_some, only_if}
 use Rattle.ds_gql.proofs.ConditionSteps.{with_found, first_conditions}

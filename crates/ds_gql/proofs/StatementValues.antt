@@ -1,5 +1,6 @@
 -- Each filter of a statement has the values of its operator: one, and at least one behind IN.
-use Rattle.std.proofs.Common.{◌≡◌, ℕ, ◌≤◌, Bool, true, false, List, [], ◌∷◌, ◌++◌, length, Option, Some, None, Result, Ok, Err, IsTrue, IfOk, refl, ap, sym, ◌∙◌, subst, arith, if◌then◌else◌, unwrap_or}
+use Rattle.std.proofs.Common.{◌≡◌, ℕ, ◌≤◌, Bool, true, false, List, [], ◌∷◌, ◌++◌, length, Option, Some, None, Result, Ok, Err, IsTrue}
+use Rattle.std.proofs.Common.{IfOk, refl, ap, sym, ◌∙◌, subst, arith, if◌then◌else◌, unwrap_or}
 use Rattle.std.specs.Prelude.{◌&&◌, nat_le, option_and_then}
 use Rattle.std.specs.List.{list_all}
 use Rattle.std.proofs.Common.{length-append}

@@ -1,5 +1,6 @@
 -- What is written of a token is read as that token.
-use Rattle.std.proofs.Common.{◌≡◌, ℕ, suc, ◌+◌, ◌-◌, ◌<◌, ◌≤◌, ◌^◌, Bool, true, false, cond, not, List, [], ◌∷◌, ◌++◌, length, take, get_or, Option, Some, None, refl, sym, ap, ◌∙◌, arith, append_assoc, length-append, eqb-true, ℤ, FitsSigned, w64}
+use Rattle.std.proofs.Common.{◌≡◌, ℕ, suc, ◌+◌, ◌-◌, ◌<◌, ◌≤◌, ◌^◌, Bool, true, false, cond, not, List, [], ◌∷◌, ◌++◌, length, take, get_or}
+use Rattle.std.proofs.Common.{Option, Some, None, refl, sym, ap, ◌∙◌, arith, append_assoc, length-append, eqb-true, ℤ, FitsSigned, w64}
 use Rattle.std.specs.Prelude.{pos, negsuc, neg_ℤ, nat_lt, nat_le, ◌&&◌, ◌||◌, ◌==◌, option_map, unwrap_or, is_some, decimal, codes}
 use Rattle.std.specs.Char.{is_ascii_digit}
 use Rattle.std.specs.List.{list_all, list_any, prefix_len, position_or_len}
@@ -14,7 +15,9 @@ use borrow.Author.Tests.{lt-ltb, le-leb}
 use Rattle.ds_gql.specs.declared.token.Mark.{Mark}
 use Rattle.ds_gql.specs.declared.token.Mark.TheVariants as mark
 use Rattle.ds_gql.specs.Pieces.{Piece, fixed, name, integer, string, numbered, undoubled, is}
-use Rattle.ds_gql.specs.Tokens.{Front, tokens_from, front, is_blank, begins_word, is_word_byte, is_quote, is_double_quote, lookup, keywords, word_by, word_of, word, quoted_name, string_by, string_front, closing, integer_of, integer_by, integer_front, numbered_front, binding, sign}
+use Rattle.ds_gql.specs.Tokens.{Front, tokens_from, front, is_blank, begins_word, is_word_byte, is_quote, is_double_quote, lookup, keywords}
+use Rattle.ds_gql.specs.Tokens.{word_by, word_of, word, quoted_name, string_by, string_front, closing, integer_of, integer_by}
+use Rattle.ds_gql.specs.Tokens.{integer_front, numbered_front, binding, sign}
 use Rattle.ds_gql.specs.GqlLaws.{pieces_of}
 use Rattle.ds_gql.specs.Printing.{is_written_name, is_plain, doubled, written, spaced}
 use Rattle.ds_gql.specs.Printers.{IsToken, AreTokens}

@@ -8,7 +8,7 @@ use Rattle.ds_gql.specs.Pieces.{Piece}
 use Rattle.ds_gql.specs.Tokens.{Token, tokens_of}
 use Rattle.ds_gql.specs.Sentences.{Derives}
 use Rattle.ds_gql.specs.Statements.{statement_of}
-use Rattle.ds_gql.specs.Printing.{can_print}
+use Rattle.ds_gql.specs.Printing.{can_print, has_written_names}
 
 abbrev pub pieces_of : List Token → List Piece
 pieces_of tokens = map (λ t. t.piece) tokens
@@ -23,9 +23,10 @@ abbrev pub OnlySentencesAreRead : Type 0
 OnlySentencesAreRead =
     (given : Bindings) (text : List ℕ) (st : Statement) → statement_of text given ≡ Ok st → Derives given (pieces_of (tokens_of text)) st
 
--- `print` takes what a text says
+-- `print` takes what a text says, and each of its names can be written
 abbrev pub StatementsCanBePrinted : Type 0
-StatementsCanBePrinted = (given : Bindings) (text : List ℕ) (st : Statement) → statement_of text given ≡ Ok st → can_print st ≡ true
+StatementsCanBePrinted = (given : Bindings) (text : List ℕ) (st : Statement) → statement_of text given ≡ Ok st
+    → (can_print st ≡ true) × (has_written_names st ≡ true)
 
 -- no sentence begins with the tokens up to the one at this place
 pub record StopsAt (given : Bindings) (tokens : List Token) (place : ℕ) : Type 0 where

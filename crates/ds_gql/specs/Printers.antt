@@ -36,8 +36,8 @@ is_lawful (value.Key k) = is_path k.elems
 is_lawful _ = true
 
 -- this text stands behind what was printed; nothing is promised where memory was refused
-abbrev pub Appends : List ℕ → Printer → Printer → Type 0
-Appends text old new =
+abbrev pub PutsText : List ℕ → Printer → Printer → Type 0
+PutsText text old new =
     new.refused ≡ false → (old.refused ≡ false) × (string_bytes new.text ≡ string_bytes old.text ++ text) × (new.args ≡ old.args)
 
 -- this value is the last argument

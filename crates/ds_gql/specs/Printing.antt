@@ -19,7 +19,7 @@ use Rattle.ds_gql.specs.declared.token.Mark.{Mark}
 use Rattle.ds_gql.specs.declared.token.Mark.TheVariants as mark
 use Rattle.ds_gql.specs.Pieces.{Piece, fixed, name, integer, string, numbered, named, strange, is}
 use Rattle.ds_gql.specs.Tokens.{begins_word, is_word_byte, is_quote, is_double_quote, lookup, keywords}
-use Rattle.ds_gql.specs.Steps.{key_name}
+use Rattle.ds_base.specs.KeyColumn.{key_name}
 use Rattle.ds_gql.specs.Sentences.{What, everything, keys, names, Operand, one, key, Condition, compare}
 use Rattle.ds_gql.specs.Sentences.{among, under, Order, Limits, none, limit, limit_offset, offset, Sentence, pieces}
 

@@ -19,7 +19,8 @@ use Rattle.ds_gql.specs.declared.statement.Statement.{Statement}
 use Rattle.ds_gql.specs.declared.token.Mark.{Mark}
 use Rattle.ds_gql.specs.declared.token.Mark.TheVariants as mark
 use Rattle.ds_gql.specs.Pieces.{Piece, fixed, name, integer, string}
-use Rattle.ds_gql.specs.Steps.{value_of, key_in, compare_of, count_of, no_ancestor, key_name}
+use Rattle.ds_gql.specs.Steps.{value_of, key_in, compare_of, count_of, no_ancestor}
+use Rattle.ds_base.specs.KeyColumn.{key_name}
 
 -- ---- the parts of a sentence
 

@@ -1,5 +1,6 @@
 -- Which statement a GQL text is, or at which byte it stops being one.
 use Rattle.std.specs.Prelude.{◌≡◌, ℕ, List, [], ◌∷◌, Option, Some, None, Result, Ok, Err, if◌then◌else◌}
+use Rattle.ds_base.specs.Memory.{UnlessNoMemory}
 use Rattle.ds_gql.specs.declared.statement.Bindings.{Bindings}
 use Rattle.ds_gql.specs.declared.statement.Statement.{Statement}
 use Rattle.ds_gql.specs.declared.statement.GqlRefused.{GqlRefused}
@@ -25,8 +26,11 @@ read_on given d (t ∷ tokens) = stepped (step given d t.piece) t (λ next. read
 unfoldable pub statement_of : List ℕ → Bindings → Result Statement ℕ
 statement_of text given = read_on given empty (tokens_of text)
 
--- what a reader promises of its result: nothing where memory was refused
-abbrev pub Reads : {A : Type 0} → Result A ℕ → Result A GqlRefused → Type 0
-Reads {A = A} read (Ok found) = read ≡ Ok found
-Reads {A = A} read (Err (refused.At place)) = read ≡ Err place
-Reads {A = A} read (Err refused.NoMemory) = Unit {0}
+-- the place where a text stops being a statement, but for want of memory
+abbrev pub refused_at : GqlRefused → Option ℕ
+refused_at (refused.At place) = Some place
+refused_at refused.NoMemory = None
+
+-- what is read is what the definition gives, a statement or a place
+abbrev pub IsReadAs : {A : Type 0} → Result A ℕ → Result A GqlRefused → Type 0
+IsReadAs {A = A} read result = UnlessNoMemory refused_at (λ told. read ≡ told) result

@@ -1,7 +1,9 @@
 -- What may stand behind what has been read of a GQL text, token by token. Each part of the grammar is a small group of phases; a
 -- token that no sentence has at its place takes no step. What a whole sentence looks like stands in `Sentences`.
-use Rattle.std.specs.Prelude.{ℕ, ◌-◌, ℤ, pos, negsuc, Bool, true, false, ◌==◌, nat_lt, nat_le, if◌then◌else◌, bytes_eq, codes, List, [], ◌∷◌, ◌++◌, length, slice_get}
+use Rattle.std.specs.Prelude.{ℕ, ◌-◌, ℤ, pos, negsuc, Bool, true, false, ◌==◌, nat_lt, nat_le, if◌then◌else◌, bytes_eq, codes, List, []}
+use Rattle.std.specs.Prelude.{◌∷◌, ◌++◌, length, slice_get}
 use Rattle.std.specs.Prelude.{Option, Some, None, option_map, option_and_then, unwrap_or}
+use Rattle.ds_base.specs.KeyColumn.{key_name}
 use Rattle.ds_base.specs.Limits.{most_results, most_elements}
 use Rattle.ds_base.specs.Keys.{KeyParts, is_name, is_ident, is_path}
 use Rattle.ds_base.specs.declared.key.Ident.{Ident}
@@ -165,9 +167,6 @@ abbrev pub at_kind : Draft → Piece → Option Draft
 at_kind d p = if is mark.From p then on phase.From d else at_conditions d p
 
 -- ---- what is selected, and of which kind
-
-abbrev pub key_name : List ℕ
-key_name = codes "__key__"
 
 abbrev pub projected : Draft → List ℕ → Option Draft
 projected d text = Some (record d { phase = phase.NameRead; names = d.names ++ text ∷ [] })

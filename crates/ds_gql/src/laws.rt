@@ -27,7 +27,7 @@ pub fn statements_have_values()
     ensures { StatementsHaveValues }
 {}
 
-/// `can_print` takes every statement that a text says.
+/// `print` takes every statement that a text says, and never refuses one of its names.
 pub fn statements_can_be_printed()
     ensures { StatementsCanBePrinted }
 {}

@@ -1,5 +1,5 @@
 //! From a text to a statement.
-ghost use Rattle.ds_gql.specs.Statements.{Reads, statement_of};
+ghost use Rattle.ds_gql.specs.Statements.{IsReadAs, statement_of};
 
 use crate::arguments::Arguments;
 use crate::draft::Draft;
@@ -14,14 +14,14 @@ use std::alloc::Global;
 /// The text is read once from its front, token by token; strings and names are copied once. The names of arguments are put in
 /// order first, so that each is found without a look at the others.
 pub fn parse(alloc: Global, text: &str, bindings: &Bindings) -> Result<Statement, GqlRefused>
-    ensures { Reads (statement_of text.now bindings.now) result }
+    ensures { IsReadAs (statement_of text.now bindings.now) result }
 {
     let arguments = Arguments::of(alloc, bindings)?;
     read(alloc, text, &arguments)
 }
 
 fn read(alloc: Global, text: &str, arguments: &Arguments<'_>) -> Result<Statement, GqlRefused>
-    ensures { Reads (statement_of text.now arguments.now) result }
+    ensures { IsReadAs (statement_of text.now arguments.now) result }
 {
     let mut draft = Draft::new(alloc);
     let mut rest = text;

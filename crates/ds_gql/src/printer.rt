@@ -2,7 +2,7 @@
 ghost use Rattle.std.specs.Prelude.{◌≡◌, ◌≤◌, ◌<◌, ◌^◌, ◌+◌, [], ◌∷◌, length, pos, decimal, true, false};
 ghost use Rattle.ds_base.specs.Limits.{greatest_id};
 ghost use Rattle.ds_gql.specs.Pieces.{fixed, integer, name, numbered, string, is};
-ghost use Rattle.ds_gql.specs.Printers.{Appends, Cites, Puts, is_lawful};
+ghost use Rattle.ds_gql.specs.Printers.{PutsText, Cites, Puts, is_lawful};
 ghost use Rattle.ds_gql.specs.Printing.{mark_text, is_plain, is_written_name, doubled, has_literal};
 ghost use Rattle.ds_gql.specs.declared.token.Mark.TheVariants as variants;
 
@@ -27,7 +27,7 @@ pub(crate) struct Printer {
 impl Printer {
     /// Puts a text behind what was printed.
     fn append(&mut self, text: &str)
-        ensures { Appends text.now self.old self.new }
+        ensures { PutsText text.now self.old self.new }
     {
         if self.refused {
             return;
@@ -112,7 +112,7 @@ impl Printer {
 
     /// The binding of the last argument.
     fn put_last_number(&mut self)
-        ensures text { Appends (32 ∷ 58 ∷ decimal (length self.old.args)) self.old self.new }
+        ensures text { PutsText (32 ∷ 58 ∷ decimal (length self.old.args)) self.old self.new }
         ensures bounded { length self.old.args < 2 ^ 64 }
     {
         let number = self.cited();

@@ -6,17 +6,16 @@ ghost use Rattle.ds_query.specs.declared.query.Select.TheVariants as select;
 ghost use Rattle.ds_gql.specs.Printing.{can_print, is_selection, is_short_kind, is_count, is_written_name, has_written_names};
 ghost use Rattle.ds_gql.specs.Printing.{has_written_properties, has_written_orders, selected_names, kind_names, text_of, args_of};
 ghost use Rattle.ds_gql.specs.Statements.{statement_of};
-ghost use Rattle.ds_gql.specs.Steps.{key_name};
+ghost use Rattle.ds_base.specs.KeyColumn.{key_name};
 ghost use Rattle.ds_gql.specs.Tokens.{is_double_quote};
 ghost use Rattle.ds_gql.specs.declared.printing.PrintRefused.TheVariants as refused;
 
 use crate::printer::Printer;
 use crate::printer::values::is_default;
 use crate::statement::Statement;
-use crate::steps::selection::is_key_name;
 use ds_base::limits::{MAX_NAME_BYTES, MAX_RESULTS};
-use ds_base::{Column, NoMemory, TextString, Values};
-use ds_query::{Filter, Op, Select};
+use ds_base::{Column, NoMemory, TextString, Values, is_key_name};
+use ds_query::{Filter, Select};
 use std::alloc::Global;
 
 /// A statement as a text with its arguments.
@@ -116,16 +115,7 @@ fn is_count(limit: Option<u32>) -> bool
 fn have_operands(filters: &[Filter]) -> bool
     ensures { result ≡ list_all has_operands filters.now }
 {
-    filters.iter().all(|filter| has_operands(filter))
-}
-
-fn has_operands(filter: &Filter) -> bool
-    ensures { result ≡ has_operands filter.now }
-{
-    match filter.op {
-        Op::OneOf => filter.values.len() >= 1,
-        _ => filter.values.len() == 1,
-    }
+    filters.iter().all(|filter| filter.has_operands())
 }
 
 fn is_selection(select: &Select) -> bool
@@ -150,7 +140,7 @@ fn are_selected(names: &[TextString]) -> bool
 fn has_key_name(names: &[TextString]) -> bool
     ensures { result ≡ list_any (λ name. bytes_eq name key_name) names.now }
 {
-    names.iter().any(|name| is_key_name(name.text()))
+    names.iter().any(|name| is_key_name(name))
 }
 
 /// Whether the kind and each property can be written.

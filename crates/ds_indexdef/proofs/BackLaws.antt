@@ -1,5 +1,7 @@
 -- What is written is read as the same definitions.
-use Rattle.std.proofs.Common.{◌≡◌, ◌<◌, ◌≤◌, ◌+◌, ℕ, zero, suc, Bool, true, false, not, ◌&&◌, ◌||◌, cond, List, [], ◌∷◌, ◌++◌, length, map, refl, sym, ap, subst, ◌∙◌, arith, append_assoc, append-nil, eqb, take, ◌-◌, length-append, nat_lt, nat_le, Option, Some, None, Ok, Err, Result}
+use Rattle.std.proofs.Common.{◌≡◌, ◌<◌, ◌≤◌, ◌+◌, ℕ, zero, suc, Bool, true, false, not, ◌&&◌, ◌||◌, cond, List, [], ◌∷◌, ◌++◌, length, map}
+use Rattle.std.proofs.Common.{refl, sym, ap, subst, ◌∙◌, arith, append_assoc, append-nil, eqb, take, ◌-◌, length-append, nat_lt, nat_le}
+use Rattle.std.proofs.Common.{Option, Some, None, Ok, Err, Result}
 use Rattle.std.specs.Prelude.{codes, IfOk, bytes_eq, slice_index, option_and_then, IsTrue}
 use Rattle.std.specs.List.{flat_map, list_all, list_any, slice_split, onto_first, IsDistinct, AllByRecursion}
 use Rattle.std.specs.Str.{is_utf8, IsUtf8, IsAscii}
@@ -11,11 +13,16 @@ use Rattle.ds_base.specs.Keys.{is_name, is_reserved}
 use Rattle.ds_base.specs.declared.column.Column.{Column}
 use Rattle.ds_indexdef.specs.Definitions.{same_def, AreDefs}
 use Rattle.ds_indexdef.specs.DefinitionLaws.{same_def-decides}
-use Rattle.ds_indexdef.specs.Lines.{is_newline, is_blank, is_space, lines_of, ended, before_comment, without_front, without_end, kept_before, cut}
-use Rattle.ds_indexdef.specs.Forms.{key_name, is_name_byte, is_plain, is_kind, is_property, either, kind_form, name_form, form_of_cut, form_of}
-use Rattle.ds_indexdef.specs.Reading.{Line, numbered, numbered_before, yaml_of, ends_in_key, is_builtin, definition_of, adds_nothing, with_entry}
-use Rattle.ds_indexdef.specs.Grammar.{says, are_orderly, AreProperties, one, several, directed, given, entry, AreEntries, none, further, IsFile, indexes, with_entries, lines_in}
-use Rattle.ds_indexdef.specs.Text.{line, name_line, direction_line, column_lines, kind_line, ancestor_line, written_columns, def_lines, written_lines, text_of, has_property_names, can_write_def, can_write}
+use Rattle.ds_indexdef.specs.Lines.{is_newline, is_blank, is_space, lines_of, ended, before_comment, without_front, without_end}
+use Rattle.ds_indexdef.specs.Lines.{kept_before, cut}
+use Rattle.ds_indexdef.specs.Forms.{is_name_byte, is_plain, is_kind, is_property, either, kind_form, name_form, form_of_cut, form_of}
+use Rattle.ds_base.specs.KeyColumn.{key_name}
+use Rattle.ds_indexdef.specs.Reading.{Line, numbered, numbered_before, yaml_of, ends_in_key, is_builtin, definition_of, adds_nothing}
+use Rattle.ds_indexdef.specs.Reading.{with_entry}
+use Rattle.ds_indexdef.specs.Grammar.{says, are_orderly, AreProperties, one, several, directed, given, entry, AreEntries, none, further}
+use Rattle.ds_indexdef.specs.Grammar.{IsFile, indexes, with_entries, lines_in}
+use Rattle.ds_indexdef.specs.Text.{line, name_line, direction_line, column_lines, kind_line, ancestor_line, written_columns, def_lines}
+use Rattle.ds_indexdef.specs.Text.{written_lines, text_of, has_property_names, can_write_def, can_write}
 use Rattle.ds_indexdef.specs.declared.IndexDef.{IndexDef}
 use Rattle.ds_indexdef.specs.declared.form.Form.{Form}
 use Rattle.ds_indexdef.specs.declared.form.Form.TheVariants.{Indexes, Kind, Ancestor, Properties, Name, Direction, Wrong}

@@ -1,7 +1,9 @@
 -- What changing the last column of an entry does.
-use Rattle.std.proofs.Common.{◌≡◌, ◌<◌, ◌+◌, ◌-◌, ℕ, zero, suc, List, [], ◌∷◌, ◌++◌, Bool, length, get_or, set, refl, sym, ap, subst, ◌∙◌, arith}
+use Rattle.std.proofs.Common.{◌≡◌, ◌<◌, ◌+◌, ◌-◌, ℕ, zero, suc, List, [], ◌∷◌, ◌++◌, Bool, length, get_or, set, refl, sym, ap, subst, ◌∙◌}
+use Rattle.std.proofs.Common.{arith}
 use Rattle.ds_base.specs.declared.column.Column.{Column}
-use Rattle.ds_indexdef.specs.Reading.{turned_columns, ends_in_key, is_key_ascending}
+use Rattle.ds_base.specs.KeyColumn.{is_ascending_key}
+use Rattle.ds_indexdef.specs.Reading.{turned_columns, ends_in_key}
 
 turned_columns-at : (xs : List Column) (i : ℕ) (d : Column) (descending : Bool) → length xs ≡ suc i
     → turned_columns xs descending ≡ set xs i (record { name = (get_or xs i d).name; descending = descending })
@@ -31,12 +33,12 @@ turned_columns-by items columns n r descending same count h is =
     subst P (sym count) (λ e pos. ap (λ (c : Column). set items (length items - 1) (record { name = c.name; descending = descending })) e ∙ sym (turned_columns-set items r descending pos)) is h
     ∙ ap (λ xs. turned_columns xs descending) same
 
-ends_in_key-at : (xs : List Column) (i : ℕ) (d : Column) → length xs ≡ suc i → ends_in_key xs ≡ is_key_ascending (get_or xs i d)
+ends_in_key-at : (xs : List Column) (i : ℕ) (d : Column) → length xs ≡ suc i → ends_in_key xs ≡ is_ascending_key (get_or xs i d)
 ends_in_key-at [] i d e = absurd (omega (arith, e))
 ends_in_key-at (c ∷ []) zero d e = refl
 ends_in_key-at (c ∷ []) (suc i) d e = absurd (omega (arith, e))
 ends_in_key-at (c ∷ x ∷ more) zero d e = absurd (omega (arith, e))
 ends_in_key-at (c ∷ x ∷ more) (suc i) d e = ends_in_key-at (x ∷ more) i d (omega (arith, e))
 
-pub ends_in_key-last : (xs : List Column) (d : Column) → 0 < length xs → ends_in_key xs ≡ is_key_ascending (get_or xs (length xs - 1) d)
+pub ends_in_key-last : (xs : List Column) (d : Column) → 0 < length xs → ends_in_key xs ≡ is_ascending_key (get_or xs (length xs - 1) d)
 ends_in_key-last xs d h = ends_in_key-at xs (length xs - 1) d (omega arith)

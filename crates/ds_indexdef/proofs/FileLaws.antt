@@ -1,16 +1,22 @@
 -- What is read of the lines of a file is what the grammar says of them: the definitions of its entries, or the line that is refused.
-use Rattle.std.proofs.Common.{◌≡◌, ℕ, Bool, true, false, not, ◌||◌, cond, List, [], ◌∷◌, ◌++◌, refl, sym, ap, subst, ◌∙◌, append_assoc, append-nil, Option, Some, None, Ok, Err, Result, ◌⊎◌, inl, inr}
+use Rattle.std.proofs.Common.{◌≡◌, ℕ, Bool, true, false, not, ◌||◌, cond, List, [], ◌∷◌, ◌++◌, refl, sym, ap, subst, ◌∙◌, append_assoc}
+use Rattle.std.proofs.Common.{append-nil, Option, Some, None, Ok, Err, Result, ◌⊎◌, inl, inr}
 use Rattle.std.specs.Prelude.{option_and_then, is_some, codes}
 use Rattle.ds_base.specs.declared.column.Column.{Column}
 use Rattle.ds_indexdef.specs.Forms.{either}
-use Rattle.ds_indexdef.specs.Reading.{Reading, Line, is_bare, takes, next, closed, opened, gone_on, finished, finish, refused, is_start, step, and_then, read_from, nothing_read, with_entry, may_become, with_column, turned, turned_columns}
-use Rattle.ds_indexdef.specs.Grammar.{says, are_orderly, AreProperties, IsFile, one, plain, absent, none, nothing, with_entries, BeginsFile, IsFirstWrong, EndEarly, EndsTooMany, RefusedFor, wrong, early, many}
+use Rattle.ds_indexdef.specs.Reading.{Reading, Line, is_bare, takes, next, closed, opened, gone_on, finished, finish, refused, is_start}
+use Rattle.ds_indexdef.specs.Reading.{step, and_then, read_from, nothing_read, with_entry, may_become, with_column, turned, turned_columns}
+use Rattle.ds_indexdef.specs.Grammar.{says, are_orderly, AreProperties, IsFile, one, plain, absent, none, nothing, with_entries, BeginsFile}
+use Rattle.ds_indexdef.specs.Grammar.{IsFirstWrong, EndEarly, EndsTooMany, RefusedFor, wrong, early, many}
 use Rattle.ds_indexdef.specs.declared.IndexDef.{IndexDef}
 use Rattle.ds_indexdef.specs.declared.form.Form.{Form}
 use Rattle.ds_indexdef.specs.declared.form.Form.TheVariants.{Blank, Indexes, Kind, Ancestor, Properties, Name, Direction, Wrong}
+use Rattle.ds_indexdef.specs.declared.part.Moved.{Moved}
+use Rattle.ds_indexdef.specs.declared.part.Moved.TheVariants.{On, Stuck}
 use Rattle.ds_indexdef.specs.declared.part.Part.{Part}
 use Rattle.ds_indexdef.specs.declared.part.Part.TheVariants.{Start, Listed, Headed, Flagged, Filled}
-use Rattle.ds_indexdef.proofs.GrammarLaws.{moves, moved_by, may_end, closing, closing_by, Rest, start, listed, headed, flagged, filled, done, on, Forward, forward, back, is_fine, orderly-push, orderly-turned}
+use Rattle.ds_indexdef.proofs.GrammarLaws.{moves, moved_by, may_end, closing, closing_by, Rest, start, listed, headed, flagged, filled}
+use Rattle.ds_indexdef.proofs.GrammarLaws.{done, on, Forward, forward, back, is_fine, orderly-push, orderly-turned}
 
 -- ---- definitions of entries
 
@@ -28,12 +34,12 @@ with_entries-append defs more (x ∷ xs) ys e = append-by (with_entry defs x) mo
 
 -- ---- a step that goes on
 
-gone_on-ok : (x : Result Part Part) (defs : List IndexDef) (last n : ℕ) (r : Reading) → gone_on x defs last n ≡ Ok r
+gone_on-ok : (x : Moved) (defs : List IndexDef) (last n : ℕ) (r : Reading) → gone_on x defs last n ≡ Ok r
     → (moved_by x ≡ Some r.part) × (Some defs ≡ Some r.defs) × (r.last ≡ n)
-gone_on-ok (Ok part) defs last n r e =
+gone_on-ok (On part) defs last n r e =
     let same : record { defs = defs; part = part; last = n } ≡ r = cc in
     (ap (λ (s : Reading). Some s.part) same, ap (λ (s : Reading). Some s.defs) same, sym (ap (λ (s : Reading). s.last) same))
-gone_on-ok (Err part) defs last n r e = absurd (cc)
+gone_on-ok (Stuck part) defs last n r e = absurd (cc)
 
 -- what is known of a step
 abbrev pub Steps : Part → List IndexDef → Form → ℕ → Reading → Type 0
@@ -62,10 +68,10 @@ step-ok (Flagged k ancestor) defs last n (Kind kind) r e = absurd (cc)
 step-ok (Filled def fresh) defs last n (Kind kind) r e = opened-ok (is_bare def.columns) (with_entry defs def) last n kind r e
 step-ok p defs last n f r e = gone_on-ok (next p f) defs last n r e
 
-gone_on-from : (x : Result Part Part) (q : Part) (defs more : List IndexDef) (last n : ℕ) → moved_by x ≡ Some q → Some defs ≡ Some more
+gone_on-from : (x : Moved) (q : Part) (defs more : List IndexDef) (last n : ℕ) → moved_by x ≡ Some q → Some defs ≡ Some more
     → gone_on x defs last n ≡ Ok (record { defs = more; part = q; last = n })
-gone_on-from (Ok part) q defs more last n e d = let a : part ≡ q = cc in let b : defs ≡ more = cc in rw (a, b) refl
-gone_on-from (Err part) q defs more last n e d = absurd (cc)
+gone_on-from (On part) q defs more last n e d = let a : part ≡ q = cc in let b : defs ≡ more = cc in rw (a, b) refl
+gone_on-from (Stuck part) q defs more last n e d = absurd (cc)
 
 opened-from : (b : Bool) (w : Option (List IndexDef)) (q : Part) (more : List IndexDef) (last n : ℕ) (kind : List ℕ) → cond b None (Some (Headed kind)) ≡ Some q
     → option_and_then (λ x. Some x) w ≡ Some more

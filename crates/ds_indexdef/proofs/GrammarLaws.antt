@@ -1,15 +1,19 @@
 -- What is left of a file behind each of its parts, in the words of the grammar: a line moves a part on exactly where a rest of a file begins
 -- with it.
-use Rattle.std.proofs.Common.{◌≡◌, ℕ, Bool, true, false, not, ◌&&◌, ◌||◌, cond, List, [], ◌∷◌, ◌++◌, refl, sym, ap, subst, ◌∙◌, append_assoc, Option, Some, None, Ok, Err, Result}
+use Rattle.std.proofs.Common.{◌≡◌, ℕ, Bool, true, false, not, ◌&&◌, ◌||◌, cond, List, [], ◌∷◌, ◌++◌, refl, sym, ap, subst, ◌∙◌}
+use Rattle.std.proofs.Common.{append_assoc, Option, Some, None, Ok, Err, Result}
 use Rattle.std.specs.Prelude.{bytes_eq}
 use Rattle.std.proofs.lemmas.List.Folds.{list_all-append}
 use Rattle.ds_base.specs.declared.column.Column.{Column}
-use Rattle.ds_indexdef.specs.Forms.{key_name}
+use Rattle.ds_base.specs.KeyColumn.{key_name}
 use Rattle.ds_indexdef.specs.Reading.{Line, is_bare, may_follow, takes, next, turned, turned_columns, with_column}
-use Rattle.ds_indexdef.specs.Grammar.{says, lack, are_orderly, IsProperty, AreProperties, IsFlag, IsEntry, AreEntries, IsFile, plain, directed, one, several, absent, given, entry, none, further, nothing, indexes}
+use Rattle.ds_indexdef.specs.Grammar.{says, lack, are_orderly, IsProperty, AreProperties, IsFlag, IsEntry, AreEntries, IsFile, plain}
+use Rattle.ds_indexdef.specs.Grammar.{directed, one, several, absent, given, entry, none, further, nothing, indexes}
 use Rattle.ds_indexdef.specs.declared.IndexDef.{IndexDef}
 use Rattle.ds_indexdef.specs.declared.form.Form.{Form}
 use Rattle.ds_indexdef.specs.declared.form.Form.TheVariants.{Blank, Indexes, Kind, Ancestor, Properties, Name, Direction, Wrong}
+use Rattle.ds_indexdef.specs.declared.part.Moved.{Moved}
+use Rattle.ds_indexdef.specs.declared.part.Moved.TheVariants.{On, Stuck}
 use Rattle.ds_indexdef.specs.declared.part.Part.{Part}
 use Rattle.ds_indexdef.specs.declared.part.Part.TheVariants.{Start, Listed, Headed, Flagged, Filled}
 use Rattle.ds_indexdef.proofs.ColumnLaws.{turned_columns-push}
@@ -90,9 +94,9 @@ orderly-turned (c ∷ x ∷ more) d =
 -- ---- the parts
 
 -- the part after a line; none where the line is wrong there
-abbrev pub moved_by : Result Part Part → Option Part
-moved_by (Ok part) = Some part
-moved_by (Err part) = None
+abbrev pub moved_by : Moved → Option Part
+moved_by (On part) = Some part
+moved_by (Stuck part) = None
 
 abbrev pub moves : Part → Form → Option Part
 moves Start (Kind kind) = None
@@ -160,7 +164,8 @@ Forwards p es (l ∷ left) = Forward p es l left
 -- a line of a name moves an entry on which may take it
 name-moved : (e : IndexDef) (fresh : Bool) (name : List ℕ) → takes e name ≡ true
     → moves (Filled e fresh) (Name name) ≡ Some (Filled (with_column e (record { name = name; descending = false })) true)
-name-moved e fresh name t = ap (λ b. moved_by (cond b (Ok (Filled (with_column e (record { name = name; descending = false })) true)) (Err (Filled e fresh)))) t
+name-moved e fresh name t =
+    ap (λ b. moved_by (cond b (On (Filled (with_column e (record { name = name; descending = false })) true)) (Stuck (Filled e fresh)))) t
 
 on-after : (cs : List Column) (c : Column) (more : List Column) (lines : List Line) → AreProperties lines more → Further true (cs ++ c ∷ []) lines (cs ++ c ∷ more)
 on-after cs c more lines ps = subst (λ x. Further true (cs ++ c ∷ []) lines x) (append_assoc cs (c ∷ []) more) (on true (cs ++ c ∷ []) more lines ps)
@@ -309,7 +314,7 @@ back-direction n e descending left es (filled _ _ more lines columns later f o d
 as_part : (p q : Part) (left : List Line) (es : List IndexDef) → Some p ≡ Some q → Rest q left es → Rest p left es
 as_part p q left es e rest = let same : p ≡ q = cc in subst (λ x. Rest x left es) (sym same) rest
 
-if_ok : (b : Bool) (p q r : Part) → moved_by (cond b (Ok p) (Err q)) ≡ Some r → Some p ≡ Some r
+if_ok : (b : Bool) (p q r : Part) → moved_by (cond b (On p) (Stuck q)) ≡ Some r → Some p ≡ Some r
 if_ok true p q r e = e
 if_ok false p q r e = absurd (cc)
 

@@ -12,7 +12,7 @@ use Rattle.std.proofs.lemmas.Slice.Eq.{bytes_eq-Decides}
 use Rattle.ds_base.specs.KeyOrderLaws.{bytes_cmp-same}
 use Rattle.ds_base.specs.SortingLaws.{list_any-insert_key}
 use Rattle.ds_base.specs.declared.column.Column.{Column}
-use Rattle.ds_indexdef.specs.Forms.{key_name}
+use Rattle.ds_base.specs.KeyColumn.{key_name}
 use Rattle.ds_indexdef.specs.Names.{has_name, have, AreNamesOf}
 use Rattle.ds_indexdef.specs.Reading.{may_follow, turned_columns}
 

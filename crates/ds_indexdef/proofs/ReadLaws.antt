@@ -1,6 +1,6 @@
 -- Reading a file line by line comes to what the definition gives of the whole.
 use Rattle.std.proofs.Common.{◌≡◌, ◌<◌, ◌+◌, ℕ, suc, List, [], ◌∷◌, length, refl, sym, ap, subst, ◌∙◌, arith, Ok, Err, Result}
-use Rattle.ds_indexdef.specs.Answers.{Answers}
+use Rattle.ds_indexdef.specs.Refusals.{GivesUnlessNoMemory}
 use Rattle.ds_indexdef.specs.Forms.{form_of}
 use Rattle.ds_indexdef.specs.Lines.{lines_of}
 use Rattle.ds_indexdef.specs.Reading.{Reading, Line, numbered, numbered_before, and_then, read_from, read_line}
@@ -36,6 +36,6 @@ pub left-on : (rest line more : List ℕ) (form : Form) (r next : Reading) (n : 
 left-on rest line more form r next n lines is stepped = left-line rest line more form r n lines is ∙ ap (λ s. and_then s (λ next. left more next (n + 1))) stepped
 
 pub left-refused : (rest line more : List ℕ) (form : Form) (r : Reading) (n : ℕ) (e : YamlRefused) → lines_of rest ≡ line ∷ lines_of more → form ≡ form_of line
-    → Answers (Err e) (read_line r n form) → Answers (Err e) (left rest r n)
+    → GivesUnlessNoMemory (Err e) (read_line r n form) → GivesUnlessNoMemory (Err e) (left rest r n)
 left-refused rest line more form r n (refused.Line m) lines is stepped = left-line rest line more form r n lines is ∙ ap (λ s. and_then s (λ next. left more next (n + 1))) stepped
 left-refused rest line more form r n refused.NoMemory lines is stepped = tt

@@ -1,22 +1,28 @@
 -- A text that isn't read is refused with the line that the grammar says; one that is read is a file.
-use Rattle.std.proofs.Common.{◌≡◌, ℕ, Bool, true, false, not, ◌||◌, cond, List, [], ◌∷◌, ◌++◌, refl, sym, ap, subst, ◌∙◌, append_assoc, append-nil, Option, Some, None, Ok, Err, Result, ◌⊎◌, inl, inr}
+use Rattle.std.proofs.Common.{◌≡◌, ℕ, Bool, true, false, not, ◌||◌, cond, List, [], ◌∷◌, ◌++◌, refl, sym, ap, subst, ◌∙◌, append_assoc}
+use Rattle.std.proofs.Common.{append-nil, Option, Some, None, Ok, Err, Result, ◌⊎◌, inl, inr}
 use Rattle.std.specs.Prelude.{is_some, codes}
 use Rattle.ds_base.specs.declared.column.Column.{Column}
 use Rattle.ds_indexdef.specs.Forms.{either}
-use Rattle.ds_indexdef.specs.Reading.{Reading, Line, is_bare, may_follow, takes, next, opened, gone_on, finished, finish, refused, step, and_then, read_from, nothing_read, with_entry, may_become, with_column, turned}
-use Rattle.ds_indexdef.specs.Grammar.{says, are_orderly, AreProperties, IsFile, one, plain, absent, none, nothing, with_entries, BeginsFile, IsFirstWrong, EndEarly, EndsTooMany, RefusedFor, wrong, early, many}
+use Rattle.ds_indexdef.specs.Reading.{Reading, Line, is_bare, may_follow, takes, next, opened, gone_on, finished, finish, refused, step}
+use Rattle.ds_indexdef.specs.Reading.{and_then, read_from, nothing_read, with_entry, may_become, with_column, turned}
+use Rattle.ds_indexdef.specs.Grammar.{says, are_orderly, AreProperties, IsFile, one, plain, absent, none, nothing, with_entries, BeginsFile}
+use Rattle.ds_indexdef.specs.Grammar.{IsFirstWrong, EndEarly, EndsTooMany, RefusedFor, wrong, early, many}
 use Rattle.ds_indexdef.specs.declared.IndexDef.{IndexDef}
 use Rattle.ds_indexdef.specs.declared.form.Form.{Form}
 use Rattle.ds_indexdef.specs.declared.form.Form.TheVariants.{Blank, Indexes, Kind, Ancestor, Properties, Name, Direction, Wrong}
+use Rattle.ds_indexdef.specs.declared.part.Moved.{Moved}
+use Rattle.ds_indexdef.specs.declared.part.Moved.TheVariants.{On, Stuck}
 use Rattle.ds_indexdef.specs.declared.part.Part.{Part}
 use Rattle.ds_indexdef.specs.declared.part.Part.TheVariants.{Start, Listed, Headed, Flagged, Filled}
-use Rattle.ds_indexdef.proofs.GrammarLaws.{moves, moved_by, may_end, closing, closing_by, Rest, start, listed, headed, flagged, filled, done, on, Forward, forward, back, is_fine, orderly-push, orderly-turned}
+use Rattle.ds_indexdef.proofs.GrammarLaws.{moves, moved_by, may_end, closing, closing_by, Rest, start, listed, headed, flagged, filled}
+use Rattle.ds_indexdef.proofs.GrammarLaws.{done, on, Forward, forward, back, is_fine, orderly-push, orderly-turned}
 use Rattle.ds_indexdef.proofs.FileLaws.{Steps, step-ok, finish-ok, with_entries-append}
 
 -- ---- the order of columns is kept
 
 name-fine : (b : Bool) (e : IndexDef) (p q : Part) (name : List ℕ) → may_follow e.columns name ≡ b → are_orderly e.columns ≡ true
-    → moved_by (cond b (Ok (Filled (with_column e (record { name = name; descending = false })) true)) (Err p)) ≡ Some q → is_fine q ≡ true
+    → moved_by (cond b (On (Filled (with_column e (record { name = name; descending = false })) true)) (Stuck p)) ≡ Some q → is_fine q ≡ true
 name-fine true e p q name t fine m =
     let same : Filled (with_column e (record { name = name; descending = false })) true ≡ q = cc in
     subst (λ x. is_fine x ≡ true) same (orderly-push e.columns (record { name = name; descending = false }) fine t)
@@ -210,11 +216,11 @@ either-fails p defs last n m N x (inl e) = inl (x, e)
 either-fails p defs last n m N x (inr o) = inr o
 
 -- a wrong line leaves the part as it is
-kept-name : (b : Bool) (p q r : Part) → cond b (Ok p) (Err q) ≡ Err r → r ≡ q
+kept-name : (b : Bool) (p q r : Part) → cond b (On p) (Stuck q) ≡ Stuck r → r ≡ q
 kept-name true p q r e = absurd (cc)
 kept-name false p q r e = cc
 
-next-kept : (p q : Part) (f : Form) → next p f ≡ Err q → q ≡ p
+next-kept : (p q : Part) (f : Form) → next p f ≡ Stuck q → q ≡ p
 next-kept Start q Indexes e = absurd (cc)
 next-kept (Headed kind) q (Ancestor ancestor) e = absurd (cc)
 next-kept (Headed kind) q Properties e = absurd (cc)
@@ -223,13 +229,13 @@ next-kept (Filled entry fresh) q (Name name) e = kept-name (takes entry name) (F
 next-kept (Filled entry true) q (Direction descending) e = absurd (cc)
 next-kept p q f e = cc
 
-gone_on-fails : (x : Result Part Part) (p : Part) (f : Form) (defs : List IndexDef) (last n m : ℕ) → next p f ≡ x → gone_on x defs last n ≡ Err m
+gone_on-fails : (x : Moved) (p : Part) (f : Form) (defs : List IndexDef) (last n m : ℕ) → next p f ≡ x → gone_on x defs last n ≡ Err m
     → ((moved_by x ≡ None) × (m ≡ n)) ⊎ Over (record { defs = defs; part = p; last = last }) m
-gone_on-fails (Ok part) p f defs last n m is e = absurd (cc)
-gone_on-fails (Err part) p f defs last n m is e =
+gone_on-fails (On part) p f defs last n m is e = absurd (cc)
+gone_on-fails (Stuck part) p f defs last n m is e =
     let same = next-kept p part f is in
     let k : refused part defs last n ≡ m = cc in
-    either-fails p defs last n m (moved_by (Err part) ≡ None) refl (refused-fails p defs last n m (ap (λ x. refused x defs last n) (sym same) ∙ k))
+    either-fails p defs last n m (moved_by (Stuck part) ≡ None) refl (refused-fails p defs last n m (ap (λ x. refused x defs last n) (sym same) ∙ k))
 
 step-fails : (p : Part) (defs : List IndexDef) (last n : ℕ) (f : Form) (m : ℕ) → step (record { defs = defs; part = p; last = last }) n f ≡ Err m
     → Fails (record { defs = defs; part = p; last = last }) f n m

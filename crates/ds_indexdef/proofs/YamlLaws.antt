@@ -1,6 +1,6 @@
 -- The definition of what an index file gives, in the words of the grammar.
 use Rattle.std.proofs.Common.{◌≡◌, ◌+◌, ℕ, List, [], length, refl, sym, ◌∙◌, Ok, Err, Result}
-use Rattle.ds_indexdef.specs.Answers.{Answers}
+use Rattle.ds_indexdef.specs.Refusals.{GivesUnlessNoMemory}
 use Rattle.ds_indexdef.specs.Lines.{lines_of}
 use Rattle.ds_indexdef.specs.Reading.{yaml_of, nothing_read}
 use Rattle.ds_indexdef.specs.Grammar.{StandIn, IsRefusedAt, Tells, lines_in}
@@ -27,12 +27,12 @@ unfolding yaml_of
 refused-at text n e = read-refused (lines_in text) [] nothing_read (length (lines_of text) + 1) n reached-nothing e
 
 -- the same of an answer
-pub answer-stands : (text : List ℕ) (r : Result (List IndexDef) YamlRefused) → Answers r (yaml_of text) → Tells r text
+pub answer-stands : (text : List ℕ) (r : Result (List IndexDef) YamlRefused) → GivesUnlessNoMemory r (yaml_of text) → Tells r text
 answer-stands text (Ok defs) e = given-stand text defs e
 answer-stands text (Err (refused.Line n)) e = refused-at text n e
 answer-stands text (Err refused.NoMemory) e = tt
 
-pub answer-given : (text : List ℕ) (r : Result (List IndexDef) YamlRefused) → Answers r (yaml_of text) → (defs : List IndexDef) → StandIn text defs → Answers r (Ok defs)
+pub answer-given : (text : List ℕ) (r : Result (List IndexDef) YamlRefused) → GivesUnlessNoMemory r (yaml_of text) → (defs : List IndexDef) → StandIn text defs → GivesUnlessNoMemory r (Ok defs)
 answer-given text (Ok defs) e more s = sym (stand-given text more s) ∙ e
 answer-given text (Err (refused.Line n)) e more s = sym (stand-given text more s) ∙ e
 answer-given text (Err refused.NoMemory) e more s = tt

@@ -1,14 +1,13 @@
 -- What a line of an index file says: the words of the grammar, and which names stand in it.
-use Rattle.std.specs.Prelude.{ℕ, Bool, true, false, not, ◌&&◌, ◌||◌, ◌==◌, nat_eq, cond, List, [], ◌∷◌, length, drop, bytes_eq, codes, Option, Some, None}
+use Rattle.std.specs.Prelude.{ℕ, Bool, true, false, not, ◌&&◌, ◌||◌, ◌==◌, nat_eq, cond, List, [], ◌∷◌, length, drop, bytes_eq, codes}
+use Rattle.std.specs.Prelude.{Option, Some, None}
 use Rattle.std.specs.List.{list_all, starts_with}
 use Rattle.std.specs.Str.{is_utf8}
+use Rattle.ds_base.specs.KeyColumn.{key_name}
 use Rattle.ds_base.specs.Keys.{is_name, is_reserved}
 use Rattle.ds_indexdef.specs.Lines.{is_blank, without_front, cut}
 use Rattle.ds_indexdef.specs.declared.form.Form.{Form}
 use Rattle.ds_indexdef.specs.declared.form.Form.TheVariants.{Blank, Indexes, Kind, Ancestor, Properties, Name, Direction, Wrong}
-
-abbrev pub key_name : List ℕ
-key_name = codes "__key__"
 
 -- no space, tab, newline, carriage return, double quote, single quote or `#`
 abbrev pub is_name_byte : ℕ → Bool

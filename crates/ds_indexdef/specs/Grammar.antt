@@ -1,17 +1,19 @@
 -- The grammar of an index file: which lines are a file, and the entries that stand in it.
 --
 -- The lines are those that aren't empty, each with its number, which the grammar doesn't look at, and what it says.
-use Rattle.std.specs.Prelude.{ℕ, ◌≡◌, ◌+◌, length, Bool, true, false, not, ◌&&◌, ◌||◌, List, [], ◌∷◌, ◌++◌, bytes_eq, Option, Some, None, option_and_then, Result, Ok, Err, ⊤}
+use Rattle.std.specs.Prelude.{ℕ, ◌≡◌, ◌+◌, length, Bool, true, false, not, ◌&&◌, ◌||◌, List, [], ◌∷◌, ◌++◌, bytes_eq, Option, Some, None}
+use Rattle.std.specs.Prelude.{option_and_then, Result, Ok, Err, ⊤}
 use Rattle.std.specs.List.{list_all}
 use Rattle.ds_base.specs.declared.column.Column.{Column}
-use Rattle.ds_indexdef.specs.Forms.{key_name}
+use Rattle.ds_base.specs.KeyColumn.{key_name}
+use Rattle.ds_base.specs.Memory.{UnlessNoMemory}
 use Rattle.ds_indexdef.specs.Lines.{lines_of}
 use Rattle.ds_indexdef.specs.Reading.{Line, is_bare, numbered, with_entry}
+use Rattle.ds_indexdef.specs.Refusals.{refused_at}
 use Rattle.ds_indexdef.specs.declared.IndexDef.{IndexDef}
 use Rattle.ds_indexdef.specs.declared.form.Form.{Form}
 use Rattle.ds_indexdef.specs.declared.form.Form.TheVariants as form
 use Rattle.ds_indexdef.specs.declared.refused.YamlRefused.{YamlRefused}
-use Rattle.ds_indexdef.specs.declared.refused.YamlRefused.TheVariants as reason
 
 -- line n, which says this
 abbrev pub says : ℕ → Form → Line
@@ -35,7 +37,8 @@ pub data IsProperty : List Line → Column → Type 0 where
 -- property {property}
 pub data AreProperties : List Line → List Column → Type 0 where
   one : (lines : List Line) (c : Column) → IsProperty lines c → AreProperties lines (c ∷ [])
-  several : (lines more : List Line) (c : Column) (cs : List Column) → IsProperty lines c → AreProperties more cs → AreProperties (lines ++ more) (c ∷ cs)
+  several : (lines more : List Line) (c : Column) (cs : List Column) → IsProperty lines c → AreProperties more cs
+      → AreProperties (lines ++ more) (c ∷ cs)
 
 -- [ancestor: yes | ancestor: no]
 pub data IsFlag : List Line → Bool → Type 0 where
@@ -46,12 +49,14 @@ pub data IsFlag : List Line → Bool → Type 0 where
 pub data IsEntry : List Line → IndexDef → Type 0 where
   entry : (n m : ℕ) (kind : List ℕ) (flag properties : List Line) (ancestor : Bool) (columns : List Column)
       → IsFlag flag ancestor → AreProperties properties columns → are_orderly columns ≡ true
-      → IsEntry (says n (form.Kind kind) ∷ flag ++ says m form.Properties ∷ properties) (record { kind = kind; ancestor = ancestor; columns = columns })
+      → IsEntry (says n (form.Kind kind) ∷ flag ++ says m form.Properties ∷ properties)
+      (record { kind = kind; ancestor = ancestor; columns = columns })
 
 -- {entry}
 pub data AreEntries : List Line → List IndexDef → Type 0 where
   none : AreEntries [] []
-  further : (lines more : List Line) (e : IndexDef) (es : List IndexDef) → IsEntry lines e → AreEntries more es → AreEntries (lines ++ more) (e ∷ es)
+  further : (lines more : List Line) (e : IndexDef) (es : List IndexDef) → IsEntry lines e → AreEntries more es
+      → AreEntries (lines ++ more) (e ∷ es)
 
 -- file = nothing | indexes: {entry}
 pub data IsFile : List Line → List IndexDef → Type 0 where
@@ -116,7 +121,9 @@ abbrev pub IsRefusedAt : List ℕ → ℕ → Type 0
 IsRefusedAt text n = RefusedFor (lines_in text) (length (lines_of text) + 1) n
 
 -- the result of reading, in the words of the grammar: definitions stand in the text, and a line is the one that it is refused at
+abbrev pub TellsOf : List ℕ → Result (List IndexDef) ℕ → Type 0
+TellsOf text (Ok defs) = StandIn text defs
+TellsOf text (Err n) = IsRefusedAt text n
+
 abbrev pub Tells : Result (List IndexDef) YamlRefused → List ℕ → Type 0
-Tells (Ok defs) text = StandIn text defs
-Tells (Err (reason.Line n)) text = IsRefusedAt text n
-Tells (Err reason.NoMemory) text = ⊤
+Tells result text = UnlessNoMemory refused_at (TellsOf text) result

@@ -1,4 +1,3 @@
-pub mod Answers
 pub mod DefinitionLaws
 pub mod Definitions
 pub mod Forms
@@ -6,4 +5,5 @@ pub mod Grammar
 pub mod Lines
 pub mod Names
 pub mod Reading
+pub mod Refusals
 pub mod Text

@@ -2,7 +2,7 @@
 use Rattle.std.specs.Prelude.{◌≡◌, ℕ, Bool, List, bytes_eq}
 use Rattle.std.specs.List.{list_any}
 use Rattle.ds_base.specs.declared.column.Column.{Column}
-use Rattle.ds_indexdef.specs.Forms.{key_name}
+use Rattle.ds_base.specs.KeyColumn.{key_name}
 
 abbrev pub has_name : List (List ℕ) → List ℕ → Bool
 has_name names name = list_any (bytes_eq name) names

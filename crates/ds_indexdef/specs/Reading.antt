@@ -1,5 +1,6 @@
 -- What an index file says: how its lines follow one another, and which definitions come of its entries.
-use Rattle.std.specs.Prelude.{ℕ, suc, ◌+◌, ◌-◌, ◌≡◌, Bool, true, false, not, ◌&&◌, ◌||◌, ◌==◌, nat_eq, nat_lt, cond, List, [], ◌∷◌, ◌++◌, length, take, map, bytes_eq, Option, Some, None, Result, Ok, Err, ok_or, is_some, ⊤}
+use Rattle.std.specs.Prelude.{ℕ, suc, ◌+◌, ◌-◌, ◌≡◌, Bool, true, false, not, ◌&&◌, ◌||◌, ◌==◌, nat_eq, nat_lt, cond, List, [], ◌∷◌, ◌++◌}
+use Rattle.std.specs.Prelude.{length, take, map, bytes_eq, Option, Some, None, Result, Ok, Err, ok_or, is_some, ⊤}
 use Rattle.std.specs.List.{list_all, list_any, starts_with}
 use Rattle.std.proofs.Math.Bool.{beq}
 use Rattle.ds_base.specs.Columns.{same_column}
@@ -7,22 +8,22 @@ use Rattle.ds_base.specs.Limits.{most_definitions}
 use Rattle.ds_base.specs.declared.column.Column.{Column}
 use Rattle.ds_indexdef.specs.Definitions.{same_def}
 use Rattle.ds_indexdef.specs.Lines.{lines_of}
-use Rattle.ds_indexdef.specs.Forms.{key_name, either, form_of}
+use Rattle.ds_indexdef.specs.Forms.{either, form_of}
+use Rattle.ds_base.specs.KeyColumn.{key_name, is_ascending_key}
 use Rattle.ds_indexdef.specs.declared.IndexDef.{IndexDef}
 use Rattle.ds_indexdef.specs.declared.form.Form.{Form}
 use Rattle.ds_indexdef.specs.declared.form.Form.TheVariants.{Blank, Indexes, Kind, Ancestor, Properties, Name, Direction, Wrong}
+use Rattle.ds_indexdef.specs.declared.part.Moved.{Moved}
+use Rattle.ds_indexdef.specs.declared.part.Moved.TheVariants.{On, Stuck}
 use Rattle.ds_indexdef.specs.declared.part.Part.{Part}
 use Rattle.ds_indexdef.specs.declared.part.Part.TheVariants.{Start, Listed, Headed, Flagged, Filled}
 
 -- ---- the definitions that come of entries
 
--- `__key__` ascending, in which each index ends anyway
-abbrev pub is_key_ascending : Column → Bool
-is_key_ascending c = bytes_eq c.name key_name && not c.descending
-
+-- whether the last is `__key__` ascending, in which each index ends anyway
 abbrev pub ends_in_key : List Column → Bool
 ends_in_key [] = false
-ends_in_key (c ∷ []) = is_key_ascending c
+ends_in_key (c ∷ []) = is_ascending_key c
 ends_in_key (c ∷ d ∷ more) = ends_in_key (d ∷ more)
 
 -- the columns without a final `__key__` ascending
@@ -80,15 +81,16 @@ abbrev pub takes : IndexDef → List ℕ → Bool
 takes entry name = may_follow entry.columns name
 
 -- the part of the file after a line that is neither empty nor the first of an entry; the part itself where the line is wrong there
-abbrev pub next : Part → Form → Result Part Part
-next Start Indexes = Ok Listed
-next (Headed kind) (Ancestor ancestor) = Ok (Flagged kind ancestor)
-next (Headed kind) Properties = Ok (Filled (record { kind = kind; ancestor = false; columns = [] }) false)
-next (Flagged kind ancestor) Properties = Ok (Filled (record { kind = kind; ancestor = ancestor; columns = [] }) false)
+abbrev pub next : Part → Form → Moved
+next Start Indexes = On Listed
+next (Headed kind) (Ancestor ancestor) = On (Flagged kind ancestor)
+next (Headed kind) Properties = On (Filled (record { kind = kind; ancestor = false; columns = [] }) false)
+next (Flagged kind ancestor) Properties = On (Filled (record { kind = kind; ancestor = ancestor; columns = [] }) false)
 next (Filled entry fresh) (Name name) =
-    cond (takes entry name) (Ok (Filled (with_column entry (record { name = name; descending = false })) true)) (Err (Filled entry fresh))
-next (Filled entry true) (Direction descending) = Ok (Filled (turned entry descending) false)
-next part form = Err part
+    cond (takes entry name) (On (Filled (with_column entry (record { name = name; descending = false })) true))
+    (Stuck (Filled entry fresh))
+next (Filled entry true) (Direction descending) = On (Filled (turned entry descending) false)
+next part form = Stuck part
 
 -- ---- the reading of a file
 
@@ -105,7 +107,8 @@ closed Start defs last = Ok (Some defs)
 closed Listed defs last = Ok (Some defs)
 closed (Headed kind) defs last = Ok None
 closed (Flagged kind ancestor) defs last = Ok None
-closed (Filled entry fresh) defs last = cond (is_bare entry.columns) (Ok None) (either (with_entry defs entry) (λ more. Ok (Some more)) (Err last))
+closed (Filled entry fresh) defs last =
+    cond (is_bare entry.columns) (Ok None) (either (with_entry defs entry) (λ more. Ok (Some more)) (Err last))
 
 -- an entry that begins so may go on to be this definition
 abbrev pub begins : IndexDef → IndexDef → Bool
@@ -139,9 +142,9 @@ opened (Ok None) n kind = Err n
 opened (Err line) n kind = Err line
 
 -- another line
-abbrev pub gone_on : Result Part Part → List IndexDef → ℕ → ℕ → Result Reading ℕ
-gone_on (Ok part) defs last n = Ok (record { defs = defs; part = part; last = n })
-gone_on (Err part) defs last n = Err (refused part defs last n)
+abbrev pub gone_on : Moved → List IndexDef → ℕ → ℕ → Result Reading ℕ
+gone_on (On part) defs last n = Ok (record { defs = defs; part = part; last = n })
+gone_on (Stuck part) defs last n = Err (refused part defs last n)
 
 -- what was read with line n, which isn't empty; or the line that is refused
 abbrev pub step : Reading → ℕ → Form → Result Reading ℕ

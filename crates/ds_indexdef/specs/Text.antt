@@ -3,7 +3,8 @@ use Rattle.std.specs.Prelude.{ℕ, Bool, true, false, not, ◌&&◌, nat_le, con
 use Rattle.std.specs.List.{list_all, flat_map}
 use Rattle.ds_base.specs.Limits.{most_definitions}
 use Rattle.ds_base.specs.declared.column.Column.{Column}
-use Rattle.ds_indexdef.specs.Forms.{key_name, is_kind, is_property}
+use Rattle.ds_indexdef.specs.Forms.{is_kind, is_property}
+use Rattle.ds_base.specs.KeyColumn.{key_name}
 use Rattle.ds_indexdef.specs.Reading.{ends_in_key, is_builtin}
 use Rattle.ds_indexdef.specs.Grammar.{are_orderly}
 use Rattle.ds_indexdef.specs.declared.IndexDef.{IndexDef}
@@ -33,7 +34,8 @@ written_columns [] = record { name = key_name; descending = false } ∷ []
 written_columns (c ∷ more) = c ∷ more
 
 abbrev pub def_lines : IndexDef → List (List ℕ)
-def_lines def = kind_line def.kind ∷ ancestor_line def.ancestor ∷ codes "  properties:" ∷ flat_map column_lines (written_columns def.columns)
+def_lines def =
+    kind_line def.kind ∷ ancestor_line def.ancestor ∷ codes "  properties:" ∷ flat_map column_lines (written_columns def.columns)
 
 abbrev pub written_lines : List IndexDef → List (List ℕ)
 written_lines defs = codes "indexes:" ∷ flat_map def_lines defs

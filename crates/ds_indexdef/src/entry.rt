@@ -1,10 +1,10 @@
 //! The entry of an index file whose columns are being read.
 ghost use Rattle.std.specs.Prelude.{◌≡◌, ◌||◌, [], true, false, IfOk, bytes_eq};
-ghost use Rattle.ds_indexdef.specs.Forms.{key_name};
+ghost use Rattle.ds_base.specs.KeyColumn.{key_name};
 ghost use Rattle.ds_indexdef.specs.Reading.{is_bare, takes, turned, turned_columns, with_column};
 
 use crate::IndexDef;
-use ds_base::{Column, Columns, TextString, TryCopy};
+use ds_base::{Column, Columns, TextString, TryCopy, is_key_name};
 use std::alloc::{AllocError, Global};
 use std::collections::BTreeSet;
 use std::marker::Model;
@@ -93,18 +93,11 @@ impl Entry {
     }
 }
 
-/// Whether it is the name of the column of keys.
-pub(crate) fn is_key(name: &TextString) -> bool
-    ensures { result ≡ bytes_eq name.now key_name }
-{
-    name.text() == "__key__"
-}
-
 // Whether the flag is set or the name is that of the column of keys.
 fn is_key_or(key: bool, name: &TextString) -> bool
     ensures { result ≡ (key || bytes_eq name.now key_name) }
 {
-    key || is_key(name)
+    key || is_key_name(name)
 }
 
 // The entry with an ascending column more.

@@ -7,7 +7,7 @@ ghost use Rattle.ds_indexdef.specs.Forms.{ancestor_form, direction_form, kind_fo
 ghost use Rattle.ds_indexdef.specs.Forms.{dash_form, choice_form, form_of_cut, form_of};
 
 use crate::lines::{cut, without_blanks};
-use ds_base::{TextString, is_name, is_reserved};
+use ds_base::{KEY_NAME, TextString, is_name, is_reserved};
 use std::alloc::{AllocError, Global};
 
 /// What a line says.
@@ -194,7 +194,7 @@ pub(crate) fn is_kind(name: &str) -> bool
 pub(crate) fn is_property(name: &str) -> bool
     ensures { result ≡ is_property name.now }
 {
-    is_plain(name) && (!is_reserved(name.as_bytes()) || name == "__key__")
+    is_plain(name) && (!is_reserved(name.as_bytes()) || name == KEY_NAME)
 }
 
 fn is_plain(name: &str) -> bool

@@ -6,7 +6,7 @@
 //! far). The definitions that the contracts cite are in `specs/`: `Definitions` (when two definitions are the same, and what a list
 //! of them keeps), `Lines`, `Forms` and `Reading` (what an index file gives, line by line), `Grammar` (which lines are a file, and
 //! which line another is refused at), `Text` (what is written, and of which definitions), `Names` (the names of an entry's columns)
-//! and `Answers`. `proofs/` shows that what is read is what the grammar says.
+//! and `Refusals`. `proofs/` shows that what is read is what the grammar says.
 #![tactic(auto)]
 
 ghost use Rattle.std.specs.Prelude.{◌≡◌, ◌↔◌, IsTrue};

@@ -22,33 +22,41 @@ pub(crate) enum Part {
     Filled(Entry, bool),
 }
 
-/// The part after a line that is neither empty nor the first of an entry; `Ok(Err(part))` where the line is wrong behind the part.
-/// `Err` is want of memory.
-pub(crate) fn next(alloc: Global, part: Part, form: Form) -> Result<Result<Part, Part>, AllocError>
+/// Where a line leads from a part of the file.
+#[derive(Drop)]
+pub(crate) enum Moved {
+    /// To this part, which the line belongs to.
+    On(Part),
+    /// Nowhere: the line is wrong behind this part.
+    Stuck(Part),
+}
+
+/// Where a line leads that is neither empty nor the first of an entry. A refusal is want of memory.
+pub(crate) fn next(alloc: Global, part: Part, form: Form) -> Result<Moved, AllocError>
     ensures { IfOk result (λ r. r ≡ next part form) }
 {
     match part {
         Part::Start => Ok(match form {
-            Form::Indexes => Ok(Part::Listed),
-            _ => Err(Part::Start),
+            Form::Indexes => Moved::On(Part::Listed),
+            _ => Moved::Stuck(Part::Start),
         }),
-        Part::Listed => Ok(Err(Part::Listed)),
+        Part::Listed => Ok(Moved::Stuck(Part::Listed)),
         Part::Headed(kind) => Ok(after_kind(alloc, kind, form)),
         Part::Flagged(kind, ancestor) => Ok(match form {
-            Form::Properties => Ok(empty_entry(alloc, kind, ancestor)),
-            _ => Err(Part::Flagged(kind, ancestor)),
+            Form::Properties => Moved::On(empty_entry(alloc, kind, ancestor)),
+            _ => Moved::Stuck(Part::Flagged(kind, ancestor)),
         }),
         Part::Filled(entry, fresh) => after_column(alloc, entry, fresh, form),
     }
 }
 
-fn after_kind(alloc: Global, kind: TextString, form: Form) -> Result<Part, Part>
+fn after_kind(alloc: Global, kind: TextString, form: Form) -> Moved
     ensures { result ≡ next (Part.Headed kind) form }
 {
     match form {
-        Form::Ancestor(ancestor) => Ok(Part::Flagged(kind, ancestor)),
-        Form::Properties => Ok(empty_entry(alloc, kind, false)),
-        _ => Err(Part::Headed(kind)),
+        Form::Ancestor(ancestor) => Moved::On(Part::Flagged(kind, ancestor)),
+        Form::Properties => Moved::On(empty_entry(alloc, kind, false)),
+        _ => Moved::Stuck(Part::Headed(kind)),
     }
 }
 
@@ -59,30 +67,25 @@ fn empty_entry(alloc: Global, kind: TextString, ancestor: bool) -> Part
     Part::Filled(Entry::new(alloc, kind, ancestor), false)
 }
 
-fn after_column(
-    alloc: Global,
-    entry: Entry,
-    fresh: bool,
-    form: Form,
-) -> Result<Result<Part, Part>, AllocError>
+fn after_column(alloc: Global, entry: Entry, fresh: bool, form: Form) -> Result<Moved, AllocError>
     ensures { IfOk result (λ r. r ≡ next (Part.Filled entry fresh) form) }
 {
     match form {
         Form::Name(name) => {
             if entry.takes(&name) {
                 let entry = entry.with_column(alloc, name)?;
-                Ok(Ok(Part::Filled(entry, true)))
+                Ok(Moved::On(Part::Filled(entry, true)))
             } else {
-                Ok(Err(Part::Filled(entry, fresh)))
+                Ok(Moved::Stuck(Part::Filled(entry, fresh)))
             }
         }
         Form::Direction(descending) => {
             if fresh {
-                Ok(Ok(Part::Filled(entry.turned(descending), false)))
+                Ok(Moved::On(Part::Filled(entry.turned(descending), false)))
             } else {
-                Ok(Err(Part::Filled(entry, fresh)))
+                Ok(Moved::Stuck(Part::Filled(entry, fresh)))
             }
         }
-        _ => Ok(Err(Part::Filled(entry, fresh))),
+        _ => Ok(Moved::Stuck(Part::Filled(entry, fresh))),
     }
 }

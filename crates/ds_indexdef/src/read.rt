@@ -1,7 +1,7 @@
 //! Reading index files.
 ghost use Rattle.std.specs.Prelude.{◌≡◌, List, Ok};
 ghost use Rattle.ds_indexdef.specs.declared.IndexDef.{IndexDef};
-ghost use Rattle.ds_indexdef.specs.Answers.{Answers};
+ghost use Rattle.ds_indexdef.specs.Refusals.{GivesUnlessNoMemory};
 ghost use Rattle.ds_indexdef.specs.Grammar.{StandIn, Tells};
 ghost use Rattle.ds_indexdef.specs.Reading.{yaml_of};
 
@@ -32,16 +32,16 @@ use std::alloc::Global;
 /// The keys are those of the Datastore's own file; the order of the lines and the refusals are our own profile. Each line is read
 /// once, and a property is looked up among those of its entry; an entry is compared with each definition that is there.
 pub fn read_yaml(alloc: Global, text: &[u8]) -> Result<Defs, YamlRefused>
-    ensures answer { Answers result (yaml_of text.now) }
+    ensures answer { GivesUnlessNoMemory result (yaml_of text.now) }
     ensures grammar { Tells result text.now }
-    ensures file { (defs : List IndexDef) → StandIn text.now defs → Answers result (Ok defs) }
+    ensures file { (defs : List IndexDef) → StandIn text.now defs → GivesUnlessNoMemory result (Ok defs) }
 {
     read_lines(alloc, text)
 }
 
 // The definitions of the text, line by line.
 fn read_lines(alloc: Global, text: &[u8]) -> Result<Defs, YamlRefused>
-    ensures { Answers result (yaml_of text.now) }
+    ensures { GivesUnlessNoMemory result (yaml_of text.now) }
 {
     let mut progress = Progress::new(alloc);
     let mut rest = text;

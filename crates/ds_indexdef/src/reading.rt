@@ -2,18 +2,18 @@
 ghost use Rattle.std.specs.Prelude.{◌≡◌, ◌<◌, ◌||◌, cond, IsTrue, IfOk, Ok, Err, length, is_some, map, Result};
 ghost use Rattle.std.specs.Option.{option_map};
 ghost use Rattle.std.specs.List.{list_any};
-ghost use Rattle.ds_indexdef.specs.Answers.{Answers};
+ghost use Rattle.ds_indexdef.specs.Refusals.{GivesUnlessNoMemory};
 ghost use Rattle.ds_indexdef.specs.Reading.{Reading, next, step, read_line, finish, gone_on, closed, refused, begins, may_become};
 ghost use Rattle.ds_indexdef.specs.Reading.{definition_of, is_builtin, are_builtin, adds_nothing, with_entry};
-ghost use Rattle.ds_indexdef.specs.Reading.{is_key_ascending, ends_in_key, without_key};
+ghost use Rattle.ds_indexdef.specs.Reading.{ends_in_key, without_key};
 
 use crate::defs::contains;
-use crate::entry::{is_key, turned};
+use crate::entry::turned;
 use crate::form::Form;
-use crate::part::{Part, next};
+use crate::part::{Moved, Part, next};
 use crate::{Defs, IndexDef, YamlRefused};
 use ds_base::limits::MAX_DEFINITIONS;
-use ds_base::{Column, Columns, TextString, TryCopy};
+use ds_base::{Column, Columns, TextString, TryCopy, is_ascending_key, is_key_name};
 use std::alloc::{AllocError, Global};
 use std::marker::Model;
 
@@ -51,7 +51,7 @@ impl Progress {
 
     /// What was read with line `n`; or the line that is refused. An empty line changes nothing.
     pub(crate) fn step(self, alloc: Global, n: u64, form: Form) -> Result<Progress, YamlRefused>
-        ensures { Answers result (read_line self n form) }
+        ensures { GivesUnlessNoMemory result (read_line self n form) }
     {
         match form {
             Form::Blank => Ok(self),
@@ -62,7 +62,7 @@ impl Progress {
 
     // With line `n`, which is the first of an entry.
     fn open(self, n: u64, kind: TextString) -> Result<Progress, YamlRefused>
-        ensures { Answers result (step self n (Form.Kind kind)) }
+        ensures { GivesUnlessNoMemory result (step self n (Form.Kind kind)) }
     {
         let Progress { defs, part, last } = self;
         if let Part::Start = part {
@@ -80,22 +80,22 @@ impl Progress {
 
     // With line `n`, which is neither empty nor the first of an entry.
     fn go_on(self, alloc: Global, n: u64, form: Form) -> Result<Progress, YamlRefused>
-        ensures { Answers result (gone_on (next self.part form) self.defs self.last n) }
+        ensures { GivesUnlessNoMemory result (gone_on (next self.part form) self.defs self.last n) }
     {
         let Progress { defs, part, last } = self;
         match next(alloc, part, form)? {
-            Ok(part) => Ok(Progress {
+            Moved::On(part) => Ok(Progress {
                 defs,
                 part,
                 last: n,
             }),
-            Err(part) => Err(YamlRefused::Line(refused(alloc, part, defs, last, n)?)),
+            Moved::Stuck(part) => Err(YamlRefused::Line(refused(alloc, part, defs, last, n)?)),
         }
     }
 
     /// The definitions at the end of the text, where the line after the last is `n`; or the line that is refused.
     pub(crate) fn finish(self, n: u64) -> Result<Defs, YamlRefused>
-        ensures { Answers result (finish self n) }
+        ensures { GivesUnlessNoMemory result (finish self n) }
     {
         let Progress { defs, part, last } = self;
         match closed(part, defs, last)? {
@@ -108,7 +108,7 @@ impl Progress {
 // The definitions where a file or an entry may end; `None` where neither may. An entry that would be the 201st definition refuses
 // its last line.
 fn closed(part: Part, defs: Defs, last: u64) -> Result<Option<Defs>, YamlRefused>
-    ensures { Answers result (closed part defs last) }
+    ensures { GivesUnlessNoMemory result (closed part defs last) }
 {
     match part {
         Part::Start | Part::Listed => Ok(Some(defs)),
@@ -178,16 +178,9 @@ pub(crate) fn ends_in_key(columns: &[Column]) -> bool
     ensures some { IsTrue result → 0 < length columns.now }
 {
     match columns {
-        [.., last] => is_key_ascending(last),
+        [.., last] => is_ascending_key(last),
         [] => false,
     }
-}
-
-// Whether it is `__key__` ascending, in which each index ends anyway.
-fn is_key_ascending(column: &Column) -> bool
-    ensures { result ≡ is_key_ascending column.now }
-{
-    is_key(&column.name) && !column.descending
 }
 
 // Whether the definition adds nothing to these: its rows are those of a built-in index, or it is there.
@@ -210,7 +203,7 @@ fn are_builtin(columns: &[Column]) -> bool
 {
     match columns {
         [] => true,
-        [column] => !is_key(&column.name),
+        [column] => !is_key_name(&column.name),
         _ => false,
     }
 }

@@ -2,17 +2,18 @@
 ghost use Rattle.std.specs.Prelude.{◌≡◌, ◌++◌, ◌&&◌, ◌||◌, not, bytes_eq, cond, IsTrue, IfOk, OnOk, Ok};
 ghost use Rattle.std.specs.List.{flat_map, list_all};
 ghost use Rattle.ds_indexdef.specs.Grammar.{lack, are_orderly};
-ghost use Rattle.ds_indexdef.specs.Forms.{is_kind, key_name};
+ghost use Rattle.ds_indexdef.specs.Forms.{is_kind};
+ghost use Rattle.ds_base.specs.KeyColumn.{key_name};
 ghost use Rattle.ds_indexdef.specs.Reading.{yaml_of, is_bare};
 ghost use Rattle.ds_indexdef.specs.Text.{line, column_lines, written_columns, def_lines, text_of};
 ghost use Rattle.ds_indexdef.specs.Text.{has_property_names, can_write_def, can_write};
 
-use crate::entry::{is_bare, is_key};
+use crate::entry::is_bare;
 use crate::form::{is_kind, is_property};
 use crate::reading::{ends_in_key, is_builtin};
 use crate::{Defs, IndexDef};
 use ds_base::limits::MAX_DEFINITIONS;
-use ds_base::{ByteString, Column, NoMemory, TextString};
+use ds_base::{ByteString, Column, KEY_NAME, NoMemory, TextString, is_key_name};
 use std::alloc::{AllocError, Global};
 
 /// Whether `write_yaml` takes these definitions: they are at most 200; their kinds and properties are names of an index file,
@@ -68,7 +69,7 @@ fn are_orderly(columns: &[Column]) -> bool
 fn stands_before(name: &TextString, rest: &[Column]) -> bool
     ensures { result ≡ (lack rest.now name.now && (not (bytes_eq name.now key_name) || is_bare rest.now)) }
 {
-    lack(rest, name) && (!is_key(name) || is_bare(rest))
+    lack(rest, name) && (!is_key_name(name) || is_bare(rest))
 }
 
 fn lack(columns: &[Column], name: &TextString) -> bool
@@ -115,7 +116,7 @@ fn write_columns(text: &mut ByteString, columns: &[Column]) -> Result<(), AllocE
     ensures { OnOk result (text.new ≡ text.old ++ flat_map line (flat_map column_lines (written_columns columns.now))) }
 {
     if is_bare(columns) {
-        write_column(text, b"__key__", false)
+        write_column(text, KEY_NAME.as_bytes(), false)
     } else {
         write_each(text, columns)
     }

@@ -1,5 +1,6 @@
 -- What callers may know of the definitions beside the clauses: their values in std's words, which have lemmas of their own.
-use Rattle.std.proofs.Common.{◌≡◌, ℕ, ◌+◌, ◌-◌, ◌==◌, ◌<◌, List, [], ◌∷◌, cond, eqb, length, refl, ap, ap₂, ◌∙◌, arith, Bool, true, false, not}
+use Rattle.std.proofs.Common.{◌≡◌, ℕ, ◌+◌, ◌-◌, ◌==◌, ◌<◌, List, [], ◌∷◌, cond, eqb, length, refl, ap, ap₂, ◌∙◌, arith, Bool, true, false}
+use Rattle.std.proofs.Common.{not}
 use Rattle.std.proofs.lemmas.List.{length-map}
 use Rattle.std.specs.List.{common_prefix_len, position_or_len}
 use lib.Lanes.{Each1, zip2}

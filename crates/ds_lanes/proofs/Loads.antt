@@ -1,8 +1,10 @@
 -- Which lanes the comparisons of the kernels set, of a vector that was loaded from a slice.
-use Rattle.std.proofs.Common.{◌≡◌, ℕ, ◌+◌, ◌<◌, ◌≤◌, Bool, true, false, refl, cond, List, map, length, get_or, replicate, eqb, leb, ltb, not, ap, ap₂, sym, ◌∙◌, lit≤, arith, w64}
+use Rattle.std.proofs.Common.{◌≡◌, ℕ, ◌+◌, ◌<◌, ◌≤◌, Bool, true, false, refl, cond, List, map, length, get_or, replicate, eqb, leb, ltb}
+use Rattle.std.proofs.Common.{not, ap, ap₂, sym, ◌∙◌, lit≤, arith, w64}
 use Rattle.std.specs.Prelude.{◌&&◌}
 use Rattle.std.proofs.lemmas.Bool.Decides.{nat_tests}
-use Rattle.std.proofs.lemmas.Simd.{get_or-chunk, get_or-replicate, get_or-sel_l, get_or-zip2, length-chunk, length-replicate, length-sel_l, length-zip2, tops_compared}
+use Rattle.std.proofs.lemmas.Simd.{get_or-chunk, get_or-replicate, get_or-sel_l, get_or-zip2, length-chunk, length-replicate, length-sel_l}
+use Rattle.std.proofs.lemmas.Simd.{length-zip2, tops_compared}
 use lib.Lanes.{chunk, sel_l, top, zip2}
 use Rattle.ds_lanes.specs.Hits.{differ_at, visible_at, zero_at}
 use Rattle.ds_lanes.proofs.Marked.{Tells, compared}

@@ -1,7 +1,9 @@
 -- A vector of 32 bytes that is stored by its halves, and the complement of one.
-use Rattle.std.proofs.Common.{◌≡◌, ℕ, ◌+◌, ◌-◌, ◌%◌, ◌<◌, ◌≤◌, List, ◌++◌, length, get_or, replicate, Fits, w8, ap, ap₂, sym, ◌∙◌, subst, arith, zero-add, inl, inr}
+use Rattle.std.proofs.Common.{◌≡◌, ℕ, ◌+◌, ◌-◌, ◌%◌, ◌<◌, ◌≤◌, List, ◌++◌, length, get_or, replicate, Fits, w8, ap, ap₂, sym, ◌∙◌, subst}
+use Rattle.std.proofs.Common.{arith, zero-add, inl, inr}
 use Rattle.std.proofs.lemmas.Bool.{cases_lt}
-use Rattle.std.proofs.lemmas.Simd.{get_or-chunk, get_or-put_chunk_at, get_or-put_chunk_below, get_or-replicate, get_or-zip2, length-chunk, length-put_chunk, length-replicate, length-zip2, pick_l_left, pick_l-range_with_len}
+use Rattle.std.proofs.lemmas.Simd.{get_or-chunk, get_or-put_chunk_at, get_or-put_chunk_below, get_or-replicate, get_or-zip2, length-chunk}
+use Rattle.std.proofs.lemmas.Simd.{length-put_chunk, length-replicate, length-zip2, pick_l_left, pick_l-range_with_len}
 use Rattle.std.specs.List.{range_with_len}
 use lib.Lanes.{chunk, pick_l, put_chunk, zip2}
 

@@ -134,7 +134,8 @@ fn begun_ends(from: &[u64], to: &[u64], at: u64, i: usize) -> u64x4
     requires equal { length from.now ≡ length to.now }
     requires room { i + LANES ≤ length from.now }
     ensures long { length result ≡ LANES }
-    ensures each { (k : ℕ) → k < LANES → slice_index result k ≡ (if nat_le (slice_index from.now (i + k)) at then slice_index to.now (i + k) else 0) }
+    ensures each { (k : ℕ) → k < LANES
+        → slice_index result k ≡ (if nat_le (slice_index from.now (i + k)) at then slice_index to.now (i + k) else 0) }
 {
     u64x4::from_slice(&from[i..])
         .simd_le(u64x4::splat(at))

@@ -1,5 +1,6 @@
 -- Lists of columns by their last one, and what stands in front of a list's end.
-use Rattle.std.proofs.Common.{◌≡◌, ℕ, ◌+◌, ◌-◌, ◌<◌, ◌≤◌, List, [], ◌∷◌, ◌++◌, length, take, drop, get_or, Bool, true, false, ◌&&◌, ◌||◌, not, cond, refl, sym, ap, ◌∙◌, arith, length-append, MatchOption, Option, Some, None, option_and_then}
+use Rattle.std.proofs.Common.{◌≡◌, ℕ, ◌+◌, ◌-◌, ◌<◌, ◌≤◌, List, [], ◌∷◌, ◌++◌, length, take, drop, get_or, Bool, true, false, ◌&&◌, ◌||◌}
+use Rattle.std.proofs.Common.{not, cond, refl, sym, ap, ◌∙◌, arith, length-append, MatchOption, Option, Some, None, option_and_then}
 use Rattle.std.specs.Prelude.{bytes_eq}
 use Rattle.std.specs.Borrow.{Bor}
 use Rattle.std.specs.Option.{option_copied}
@@ -9,11 +10,11 @@ use Rattle.std.proofs.Math.Seq.{take-length}
 use Rattle.std.proofs.lemmas.List.{take_more, take-append-le, drop-append-le}
 use Rattle.ds_base.specs.declared.column.Column.{Column}
 use Rattle.ds_base.specs.Columns.{same_column}
-use Rattle.ds_query.specs.Filters.{is_key_name, key_name}
+use Rattle.ds_base.specs.KeyColumn.{is_key_name, key_name, is_ascending_key, is_by_key}
 use Rattle.ds_query.specs.ColumnLists.{ascending}
 use Rattle.ds_query.specs.Lawful.{ends_in_key, has_pair}
 use Rattle.ds_query.specs.declared.branch.Pair.{Pair}
-use Rattle.ds_planner.specs.Indexes.{by_key, in_front_of, is_ascending_key, is_by_key, is_by_property, are_paired, names_column}
+use Rattle.ds_planner.specs.Indexes.{by_key, in_front_of, is_by_property, are_paired, names_column}
 use Rattle.ds_planner.specs.Missing.{without_key}
 
 -- ---- the last element

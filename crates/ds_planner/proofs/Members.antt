@@ -1,5 +1,6 @@
 -- Members of a list, and tests of all or some of them.
-use Rattle.std.proofs.Common.{◌≡◌, ◌⊎◌, inl, inr, ℕ, zero, suc, ◌<◌, length, get_or, arith, List, [], ◌∷◌, ◌++◌, map, Bool, true, false, ◌&&◌, ◌||◌, not, cond, refl, sym, ap, ◌∙◌, subst, Some, None}
+use Rattle.std.proofs.Common.{◌≡◌, ◌⊎◌, inl, inr, ℕ, zero, suc, ◌<◌, length, get_or, arith, List, [], ◌∷◌, ◌++◌, map, Bool, true, false}
+use Rattle.std.proofs.Common.{◌&&◌, ◌||◌, not, cond, refl, sym, ap, ◌∙◌, subst, Some, None}
 use Rattle.std.specs.Prelude.{filter, flat_map}
 use Rattle.std.specs.List.{list_any, list_all, find, Contains}
 

@@ -1,5 +1,6 @@
 -- Lists of pairs: which are among them, which properties they have, and which are chosen for a scan.
-use Rattle.std.proofs.Common.{◌≡◌, ◌⊎◌, inl, inr, ℕ, List, [], ◌∷◌, ◌++◌, Bool, true, false, ◌&&◌, ◌||◌, not, cond, fold, refl, sym, ap, ◌∙◌, subst, append_assoc}
+use Rattle.std.proofs.Common.{◌≡◌, ◌⊎◌, inl, inr, ℕ, List, [], ◌∷◌, ◌++◌, Bool, true, false, ◌&&◌, ◌||◌, not, cond, fold, refl, sym, ap}
+use Rattle.std.proofs.Common.{◌∙◌, subst, append_assoc}
 use Rattle.std.specs.Prelude.{bytes_eq}
 use Rattle.std.specs.List.{AllByRecursion}
 use Rattle.std.specs.List.Sorted.{IsStrictlySortedBy}
@@ -15,7 +16,8 @@ use Rattle.ds_query.specs.Branching.{pair_cmp}
 use Rattle.ds_query.specs.PairOrderLaws.{pair_cmp-total, pair_cmp-Equal}
 use Rattle.ds_query.specs.Lawful.{has_pair}
 use Rattle.ds_planner.specs.Suits.{chooses, properties_differ}
-use Rattle.ds_planner.proofs.Members.{Member, both, join, or_true, not_true, refuted, true_false, some_member, any_member, member_left, member_right, member_append}
+use Rattle.ds_planner.proofs.Members.{Member, both, join, or_true, not_true, refuted, true_false, some_member, any_member, member_left}
+use Rattle.ds_planner.proofs.Members.{member_right, member_append}
 
 -- ---- pairs and names
 

@@ -1,5 +1,6 @@
 -- The laws of the scans that are planned, as the contract of planning states them.
-use Rattle.std.proofs.Common.{◌≡◌, ◌≤◌, inl, inr, List, [], ◌∷◌, ◌++◌, map, length, fold, Bool, true, false, ◌&&◌, ◌||◌, not, cond, refl, sym, ap, ◌∙◌, subst, Option, Some, None, is_some, is_none, get_or, arith, length-append}
+use Rattle.std.proofs.Common.{◌≡◌, ◌≤◌, inl, inr, List, [], ◌∷◌, ◌++◌, map, length, fold, Bool, true, false, ◌&&◌, ◌||◌, not, cond, refl}
+use Rattle.std.proofs.Common.{sym, ap, ◌∙◌, subst, Option, Some, None, is_some, is_none, get_or, arith, length-append}
 use Rattle.std.specs.Option.{option_to_list}
 use Rattle.std.specs.List.{list_any, list_all, find, All}
 use Rattle.std.specs.List.Sorted.{IsPermutation, IsStrictlySortedBy}
@@ -9,7 +10,7 @@ use Rattle.ds_query.specs.declared.branch.Pair.{Pair}
 use Rattle.ds_query.specs.declared.branch.Branch.{Branch}
 use Rattle.ds_query.specs.Branching.{pair_cmp}
 use Rattle.ds_query.specs.Lawful.{ends_in_key, IsLawfulBranch}
-use Rattle.ds_planner.specs.declared.planned.Index.{Index}
+use Rattle.ds_planner.specs.declared.planned.PlannedIndex.{PlannedIndex}
 use Rattle.ds_planner.specs.declared.planned.PlannedScan.{PlannedScan}
 use Rattle.ds_planner.specs.Indexes.{is_candidate, is_paired, leads, binds_ancestor}
 use Rattle.ds_planner.specs.Parts.{Part, pair_part, ancestor_part, empty_part, asked, conditions, or_empty_part, parts}
@@ -17,7 +18,8 @@ use Rattle.ds_planner.specs.Suits.{chooses, properties_differ, is_choice, is_sca
 use Rattle.ds_planner.specs.Lean.{binds, IsLean}
 use Rattle.ds_planner.specs.Missing.{candidates, indexes}
 use Rattle.ds_planner.specs.Choices.{can_bind, agrees, scan_for, sole_index, with_part, scans_by, scans_of}
-use Rattle.ds_planner.proofs.Members.{Member, both, some_member, any_member, each_member, all_members, member_left, member_right, member_append, find_member, find_some, filter_member, member_map, map_member, member_at}
+use Rattle.ds_planner.proofs.Members.{Member, both, some_member, any_member, each_member, all_members, member_left, member_right}
+use Rattle.ds_planner.proofs.Members.{member_append, find_member, find_some, filter_member, member_map, map_member, member_at}
 use Rattle.ds_planner.proofs.PairLists.{chooses-member, differ_among, chosen_ascend}
 use Rattle.ds_planner.proofs.ScanLaws.{IsPart, made_scan, made_binds}
 use Rattle.ds_planner.proofs.Served.{AreServed, are_some-member, member-are_some, candidate_listed, candidate_passes, served}
@@ -118,7 +120,7 @@ first_part b defs s h = at (conditions b) refl where
     bound = (binds_condition b defs s p h (condition b p (subst (Member p) (sym e) (inl refl))), tt);
   }
 
-sole_good : (b : Branch) (defs : List IndexDef) (i : Index) → properties_differ b.equal ≡ true → find (can_bind b defs (asked b)) (candidates b defs) ≡ Some i → IsGood b defs (scan_for b defs (asked b) i ∷ [])
+sole_good : (b : Branch) (defs : List IndexDef) (i : PlannedIndex) → properties_differ b.equal ≡ true → find (can_bind b defs (asked b)) (candidates b defs) ≡ Some i → IsGood b defs (scan_for b defs (asked b) i ∷ [])
 sole_good b defs i differ hit =
     let found = find_member (can_bind b defs (asked b)) (candidates b defs) i hit in
     let candidate = (filter_member (is_candidate b defs) (indexes b defs) i found.0).1 in
@@ -155,7 +157,7 @@ none_asked [] false h = (refl, refl)
 none_asked (p ∷ ps) a h = absurd (cc h)
 
 -- each candidate serves alone
-sole_some : (b : Branch) (defs : List IndexDef) → conditions b ≡ [] → are_some (candidates b defs) ≡ true → (i : Index) × (sole_index b defs ≡ Some i)
+sole_some : (b : Branch) (defs : List IndexDef) → conditions b ≡ [] → are_some (candidates b defs) ≡ true → (i : PlannedIndex) × (sole_index b defs ≡ Some i)
 sole_some b defs none some =
     let nothing = none_asked b.equal (is_some b.ancestor) none in
     let differ : properties_differ b.equal ≡ true = ap properties_differ nothing.0 in
@@ -164,7 +166,7 @@ sole_some b defs none some =
     let hit = find_some (can_bind b defs (asked b)) (candidates b defs) (any_member (can_bind b defs (asked b)) (candidates b defs) one.0 one.1 can) in
     (hit.0, λ k. cond (differ k) (hit.1 k) None)
 
-sole_is : (c : Bool) (f : Option Index) (i : Index) → cond c f None ≡ Some i → (c ≡ true) × (f ≡ Some i)
+sole_is : (c : Bool) (f : Option PlannedIndex) (i : PlannedIndex) → cond c f None ≡ Some i → (c ≡ true) × (f ≡ Some i)
 sole_is true f i h = (refl, h)
 sole_is false f i h = absurd (cc h)
 
@@ -179,7 +181,7 @@ part_by_part b defs served none = at (conditions b) refl where
 
 pub planned_good : (b : Branch) (defs : List IndexDef) → AreServed b defs → IsGood b defs (scans_of b defs)
 planned_good b defs served = at (sole_index b defs) refl where
-  at : (o : Option Index) → sole_index b defs ≡ o → IsGood b defs (scans_by b defs o)
+  at : (o : Option PlannedIndex) → sole_index b defs ≡ o → IsGood b defs (scans_by b defs o)
   at None e = part_by_part b defs served e
   at (Some i) e = let r = sole_is (properties_differ b.equal) (find (can_bind b defs (asked b)) (candidates b defs)) i e in sole_good b defs i r.0 r.1
 
@@ -250,7 +252,7 @@ or_false : (c : Bool) → (c || false) ≡ true → c ≡ true
 or_false true h = refl
 or_false false h = h
 
-alone : (b : Branch) (defs : List IndexDef) (s : PlannedScan) → IsLawfulBranch b → IsSuited b defs (s ∷ []) → (i : Index) × (sole_index b defs ≡ Some i)
+alone : (b : Branch) (defs : List IndexDef) (s : PlannedScan) → IsLawfulBranch b → IsSuited b defs (s ∷ []) → (i : PlannedIndex) × (sole_index b defs ≡ Some i)
 alone b defs s lawful is =
     let scan = scanned b defs s (each_member (is_scan b defs) (s ∷ []) s is.are (inl refl)) in
     let chosen : (p : Pair) → Member p b.equal → chooses s.equal p ≡ true =
@@ -274,10 +276,10 @@ one_scan b defs s lawful h =
 -- ---- the pairs of each scan ascend
 
 module _ (b : Branch) (defs : List IndexDef) (sorted : IsStrictlySortedBy pair_cmp b.equal) where
-  made_ascends : (part : Part) (i : Index) → IsStrictlySortedBy pair_cmp (scan_for b defs part i).equal
+  made_ascends : (part : Part) (i : PlannedIndex) → IsStrictlySortedBy pair_cmp (scan_for b defs part i).equal
   made_ascends part i = chosen_ascend (leads b defs i) (agrees part) b.equal [] sorted
 
-  made_each : (part : Part) (o : Option Index) (s : PlannedScan) → Member s (map (scan_for b defs part) (option_to_list o)) → IsStrictlySortedBy pair_cmp s.equal
+  made_each : (part : Part) (o : Option PlannedIndex) (s : PlannedScan) → Member s (map (scan_for b defs part) (option_to_list o)) → IsStrictlySortedBy pair_cmp s.equal
   made_each part None s m = absurd m
   made_each part (Some i) s (inl e) = subst (λ (t : PlannedScan). IsStrictlySortedBy pair_cmp t.equal) (sym e) (made_ascends part i)
   made_each part (Some i) s (inr none) = absurd none
@@ -295,7 +297,7 @@ module _ (b : Branch) (defs : List IndexDef) (sorted : IsStrictlySortedBy pair_c
   each_ascends [] scans before s m = before s m
   each_ascends (part ∷ todo) scans before s m = each_ascends todo (with_part b defs scans part) (each_step scans part before) s m
 
-  by_choice : (o : Option Index) (s : PlannedScan) → Member s (scans_by b defs o) → IsStrictlySortedBy pair_cmp s.equal
+  by_choice : (o : Option PlannedIndex) (s : PlannedScan) → Member s (scans_by b defs o) → IsStrictlySortedBy pair_cmp s.equal
   by_choice None s m = each_ascends (conditions b) [] (λ t k. absurd k) s m
   by_choice (Some i) s m = made_each (asked b) (Some i) s m
 

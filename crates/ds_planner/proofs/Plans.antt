@@ -1,14 +1,16 @@
 -- The scans that are planned suit the branch and are lean, where nothing is missing.
-use Rattle.std.proofs.Common.{◌≡◌, inl, inr, List, [], ◌∷◌, ◌++◌, map, length, fold, Bool, true, false, ◌&&◌, ◌||◌, cond, refl, sym, ap, ◌∙◌, subst, arith, append_assoc}
+use Rattle.std.proofs.Common.{◌≡◌, inl, inr, List, [], ◌∷◌, ◌++◌, map, length, fold, Bool, true, false, ◌&&◌, ◌||◌, cond, refl, sym, ap}
+use Rattle.std.proofs.Common.{◌∙◌, subst, arith, append_assoc}
 use Rattle.std.specs.Option.{option_to_list}
 use Rattle.std.specs.List.{list_any, list_all, find}
 use Rattle.std.specs.List.Sorted.{IsPermutation}
 use Rattle.std.proofs.lemmas.List.{append-nil}
 use Rattle.std.proofs.lemmas.List.Folds.{list_any-append, list_all-append}
-use Rattle.std.proofs.lemmas.List.Sorted.{IsPermutation-refl, IsPermutation-sym, IsPermutation-trans, IsPermutation-append_left, IsPermutation-middle, IsPermutation-to_front}
+use Rattle.std.proofs.lemmas.List.Sorted.{IsPermutation-refl, IsPermutation-sym, IsPermutation-trans, IsPermutation-append_left}
+use Rattle.std.proofs.lemmas.List.Sorted.{IsPermutation-middle, IsPermutation-to_front}
 use Rattle.ds_indexdef.specs.declared.IndexDef.{IndexDef}
 use Rattle.ds_query.specs.declared.branch.Branch.{Branch}
-use Rattle.ds_planner.specs.declared.planned.Index.{Index}
+use Rattle.ds_planner.specs.declared.planned.PlannedIndex.{PlannedIndex}
 use Rattle.ds_planner.specs.declared.planned.PlannedScan.{PlannedScan}
 use Rattle.ds_planner.specs.Indexes.{is_candidate}
 use Rattle.ds_planner.specs.Parts.{Part}
@@ -85,7 +87,7 @@ module _ (b : Branch) (defs : List IndexDef) where
   ]
 
   -- one more scan, for a part that none binds
-  added : (done : List Part) (scans : List PlannedScan) (part : Part) (i : Index) → Builds b defs done scans → IsPart b part → is_candidate b defs i ≡ true → can_bind b defs part i ≡ true → Builds b defs (done ++ part ∷ []) (scans ++ scan_for b defs part i ∷ [])
+  added : (done : List Part) (scans : List PlannedScan) (part : Part) (i : PlannedIndex) → Builds b defs done scans → IsPart b part → is_candidate b defs i ≡ true → can_bind b defs part i ≡ true → Builds b defs (done ++ part ∷ []) (scans ++ scan_for b defs part i ∷ [])
   added done scans part i built is candidate can =
       let s = scan_for b defs part i in
       let binding = made_binds b defs part i is candidate can in

@@ -11,14 +11,15 @@ use Rattle.ds_query.specs.declared.branch.Pair.{Pair}
 use Rattle.ds_query.specs.declared.branch.Branch.{Branch}
 use Rattle.ds_query.specs.ColumnLists.{has_column}
 use Rattle.ds_query.specs.Lawful.{has_pair}
-use Rattle.ds_planner.specs.declared.planned.Index.{Index}
+use Rattle.ds_planner.specs.declared.planned.PlannedIndex.{PlannedIndex}
 use Rattle.ds_planner.specs.Indexes.{leading, are_paired, is_candidate, names_column, leads, binds_ancestor}
 use Rattle.ds_planner.specs.Parts.{Part}
 use Rattle.ds_planner.specs.Suits.{chooses, properties_differ, same_ancestor, bound_ancestor, is_choice, is_scan}
 use Rattle.ds_planner.specs.Lean.{binds}
 use Rattle.ds_planner.specs.Choices.{can_bind, agrees, scan_for}
 use Rattle.ds_planner.proofs.Members.{Member, both, or_true, each_member, any_member, all_members}
-use Rattle.ds_planner.proofs.PairLists.{chooses-member, member-chooses, has_pair-member, member-has_pair, name_itself, one_each, all_chosen, IsChosen, chosen_from, chosen_differ, chosen_reach}
+use Rattle.ds_planner.proofs.PairLists.{chooses-member, member-chooses, has_pair-member, member-has_pair, name_itself, one_each, all_chosen}
+use Rattle.ds_planner.proofs.PairLists.{IsChosen, chosen_from, chosen_differ, chosen_reach}
 
 -- a part of what the branch asks for, with at most one pair on each property
 pub record IsPart (b : Branch) (part : Part) : Type 0 where
@@ -41,7 +42,7 @@ agreeing b part is n h = at (has_pair part.equal n) refl where
       let none : has_pair part.equal r.0.property ≡ false = ap (has_pair part.equal) (sym r.1.1) ∙ e in
       (r.0, (r.1.0, r.1.1, ap (λ c. not c || chooses part.equal r.0) none))
 
-module _ (b : Branch) (defs : List IndexDef) (part : Part) (i : Index) (is : IsPart b part) (candidate : is_candidate b defs i ≡ true) (can : can_bind b defs part i ≡ true) where
+module _ (b : Branch) (defs : List IndexDef) (part : Part) (i : PlannedIndex) (is : IsPart b part) (candidate : is_candidate b defs i ≡ true) (can : can_bind b defs part i ≡ true) where
   abbrev lead : List ℕ → Bool
   lead n = leads b defs i n
 

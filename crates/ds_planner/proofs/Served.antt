@@ -1,5 +1,6 @@
 -- Where nothing is missing, and that no candidate is left out.
-use Rattle.std.proofs.Common.{◌≡◌, ◌<◌, inl, inr, ℕ, zero, suc, ◌+◌, List, [], ◌∷◌, ◌++◌, map, length, Bool, true, false, ◌&&◌, not, cond, refl, sym, ap, ◌∙◌, subst, Option, Some, None, option_map, option_and_then, is_some, arith}
+use Rattle.std.proofs.Common.{◌≡◌, ◌<◌, inl, inr, ℕ, zero, suc, ◌+◌, List, [], ◌∷◌, ◌++◌, map, length, Bool, true, false, ◌&&◌, not, cond}
+use Rattle.std.proofs.Common.{refl, sym, ap, ◌∙◌, subst, Option, Some, None, option_map, option_and_then, is_some, arith}
 use Rattle.std.specs.Prelude.{bytes_eq, flat_map}
 use Rattle.std.specs.List.{list_any, range_with_len, slice_get}
 use Rattle.std.proofs.lemmas.Option.{slice_get_within}
@@ -11,12 +12,14 @@ use Rattle.ds_query.specs.declared.branch.Branch.{Branch}
 use Rattle.ds_query.specs.declared.refusal.Constraint.{Constraint}
 use Rattle.ds_query.specs.declared.refusal.Constraint.TheVariants as constraint
 use Rattle.ds_query.specs.Lawful.{ends_in_key, has_pair}
-use Rattle.ds_planner.specs.declared.planned.Index.{Index}
-use Rattle.ds_planner.specs.declared.planned.Index.TheVariants as index
-use Rattle.ds_planner.specs.Indexes.{by_key, defined_columns, in_front_of, is_by_key, is_by_property, is_ascending_key, are_paired, is_candidate, leads, binds_ancestor}
+use Rattle.ds_planner.specs.declared.planned.PlannedIndex.{PlannedIndex}
+use Rattle.ds_planner.specs.declared.planned.PlannedIndex.TheVariants as index
+use Rattle.ds_planner.specs.Indexes.{by_key, defined_columns, in_front_of, is_by_property, are_paired, is_candidate, leads, binds_ancestor}
+use Rattle.ds_base.specs.KeyColumn.{is_by_key, is_ascending_key}
 use Rattle.ds_planner.specs.Suits.{are_some}
 use Rattle.ds_planner.specs.Missing.{two_ways, indexes, candidates, first_unled, constraint_of, Missing, missing_of, suggestion_of}
-use Rattle.ds_planner.proofs.Members.{Member, both, or_cases, any_member, member_left, member_right, find_none, none_found, member_filter, member_map, member_flat_map}
+use Rattle.ds_planner.proofs.Members.{Member, both, or_cases, any_member, member_left, member_right, find_none, none_found, member_filter}
+use Rattle.ds_planner.proofs.Members.{member_map, member_flat_map}
 use Rattle.ds_planner.proofs.PairLists.{has_pair-member, same_name}
 use Rattle.ds_planner.proofs.ColumnEnds.{pairs_by_property}
 
@@ -28,29 +31,29 @@ counted (suc n) a zero h = inl (omega arith)
 counted (suc n) a (suc k) h = inr (subst (λ m. Member m (range_with_len (a + 1) n)) (omega arith) (counted n (a + 1) k (omega arith)))
 
 module _ (b : Branch) (defs : List IndexDef) (ends : ends_in_key b.columns ≡ true) where
-  abbrev composites : List Index
+  abbrev composites : List PlannedIndex
   composites = map index.Composite (range_with_len 0 (length defs))
 
-  abbrev paired : List Index
+  abbrev paired : List PlannedIndex
   paired = flat_map (λ (p : Pair). two_ways p.property) b.equal
 
-  abbrev of_columns : List Index
+  abbrev of_columns : List PlannedIndex
   of_columns = flat_map (λ (c : Column). two_ways c.name) b.columns
 
-  abbrev keyed : List Index
+  abbrev keyed : List PlannedIndex
   keyed = index.KindByKey ∷ index.AllByKey ∷ []
 
   way : (n m : List ℕ) (d : Bool) → n ≡ m → Member (index.Property n d) (two_ways m)
   way n m false e = inl (ap (λ k. index.Property k false) e)
   way n m true e = inr (inl (ap (λ k. index.Property k true) e))
 
-  from_columns : (i : Index) → Member i of_columns → Member i (indexes b defs)
+  from_columns : (i : PlannedIndex) → Member i of_columns → Member i (indexes b defs)
   from_columns i m = member_right composites (paired ++ (of_columns ++ keyed)) i (member_right paired (of_columns ++ keyed) i (member_left of_columns keyed i m))
 
-  from_pairs : (i : Index) → Member i paired → Member i (indexes b defs)
+  from_pairs : (i : PlannedIndex) → Member i paired → Member i (indexes b defs)
   from_pairs i m = member_right composites (paired ++ (of_columns ++ keyed)) i (member_left paired (of_columns ++ keyed) i m)
 
-  from_keys : (i : Index) → Member i keyed → Member i (indexes b defs)
+  from_keys : (i : PlannedIndex) → Member i keyed → Member i (indexes b defs)
   from_keys i m = member_right composites (paired ++ (of_columns ++ keyed)) i (member_right paired (of_columns ++ keyed) i (member_right of_columns keyed i m))
 
   placed : (k : ℕ) (o : Option IndexDef) → slice_get defs k ≡ o → are_paired b.equal (option_and_then (in_front_of b.columns) (defined_columns b o)) ≡ true → Member (index.Composite k) (indexes b defs)
@@ -76,17 +79,17 @@ module _ (b : Branch) (defs : List IndexDef) (ends : ends_in_key b.columns ≡ t
             from_pairs (index.Property n d) (member_flat_map (λ (q : Pair). two_ways q.property) b.equal r.0 (index.Property n d) r.1.0 (way n r.0.property d r.1.1))
       ]
 
-  listed : (i : Index) → is_candidate b defs i ≡ true → Member i (indexes b defs)
+  listed : (i : PlannedIndex) → is_candidate b defs i ≡ true → Member i (indexes b defs)
   listed index.AllByKey h = from_keys index.AllByKey (inr (inl refl))
   listed index.KindByKey h = from_keys index.KindByKey (inl refl)
   listed (index.Property n d) h = named n d (is_some b.kind) refl h
   listed (index.Composite k) h = placed k (slice_get defs k) refl h
 
   -- no candidate is left out of the list
-  pub candidate_listed : (i : Index) → is_candidate b defs i ≡ true → Member i (candidates b defs)
+  pub candidate_listed : (i : PlannedIndex) → is_candidate b defs i ≡ true → Member i (candidates b defs)
   candidate_listed i h = member_filter (is_candidate b defs) (indexes b defs) i (listed i h) h
 
-  pub candidate_passes : (p : Index → Bool) (i : Index) → is_candidate b defs i ≡ true → p i ≡ true → list_any p (candidates b defs) ≡ true
+  pub candidate_passes : (p : PlannedIndex → Bool) (i : PlannedIndex) → is_candidate b defs i ≡ true → p i ≡ true → list_any p (candidates b defs) ≡ true
   candidate_passes p i h k = any_member p (candidates b defs) i (candidate_listed i h) k
 
 -- ---- nothing is missing

@@ -1,5 +1,7 @@
 -- The suggested definition serves its branch.
-use Rattle.std.proofs.Common.{◌≡◌, ◌≤◌, ◌<◌, ◌-◌, inl, inr, ℕ, zero, suc, List, [], ◌∷◌, ◌++◌, length, take, drop, get_or, Bool, true, false, ◌||◌, not, cond, refl, sym, ap, ◌∙◌, Option, Some, None, is_some, unwrap_or, option_map, option_and_then, arith, length-append, append_assoc}
+use Rattle.std.proofs.Common.{◌≡◌, ◌≤◌, ◌<◌, ◌-◌, inl, inr, ℕ, zero, suc, List, [], ◌∷◌, ◌++◌, length, take, drop, get_or, Bool, true}
+use Rattle.std.proofs.Common.{false, ◌||◌, not, cond, refl, sym, ap, ◌∙◌, Option, Some, None, is_some, unwrap_or, option_map}
+use Rattle.std.proofs.Common.{option_and_then, arith, length-append, append_assoc}
 use Rattle.std.specs.Prelude.{bytes_eq}
 use Rattle.std.specs.List.{slice_get}
 use Rattle.std.specs.Cmp.Lexicographic.{pointwise}
@@ -11,13 +13,15 @@ use Rattle.ds_base.specs.ColumnLaws.{same_column-equiv}
 use Rattle.ds_indexdef.specs.declared.IndexDef.{IndexDef}
 use Rattle.ds_query.specs.declared.branch.Pair.{Pair}
 use Rattle.ds_query.specs.declared.branch.Branch.{Branch}
-use Rattle.ds_query.specs.Filters.{key_name, is_key_name}
+use Rattle.ds_base.specs.KeyColumn.{key_name, is_key_name, is_ascending_key, is_by_key}
 use Rattle.ds_query.specs.ColumnLists.{has_column, ascending}
 use Rattle.ds_query.specs.Lawful.{ends_in_key, names_differ, has_pair, IsLawfulBranch}
-use Rattle.ds_planner.specs.declared.planned.Index.TheVariants as index
-use Rattle.ds_planner.specs.Indexes.{by_key, with_key, is_of_kind, defined_columns, in_front_of, leading, are_paired, names_column, leads, is_candidate, is_ascending_key, is_by_key, binds_ancestor}
+use Rattle.ds_planner.specs.declared.planned.PlannedIndex.TheVariants as index
+use Rattle.ds_planner.specs.Indexes.{by_key, with_key, is_of_kind, defined_columns, in_front_of, leading, are_paired, names_column, leads}
+use Rattle.ds_planner.specs.Indexes.{is_candidate, binds_ancestor}
 use Rattle.ds_planner.specs.Missing.{goes_on, equal_columns, without_key, suggestion_of, candidates, constraint_of}
-use Rattle.ds_planner.proofs.Members.{Member, both, join, or_true, not_true, refuted, true_false, any_member, each_member, all_members, member_append}
+use Rattle.ds_planner.proofs.Members.{Member, both, join, or_true, not_true, refuted, true_false, any_member, each_member, all_members}
+use Rattle.ds_planner.proofs.Members.{member_append}
 use Rattle.ds_planner.proofs.PairLists.{member-has_pair, same_name, name_itself}
 use Rattle.ds_planner.proofs.ColumnEnds.{last_split, ends_in_key-last, without_key-last, in_front_of-last, ascending_key}
 use Rattle.ds_planner.proofs.Served.{are_some-member, candidate_listed, candidate_passes, nothing_missing}

@@ -11,11 +11,11 @@ use Rattle.ds_base.specs.Columns.{same_column}
 use Rattle.ds_indexdef.specs.declared.IndexDef.{IndexDef}
 use Rattle.ds_query.specs.declared.branch.Pair.{Pair}
 use Rattle.ds_query.specs.declared.branch.Branch.{Branch}
-use Rattle.ds_query.specs.Filters.{key_name, is_key_name}
+use Rattle.ds_base.specs.KeyColumn.{key_name, is_key_name, is_ascending_key, is_by_key}
 use Rattle.ds_query.specs.ColumnLists.{has_column, ascending}
 use Rattle.ds_query.specs.Lawful.{ends_in_key, has_pair}
-use Rattle.ds_planner.specs.declared.planned.Index.{Index}
-use Rattle.ds_planner.specs.declared.planned.Index.TheVariants as index
+use Rattle.ds_planner.specs.declared.planned.PlannedIndex.{PlannedIndex}
+use Rattle.ds_planner.specs.declared.planned.PlannedIndex.TheVariants as index
 
 -- ---- columns
 
@@ -25,15 +25,6 @@ by_key = ascending key_name ∷ []
 
 abbrev pub with_key : List Column → List Column
 with_key columns = cond (ends_in_key columns) columns (columns ++ by_key)
-
-abbrev pub is_ascending_key : Column → Bool
-is_ascending_key c = is_key_name c.name && not c.descending
-
--- `__key__` ascending alone: the order of keys
-abbrev pub is_by_key : List Column → Bool
-is_by_key [] = false
-is_by_key (c ∷ []) = is_ascending_key c
-is_by_key (c ∷ d ∷ cs) = false
 
 -- one column, and then `__key__` ascending
 abbrev pub is_by_property : Column → List Column → Bool
@@ -64,7 +55,7 @@ defined_columns b (Some d) = cond (is_usable b d) (Some (with_key d.columns)) No
 
 -- the columns of an index; none where the branch may not use it: a branch without a kind has the index of all entities alone, and
 -- every other branch the indexes of its kind
-abbrev pub index_columns : Branch → List IndexDef → Index → Option (List Column)
+abbrev pub index_columns : Branch → List IndexDef → PlannedIndex → Option (List Column)
 index_columns b defs index.AllByKey = cond (is_none b.kind) (Some by_key) None
 index_columns b defs index.KindByKey = cond (is_some b.kind) (Some by_key) None
 index_columns b defs (index.Property name descending) =
@@ -74,7 +65,7 @@ index_columns b defs (index.Composite position) = defined_columns b (slice_get d
 -- ---- candidates
 
 -- the columns of an index in front of the branch's; none where it may not be used or doesn't end with exactly the branch's columns
-abbrev pub leading : Branch → List IndexDef → Index → Option (List Column)
+abbrev pub leading : Branch → List IndexDef → PlannedIndex → Option (List Column)
 leading b defs i = option_and_then (in_front_of b.columns) (index_columns b defs i)
 
 abbrev pub are_paired : List Pair → Option (List Column) → Bool
@@ -82,12 +73,12 @@ are_paired pairs None = false
 are_paired pairs (Some columns) = list_all (λ c. has_pair pairs c.name) columns
 
 -- does the index end with the branch's columns, and is each column in front of them on the property of one of the pairs?
-abbrev pub is_paired : Branch → List IndexDef → Index → List Pair → Bool
+abbrev pub is_paired : Branch → List IndexDef → PlannedIndex → List Pair → Bool
 is_paired b defs i pairs = are_paired pairs (leading b defs i)
 
 -- an index that may be scanned for the branch: its properties are some of the branch's equality properties, in any order and any
 -- direction, and then exactly the columns
-abbrev pub is_candidate : Branch → List IndexDef → Index → Bool
+abbrev pub is_candidate : Branch → List IndexDef → PlannedIndex → Bool
 is_candidate b defs i = is_paired b defs i b.equal
 
 -- ---- what a scan of it is bound to
@@ -97,15 +88,15 @@ names_column None name = false
 names_column (Some columns) name = has_column columns name
 
 -- a value of each property in front of the branch's columns
-abbrev pub leads : Branch → List IndexDef → Index → List ℕ → Bool
+abbrev pub leads : Branch → List IndexDef → PlannedIndex → List ℕ → Bool
 leads b defs i name = names_column (leading b defs i) name
 
 -- does the index's definition have the ancestor flag?
-abbrev pub has_flag : List IndexDef → Index → Bool
+abbrev pub has_flag : List IndexDef → PlannedIndex → Bool
 has_flag defs (index.Composite position) = unwrap_or (option_map (λ d. d.ancestor) (slice_get defs position)) false
 has_flag defs _ = false
 
 -- the ancestor, by the flag; and where the columns are `__key__` ascending alone by any index, since what lies under the ancestor
 -- is then a range of keys
-abbrev pub binds_ancestor : Branch → List IndexDef → Index → Bool
+abbrev pub binds_ancestor : Branch → List IndexDef → PlannedIndex → Bool
 binds_ancestor b defs i = is_by_key b.columns || has_flag defs i

@@ -9,37 +9,38 @@ use Rattle.ds_query.specs.declared.branch.Branch.{Branch}
 use Rattle.ds_query.specs.declared.refusal.Constraint.{Constraint}
 use Rattle.ds_query.specs.declared.refusal.Constraint.TheVariants as constraint
 use Rattle.ds_query.specs.ColumnLists.{ascending}
-use Rattle.ds_planner.specs.declared.planned.Index.{Index}
-use Rattle.ds_planner.specs.declared.planned.Index.TheVariants as index
-use Rattle.ds_planner.specs.Indexes.{is_ascending_key, is_candidate, leads, binds_ancestor}
+use Rattle.ds_planner.specs.declared.planned.PlannedIndex.{PlannedIndex}
+use Rattle.ds_planner.specs.declared.planned.PlannedIndex.TheVariants as index
+use Rattle.ds_planner.specs.Indexes.{is_candidate, leads, binds_ancestor}
+use Rattle.ds_base.specs.KeyColumn.{is_ascending_key}
 use Rattle.ds_planner.specs.Suits.{are_some}
 
 -- ---- candidates
 
 -- both indexes of a property
-abbrev pub two_ways : List ℕ → List Index
+abbrev pub two_ways : List ℕ → List PlannedIndex
 two_ways name = index.Property name false ∷ index.Property name true ∷ []
 
 -- the composite indexes, those of each property that the branch names, and those by key: each index that may be a candidate
-abbrev pub indexes : Branch → List IndexDef → List Index
+abbrev pub indexes : Branch → List IndexDef → List PlannedIndex
 indexes b defs =
     map index.Composite (range_with_len 0 (length defs))
     ++ (flat_map (λ p. two_ways p.property) b.equal
     ++ (flat_map (λ c. two_ways c.name) b.columns
     ++ (index.KindByKey ∷ index.AllByKey ∷ [])))
 
-abbrev pub candidates : Branch → List IndexDef → List Index
+abbrev pub candidates : Branch → List IndexDef → List PlannedIndex
 candidates b defs = filter (is_candidate b defs) (indexes b defs)
 
 -- ---- what is missing
 
 -- the first pair whose property leads none of these indexes
-abbrev pub first_unled : Branch → List IndexDef → List Index → Option Pair
+abbrev pub first_unled : Branch → List IndexDef → List PlannedIndex → Option Pair
 first_unled b defs found = find (λ p. not (list_any (λ i. leads b defs i p.property) found)) b.equal
 
 -- the columns where there is no candidate, else the ancestor where no candidate binds it, else the first pair, by property and
 -- then value, whose property is in none
-abbrev pub constraint_among : Branch → List IndexDef → List Index → Option Constraint
+abbrev pub constraint_among : Branch → List IndexDef → List PlannedIndex → Option Constraint
 constraint_among b defs found =
     cond (not (are_some found)) (Some constraint.Columns)
     (cond (is_some b.ancestor && not (list_any (binds_ancestor b defs) found)) (Some constraint.Ancestor)

@@ -9,7 +9,7 @@ use Rattle.ds_query.specs.declared.branch.Pair.{Pair}
 use Rattle.ds_query.specs.declared.branch.Branch.{Branch}
 use Rattle.ds_query.specs.Branching.{pair_cmp}
 use Rattle.ds_query.specs.Lawful.{has_pair}
-use Rattle.ds_planner.specs.declared.planned.Index.{Index}
+use Rattle.ds_planner.specs.declared.planned.PlannedIndex.{PlannedIndex}
 use Rattle.ds_planner.specs.declared.planned.PlannedScan.{PlannedScan}
 use Rattle.ds_planner.specs.Indexes.{is_paired, leads, has_flag, is_candidate, binds_ancestor}
 
@@ -28,11 +28,11 @@ same_ancestor (Some a) (Some b) = same_key a b
 same_ancestor _ _ = false
 
 -- the branch's ancestor, for an index whose definition has the ancestor flag
-abbrev pub bound_ancestor : Branch → List IndexDef → Index → Option KeyParts
+abbrev pub bound_ancestor : Branch → List IndexDef → PlannedIndex → Option KeyParts
 bound_ancestor b defs i = cond (has_flag defs i) b.ancestor None
 
 -- one of the branch's pairs for each equality property of the index, and for no other property
-abbrev pub is_choice : Branch → List IndexDef → Index → List Pair → Bool
+abbrev pub is_choice : Branch → List IndexDef → PlannedIndex → List Pair → Bool
 is_choice b defs i pairs =
     list_all (chooses b.equal) pairs
     && list_all (λ p. leads b defs i p.property) pairs

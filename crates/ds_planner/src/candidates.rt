@@ -6,7 +6,7 @@ ghost use Rattle.ds_planner.specs.Indexes.{is_candidate};
 ghost use Rattle.ds_planner.specs.Missing.{two_ways, candidates};
 
 use crate::indexes::is_candidate;
-use crate::planned::Index;
+use crate::planned::PlannedIndex;
 use ds_base::{TextString, TryCopy};
 use ds_indexdef::Defs;
 use ds_query::Branch;
@@ -17,15 +17,15 @@ pub(crate) fn candidates(
     alloc: Global,
     branch: &Branch,
     defs: &Defs,
-) -> Result<Vec<Index>, AllocError>
+) -> Result<Vec<PlannedIndex>, AllocError>
     requires { IsTrue (ends_in_key branch.now.columns) }
     ensures { IfOk result (λ found. found.items ≡ candidates branch.now defs.now) }
 {
     let mut found = composites(alloc, branch, defs)?;
     push_paired(alloc, branch, defs, &mut found)?;
     push_columns(alloc, branch, defs, &mut found)?;
-    push(branch, defs, Index::KindByKey, &mut found)?;
-    push(branch, defs, Index::AllByKey, &mut found)?;
+    push(branch, defs, PlannedIndex::KindByKey, &mut found)?;
+    push(branch, defs, PlannedIndex::AllByKey, &mut found)?;
     Ok(found)
 }
 
@@ -33,8 +33,8 @@ pub(crate) fn candidates(
 fn push(
     branch: &Branch,
     defs: &Defs,
-    index: Index,
-    found: &mut Vec<Index>,
+    index: PlannedIndex,
+    found: &mut Vec<PlannedIndex>,
 ) -> Result<(), AllocError>
     requires { IsTrue (ends_in_key branch.now.columns) }
     ensures { OnOk result (found.new.items ≡ found.old.items
@@ -47,15 +47,20 @@ fn push(
 }
 
 /// The composite candidates.
-fn composites(alloc: Global, branch: &Branch, defs: &Defs) -> Result<Vec<Index>, AllocError>
+fn composites(alloc: Global, branch: &Branch, defs: &Defs) -> Result<Vec<PlannedIndex>, AllocError>
     requires { IsTrue (ends_in_key branch.now.columns) }
     ensures { IfOk result (λ found. found.items ≡ filter (is_candidate branch.now defs.now)
-        (map Index.Composite (range_with_len 0 (length defs.now)))) }
+        (map PlannedIndex.Composite (range_with_len 0 (length defs.now)))) }
 {
     let mut found = Vec::new(alloc);
     for position in 0..defs.len() {
         let position = position as u32;
-        push(branch, defs, Index::Composite { position }, &mut found)?;
+        push(
+            branch,
+            defs,
+            PlannedIndex::Composite { position },
+            &mut found,
+        )?;
     }
     Ok(found)
 }
@@ -65,7 +70,7 @@ fn push_paired(
     alloc: Global,
     branch: &Branch,
     defs: &Defs,
-    found: &mut Vec<Index>,
+    found: &mut Vec<PlannedIndex>,
 ) -> Result<(), AllocError>
     requires { IsTrue (ends_in_key branch.now.columns) }
     ensures { OnOk result (found.new.items ≡ found.old.items
@@ -82,7 +87,7 @@ fn push_columns(
     alloc: Global,
     branch: &Branch,
     defs: &Defs,
-    found: &mut Vec<Index>,
+    found: &mut Vec<PlannedIndex>,
 ) -> Result<(), AllocError>
     requires { IsTrue (ends_in_key branch.now.columns) }
     ensures { OnOk result (found.new.items ≡ found.old.items
@@ -100,7 +105,7 @@ fn push_two_ways(
     branch: &Branch,
     defs: &Defs,
     name: &TextString,
-    found: &mut Vec<Index>,
+    found: &mut Vec<PlannedIndex>,
 ) -> Result<(), AllocError>
     requires { IsTrue (ends_in_key branch.now.columns) }
     ensures { OnOk result (found.new.items ≡ found.old.items
@@ -110,10 +115,10 @@ fn push_two_ways(
     push(branch, defs, property(alloc, name, true)?, found)
 }
 
-fn property(alloc: Global, name: &TextString, descending: bool) -> Result<Index, AllocError>
-    ensures { IfOk result (λ i. i ≡ Index.Property name.now descending) }
+fn property(alloc: Global, name: &TextString, descending: bool) -> Result<PlannedIndex, AllocError>
+    ensures { IfOk result (λ i. i ≡ PlannedIndex.Property name.now descending) }
 {
-    Ok(Index::Property {
+    Ok(PlannedIndex::Property {
         name: name.copy(alloc)?,
         descending,
     })

@@ -12,23 +12,23 @@ ghost use Rattle.ds_planner.specs.Choices.{can_bind, agrees, with_choice, scan_f
 
 use crate::indexes::{binds_ancestor, has_flag, lead_all, leads};
 use crate::pairs::{are_among, chooses, has_pair, properties_differ};
-use crate::planned::{Index, PlannedScan, PlannedScans};
+use crate::planned::{PlannedIndex, PlannedScan, PlannedScans};
 use ds_base::{Key, TryCopy};
 use ds_indexdef::Defs;
 use ds_query::{Branch, Pair, Pairs};
 use std::alloc::{AllocError, Global};
 use std::slice;
 
-impl TryCopy for Index {
-    fn copy(&self, alloc: Global) -> Result<Index, AllocError> {
+impl TryCopy for PlannedIndex {
+    fn copy(&self, alloc: Global) -> Result<PlannedIndex, AllocError> {
         Ok(match self {
-            Index::AllByKey => Index::AllByKey,
-            Index::KindByKey => Index::KindByKey,
-            Index::Property { name, descending } => Index::Property {
+            PlannedIndex::AllByKey => PlannedIndex::AllByKey,
+            PlannedIndex::KindByKey => PlannedIndex::KindByKey,
+            PlannedIndex::Property { name, descending } => PlannedIndex::Property {
                 name: name.copy(alloc)?,
                 descending: *descending,
             },
-            Index::Composite { position } => Index::Composite {
+            PlannedIndex::Composite { position } => PlannedIndex::Composite {
                 position: *position,
             },
         })
@@ -41,7 +41,7 @@ pub(crate) fn scans_of(
     alloc: Global,
     branch: &Branch,
     defs: &Defs,
-    found: &[Index],
+    found: &[PlannedIndex],
 ) -> Result<PlannedScans, AllocError>
     requires columns { IsTrue (ends_in_key branch.now.columns) }
     requires candidates { found.now ≡ candidates branch.now defs.now }
@@ -58,7 +58,11 @@ pub(crate) fn scans_of(
 }
 
 /// The first candidate that alone can bind all that the branch asks for.
-fn sole_index<'a>(branch: &Branch, defs: &Defs, found: &'a [Index]) -> Option<&'a Index>
+fn sole_index<'a>(
+    branch: &Branch,
+    defs: &Defs,
+    found: &'a [PlannedIndex],
+) -> Option<&'a PlannedIndex>
     requires columns { IsTrue (ends_in_key branch.now.columns) }
     requires candidates { found.now ≡ candidates branch.now defs.now }
     ensures { option_copied result ≡ sole_index branch.now defs.now }
@@ -76,7 +80,7 @@ fn scans_by_part(
     alloc: Global,
     branch: &Branch,
     defs: &Defs,
-    found: &[Index],
+    found: &[PlannedIndex],
 ) -> Result<Vec<PlannedScan>, AllocError>
     requires columns { IsTrue (ends_in_key branch.now.columns) }
     requires candidates { found.now ≡ candidates branch.now defs.now }
@@ -100,7 +104,7 @@ fn add_scan(
     defs: &Defs,
     equal: &[Pair],
     ancestor: bool,
-    found: &[Index],
+    found: &[PlannedIndex],
     scans: &mut Vec<PlannedScan>,
 ) -> Result<(), AllocError>
     requires columns { IsTrue (ends_in_key branch.now.columns) }
@@ -149,8 +153,8 @@ fn first_that_can_bind<'a>(
     defs: &Defs,
     equal: &[Pair],
     ancestor: bool,
-    found: &'a [Index],
-) -> Option<&'a Index>
+    found: &'a [PlannedIndex],
+) -> Option<&'a PlannedIndex>
     requires { IsTrue (ends_in_key branch.now.columns) }
     ensures { option_copied result ≡ find (can_bind branch.now defs.now
         (record { equal = equal.now; ancestor = ancestor })) found.now }
@@ -163,7 +167,13 @@ fn first_that_can_bind<'a>(
     None
 }
 
-fn can_bind(branch: &Branch, defs: &Defs, equal: &[Pair], ancestor: bool, index: &Index) -> bool
+fn can_bind(
+    branch: &Branch,
+    defs: &Defs,
+    equal: &[Pair],
+    ancestor: bool,
+    index: &PlannedIndex,
+) -> bool
     requires { IsTrue (ends_in_key branch.now.columns) }
     ensures { result ≡ can_bind branch.now defs.now (record { equal = equal.now; ancestor = ancestor }) index.now }
 {
@@ -177,7 +187,7 @@ fn scan_for(
     defs: &Defs,
     equal: &[Pair],
     ancestor: bool,
-    index: &Index,
+    index: &PlannedIndex,
 ) -> Result<PlannedScan, AllocError>
     requires { IsTrue (ends_in_key branch.now.columns) }
     ensures { IfOk result (λ s. s ≡ scan_for branch.now defs.now
@@ -197,7 +207,7 @@ fn chosen_pairs(
     defs: &Defs,
     equal: &[Pair],
     ancestor: bool,
-    index: &Index,
+    index: &PlannedIndex,
 ) -> Result<Pairs, AllocError>
     requires { IsTrue (ends_in_key branch.now.columns) }
     ensures { IfOk result (λ pairs. pairs ≡ fold (with_choice branch.now defs.now index.now
@@ -217,7 +227,7 @@ fn chosen_pairs(
 fn is_choice(
     branch: &Branch,
     defs: &Defs,
-    index: &Index,
+    index: &PlannedIndex,
     equal: &[Pair],
     chosen: &[Pair],
     pair: &Pair,
@@ -237,7 +247,7 @@ fn bound_ancestor(
     alloc: Global,
     branch: &Branch,
     defs: &Defs,
-    index: &Index,
+    index: &PlannedIndex,
 ) -> Result<Option<Key>, AllocError>
     ensures { IfOk result (λ a. a ≡ bound_ancestor branch.now defs.now index.now) }
 {

@@ -4,30 +4,31 @@ ghost use Rattle.std.specs.Option.{option_copied};
 ghost use Rattle.std.specs.List.{list_all, slice_get};
 ghost use Rattle.ds_query.specs.ColumnLists.{has_column};
 ghost use Rattle.ds_query.specs.Lawful.{ends_in_key, has_pair};
-ghost use Rattle.ds_planner.specs.Indexes.{by_key, defined_columns, in_front_of, is_by_key, is_by_property, is_of_kind, is_usable};
+ghost use Rattle.ds_planner.specs.Indexes.{by_key, defined_columns, in_front_of, is_by_property, is_of_kind, is_usable};
+ghost use Rattle.ds_base.specs.KeyColumn.{is_by_key};
 ghost use Rattle.ds_planner.specs.Indexes.{are_paired, binds_ancestor, has_flag, is_candidate, is_paired, leading, leads};
 
-use crate::key_columns::{in_front_of, is_ascending_key, is_by_key};
+use crate::key_columns::in_front_of;
 use crate::pairs::has_pair;
-use crate::planned::Index;
-use ds_base::{Column, TextString};
+use crate::planned::PlannedIndex;
+use ds_base::{Column, TextString, is_ascending_key, is_by_key};
 use ds_indexdef::{Defs, IndexDef};
 use ds_query::{Branch, Pair};
 
 /// Whether the index ends with the branch's columns, and each of its columns in front of them is on the property of one of
 /// the pairs.
-pub(crate) fn is_paired(branch: &Branch, defs: &Defs, index: &Index, pairs: &[Pair]) -> bool
+pub(crate) fn is_paired(branch: &Branch, defs: &Defs, index: &PlannedIndex, pairs: &[Pair]) -> bool
     requires { IsTrue (ends_in_key branch.now.columns) }
     ensures { result ≡ is_paired branch.now defs.now index.now pairs.now }
 {
     let columns = branch.columns.as_slice();
     match index {
-        Index::AllByKey => !has_kind(branch) && is_by_key(columns),
-        Index::KindByKey => has_kind(branch) && is_by_key(columns),
-        Index::Property { name, descending } => {
+        PlannedIndex::AllByKey => !has_kind(branch) && is_by_key(columns),
+        PlannedIndex::KindByKey => has_kind(branch) && is_by_key(columns),
+        PlannedIndex::Property { name, descending } => {
             has_kind(branch) && is_property_paired(name, *descending, columns, pairs)
         }
-        Index::Composite { position } => match leading(branch, defs, *position) {
+        PlannedIndex::Composite { position } => match leading(branch, defs, *position) {
             Some(columns) => are_paired(columns, pairs),
             None => false,
         },
@@ -35,7 +36,7 @@ pub(crate) fn is_paired(branch: &Branch, defs: &Defs, index: &Index, pairs: &[Pa
 }
 
 /// Whether the index may be scanned for the branch.
-pub(crate) fn is_candidate(branch: &Branch, defs: &Defs, index: &Index) -> bool
+pub(crate) fn is_candidate(branch: &Branch, defs: &Defs, index: &PlannedIndex) -> bool
     requires { IsTrue (ends_in_key branch.now.columns) }
     ensures { result ≡ is_candidate branch.now defs.now index.now }
 {
@@ -43,17 +44,17 @@ pub(crate) fn is_candidate(branch: &Branch, defs: &Defs, index: &Index) -> bool
 }
 
 /// Whether the index has the property in front of the branch's columns.
-pub(crate) fn leads(branch: &Branch, defs: &Defs, index: &Index, wanted: &TextString) -> bool
+pub(crate) fn leads(branch: &Branch, defs: &Defs, index: &PlannedIndex, wanted: &TextString) -> bool
     requires { IsTrue (ends_in_key branch.now.columns) }
     ensures { result ≡ leads branch.now defs.now index.now wanted.now }
 {
     match index {
-        Index::AllByKey => false,
-        Index::KindByKey => false,
-        Index::Property { name, .. } => {
+        PlannedIndex::AllByKey => false,
+        PlannedIndex::KindByKey => false,
+        PlannedIndex::Property { name, .. } => {
             has_kind(branch) && property_leads(name, branch.columns.as_slice(), wanted)
         }
-        Index::Composite { position } => match leading(branch, defs, *position) {
+        PlannedIndex::Composite { position } => match leading(branch, defs, *position) {
             Some(columns) => has_column(columns, wanted),
             None => false,
         },
@@ -61,7 +62,7 @@ pub(crate) fn leads(branch: &Branch, defs: &Defs, index: &Index, wanted: &TextSt
 }
 
 /// Whether the index has the property of each pair in front of the branch's columns.
-pub(crate) fn lead_all(branch: &Branch, defs: &Defs, index: &Index, pairs: &[Pair]) -> bool
+pub(crate) fn lead_all(branch: &Branch, defs: &Defs, index: &PlannedIndex, pairs: &[Pair]) -> bool
     requires { IsTrue (ends_in_key branch.now.columns) }
     ensures { result ≡ list_all (λ p. leads branch.now defs.now index.now p.property) pairs.now }
 {
@@ -71,18 +72,18 @@ pub(crate) fn lead_all(branch: &Branch, defs: &Defs, index: &Index, pairs: &[Pai
 }
 
 /// Whether a scan of the index is bound to the branch's ancestor.
-pub(crate) fn binds_ancestor(branch: &Branch, defs: &Defs, index: &Index) -> bool
+pub(crate) fn binds_ancestor(branch: &Branch, defs: &Defs, index: &PlannedIndex) -> bool
     ensures { result ≡ binds_ancestor branch.now defs.now index.now }
 {
     is_by_key(branch.columns.as_slice()) || has_flag(defs, index)
 }
 
 /// Whether the index's definition has the ancestor flag.
-pub(crate) fn has_flag(defs: &Defs, index: &Index) -> bool
+pub(crate) fn has_flag(defs: &Defs, index: &PlannedIndex) -> bool
     ensures { result ≡ has_flag defs.now index.now }
 {
     match index {
-        Index::Composite { position } => match defs.get(*position as usize) {
+        PlannedIndex::Composite { position } => match defs.get(*position as usize) {
             Some(def) => def.ancestor,
             None => false,
         },
@@ -99,7 +100,7 @@ pub(crate) fn has_kind(branch: &Branch) -> bool
 /// The columns of a composite index in front of the branch's; none where it doesn't serve the branch.
 fn leading<'a>(branch: &Branch, defs: &'a Defs, position: u32) -> Option<&'a [Column]>
     requires { IsTrue (ends_in_key branch.now.columns) }
-    ensures { option_copied result ≡ leading branch.now defs.now (Index.Composite position) }
+    ensures { option_copied result ≡ leading branch.now defs.now (PlannedIndex.Composite position) }
 {
     match defs.get(position as usize) {
         Some(def) => leading_of(branch, def),

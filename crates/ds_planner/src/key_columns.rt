@@ -1,35 +1,12 @@
 //! The end of a list of columns: `__key__`, and its direction.
 ghost use Rattle.std.specs.Prelude.{◌≡◌, ◌&&◌, not, IsTrue};
 ghost use Rattle.std.specs.Option.{option_copied};
-ghost use Rattle.ds_query.specs.Filters.{is_key_name};
+ghost use Rattle.ds_base.specs.KeyColumn.{is_key_name, is_ascending_key};
 ghost use Rattle.ds_query.specs.Lawful.{ends_in_key};
-ghost use Rattle.ds_planner.specs.Indexes.{with_key, in_front_of, is_ascending_key, is_by_key};
+ghost use Rattle.ds_planner.specs.Indexes.{with_key, in_front_of};
 ghost use Rattle.ds_planner.specs.Missing.{without_key};
 
-use ds_base::{Column, TextString};
-
-fn is_key_name(name: &TextString) -> bool
-    ensures { result ≡ is_key_name name.now }
-{
-    name.text() == "__key__"
-}
-
-/// Whether the column is `__key__` ascending.
-pub(crate) fn is_ascending_key(column: &Column) -> bool
-    ensures { result ≡ is_ascending_key column.now }
-{
-    is_key_name(&column.name) && !column.descending
-}
-
-/// Whether the columns are `__key__` ascending alone.
-pub(crate) fn is_by_key(columns: &[Column]) -> bool
-    ensures { result ≡ is_by_key columns.now }
-{
-    match columns {
-        [only] => is_ascending_key(only),
-        _ => false,
-    }
-}
+use ds_base::{Column, is_ascending_key, is_key_name};
 
 /// Whether the last column is `__key__`.
 fn ends_in_key(columns: &[Column]) -> bool

@@ -2,7 +2,7 @@
 ghost use Rattle.std.specs.Prelude.{◌≡◌, ◌↔◌, ◌++◌, ◌∷◌, [], List, None, IsSome, IsTrue};
 ghost use Rattle.std.specs.List.{Contains};
 ghost use Rattle.ds_query.specs.Lawful.{IsLawfulBranch};
-ghost use Rattle.ds_planner.specs.declared.planned.Index.{Index};
+ghost use Rattle.ds_planner.specs.declared.planned.PlannedIndex.{PlannedIndex};
 ghost use Rattle.ds_planner.specs.declared.planned.PlannedScan.{PlannedScan};
 ghost use Rattle.ds_planner.specs.Indexes.{is_candidate};
 ghost use Rattle.ds_planner.specs.Suits.{suits};
@@ -29,6 +29,6 @@ pub fn served_where_suited(branch: &Branch, defs: &Defs)
 /// The list of candidates, by which what is missing is told, has each index that may be scanned for the branch, and no other.
 pub fn candidates_are_all(branch: &Branch, defs: &Defs)
     requires lawful { IsLawfulBranch branch.now }
-    ensures { (i : Index) → IsTrue (is_candidate branch.now defs.now i)
+    ensures { (i : PlannedIndex) → IsTrue (is_candidate branch.now defs.now i)
         ↔ Contains (candidates branch.now defs.now) i }
 {}

@@ -17,6 +17,6 @@ pub mod planned;
 pub mod planning;
 pub mod suiting;
 
-pub use planned::{Index, PlannedScan, PlannedScans, ScanPlan};
+pub use planned::{PlannedIndex, PlannedScan, PlannedScans, ScanPlan};
 pub use planning::{PlanRefused, plan};
 pub use suiting::suits;

@@ -8,7 +8,7 @@ ghost use Rattle.ds_planner.specs.Missing.{candidates, first_unled, constraint_a
 
 use crate::indexes::{binds_ancestor, leads};
 use crate::key_columns::without_key;
-use crate::planned::Index;
+use crate::planned::PlannedIndex;
 use ds_base::{Column, Columns, TextString, TryCopy};
 use ds_indexdef::{Defs, IndexDef};
 use ds_query::{Branch, Constraint, Pair};
@@ -19,7 +19,7 @@ pub(crate) fn constraint_among(
     alloc: Global,
     branch: &Branch,
     defs: &Defs,
-    found: &[Index],
+    found: &[PlannedIndex],
 ) -> Result<Option<Constraint>, AllocError>
     requires { IsTrue (ends_in_key branch.now.columns) }
     ensures { IfOk result (λ c. c ≡ constraint_among branch.now defs.now found.now) }
@@ -36,7 +36,7 @@ pub(crate) fn constraint_among(
     }
 }
 
-fn any_binds_ancestor(branch: &Branch, defs: &Defs, found: &[Index]) -> bool
+fn any_binds_ancestor(branch: &Branch, defs: &Defs, found: &[PlannedIndex]) -> bool
     ensures { result ≡ list_any (binds_ancestor branch.now defs.now) found.now }
 {
     found
@@ -45,7 +45,7 @@ fn any_binds_ancestor(branch: &Branch, defs: &Defs, found: &[Index]) -> bool
 }
 
 /// The first pair whose property leads none of the indexes.
-fn first_unled<'a>(branch: &'a Branch, defs: &Defs, found: &[Index]) -> Option<&'a Pair>
+fn first_unled<'a>(branch: &'a Branch, defs: &Defs, found: &[PlannedIndex]) -> Option<&'a Pair>
     requires { IsTrue (ends_in_key branch.now.columns) }
     ensures { option_copied result ≡ first_unled branch.now defs.now found.now }
 {
@@ -57,7 +57,7 @@ fn first_unled<'a>(branch: &'a Branch, defs: &Defs, found: &[Index]) -> Option<&
     None
 }
 
-fn any_leads(branch: &Branch, defs: &Defs, found: &[Index], name: &TextString) -> bool
+fn any_leads(branch: &Branch, defs: &Defs, found: &[PlannedIndex], name: &TextString) -> bool
     requires { IsTrue (ends_in_key branch.now.columns) }
     ensures { result ≡ list_any (λ i. leads branch.now defs.now i name.now) found.now }
 {

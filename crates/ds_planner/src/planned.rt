@@ -4,7 +4,7 @@ use ds_query::Pairs;
 
 /// An index of a branch's kind, or of all entities for a branch without one.
 #[derive(Drop)]
-pub enum Index {
+pub enum PlannedIndex {
     /// The index of all entities by key, which serves branches without a kind.
     AllByKey,
     /// The index of the kind's entities by key.
@@ -27,7 +27,7 @@ pub enum Index {
 #[derive(Drop)]
 pub struct PlannedScan {
     /// The index whose rows are read.
-    pub index: Index,
+    pub index: PlannedIndex,
     /// One of the branch's pairs for each property of the index that isn't one of the branch's columns.
     pub equal: Pairs,
     /// The branch's ancestor where the index's definition has the ancestor flag; none otherwise.

@@ -7,7 +7,7 @@ ghost use Rattle.ds_planner.specs.Suits.{chooses, same_ancestor, bound_ancestor,
 
 use crate::indexes::{binds_ancestor, has_flag, is_candidate, is_paired, lead_all};
 use crate::pairs::{are_among, chooses, properties_differ};
-use crate::planned::{Index, PlannedScan, ScanPlan};
+use crate::planned::{PlannedIndex, PlannedScan, ScanPlan};
 use ds_base::Key;
 use ds_indexdef::Defs;
 use ds_query::{Branch, Pair};
@@ -44,7 +44,7 @@ fn is_scan(branch: &Branch, defs: &Defs, scan: &PlannedScan) -> bool
 }
 
 /// Whether the pairs are one of the branch's for each equality property of the index, and for no other property.
-fn is_choice(branch: &Branch, defs: &Defs, index: &Index, pairs: &[Pair]) -> bool
+fn is_choice(branch: &Branch, defs: &Defs, index: &PlannedIndex, pairs: &[Pair]) -> bool
     requires { IsTrue (ends_in_key branch.now.columns) }
     ensures { result ≡ is_choice branch.now defs.now index.now pairs.now }
 {

@@ -6,7 +6,7 @@ use ds_base::{
     Values,
 };
 use ds_indexdef::{Defs, IndexDef};
-use ds_planner::{Index, PlanRefused, PlannedScan, ScanPlan, plan, suits};
+use ds_planner::{PlanRefused, PlannedIndex, PlannedScan, ScanPlan, plan, suits};
 use ds_query::{Branch, Constraint, Filter, Filters, Op, Pair, Query, Select, normalize};
 use std::alloc::{AllocError, Global};
 use std::str::SplitWhitespace;
@@ -136,12 +136,12 @@ fn show_column(name: &TextString, descending: bool, onto: &mut String) -> Result
     onto.push_str(name.text())
 }
 
-fn show_index(alloc: Global, index: &Index, onto: &mut String) -> Result<(), NoMemory> {
+fn show_index(alloc: Global, index: &PlannedIndex, onto: &mut String) -> Result<(), NoMemory> {
     match index {
-        Index::AllByKey => onto.push_str(" all"),
-        Index::KindByKey => onto.push_str(" kind"),
-        Index::Property { name, descending } => show_column(name, *descending, onto),
-        Index::Composite { position } => {
+        PlannedIndex::AllByKey => onto.push_str(" all"),
+        PlannedIndex::KindByKey => onto.push_str(" kind"),
+        PlannedIndex::Property { name, descending } => show_column(name, *descending, onto),
+        PlannedIndex::Composite { position } => {
             let text = position.to_string(alloc)?;
             onto.push_str(" #")?;
             onto.push_str(text.as_str())

@@ -7,7 +7,7 @@ use Rattle.std.proofs.lemmas.List.Sums.{fold-append}
 use Rattle.std.proofs.lemmas.List.Folds.{list_any-append}
 use Rattle.std.proofs.lemmas.List.Elements.{filter-append}
 use Rattle.ds_base.specs.declared.column.Column.{Column}
-use Rattle.ds_query.specs.Filters.{key_name, is_key_name}
+use Rattle.ds_base.specs.KeyColumn.{key_name, is_key_name}
 use Rattle.ds_query.specs.ColumnLists.{has_column, with_column, first_of_each_name}
 use Rattle.ds_query.specs.Lawful.{names_differ, ends_in_key, starts_with_key}
 use Rattle.ds_query.proofs.Booleans.{or_false, and_false, or_assoc, and_both, name_is, name_symm, among-filter}

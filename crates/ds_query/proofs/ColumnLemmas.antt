@@ -5,7 +5,8 @@ use Rattle.std.proofs.lemmas.List.Sums.{fold-append}
 use Rattle.ds_base.specs.declared.column.Column.{Column}
 use Rattle.ds_query.specs.declared.query.Filter.{Filter}
 use Rattle.ds_query.specs.declared.query.Query.{Query}
-use Rattle.ds_query.specs.Filters.{key_name, inequality_of, projected}
+use Rattle.ds_query.specs.Filters.{inequality_of, projected}
+use Rattle.ds_base.specs.KeyColumn.{key_name}
 use Rattle.ds_query.specs.ColumnLists.{with_column, first_of_each_name, ascending, up_to_key, wanted_columns}
 
 -- ---- what the code puts together, step by step

@@ -1,5 +1,6 @@
 -- The columns of a query that isn't refused are lawful, and so are the merged ones.
-use Rattle.std.proofs.Common.{◌≡◌, inl, inr, ℕ, List, [], ◌∷◌, ◌++◌, Bool, true, false, ◌&&◌, ◌||◌, not, cond, Option, Some, None, map, filter, refl, sym, ap, ◌∙◌, append_assoc}
+use Rattle.std.proofs.Common.{◌≡◌, inl, inr, ℕ, List, [], ◌∷◌, ◌++◌, Bool, true, false, ◌&&◌, ◌||◌, not, cond, Option, Some, None, map}
+use Rattle.std.proofs.Common.{filter, refl, sym, ap, ◌∙◌, append_assoc}
 use Rattle.std.specs.Prelude.{bytes_eq}
 use Rattle.std.specs.Option.{option_to_list}
 use Rattle.std.specs.List.{list_any, list_all}
@@ -8,13 +9,18 @@ use Rattle.std.proofs.lemmas.List.Folds.{list_any-append}
 use Rattle.std.proofs.lemmas.List.Elements.{filter-append}
 use Rattle.ds_base.specs.declared.column.Column.{Column}
 use Rattle.ds_query.specs.declared.query.Query.{Query}
-use Rattle.ds_query.specs.Filters.{key_name, is_key_name, has_equality, has_one_of, inequality_of, projected}
+use Rattle.ds_query.specs.Filters.{has_equality, has_one_of, inequality_of, projected}
+use Rattle.ds_base.specs.KeyColumn.{key_name, is_key_name}
+use Rattle.ds_base.specs.KeyColumnLaws.{key_name-alone}
 use Rattle.ds_query.specs.ColumnLists.{has_column, first_of_each_name, ascending, up_to_key, wanted_columns, columns_of, merged_of}
 use Rattle.ds_query.specs.Reasons.{has_name}
 use Rattle.ds_query.specs.Lawful.{ends_in_key, starts_with_key}
-use Rattle.ds_query.proofs.Booleans.{or_true, or_neither, not_true, refuted, true≢false, name_itself, name_symm, names_apart, none_among, all_from_among, among-filter_out, filter_filter, filter_all}
+use Rattle.ds_query.proofs.Booleans.{or_true, or_neither, not_true, refuted, true≢false, name_itself, name_symm, names_apart, none_among}
+use Rattle.ds_query.proofs.Booleans.{all_from_among, among-filter_out, filter_filter, filter_all}
 use Rattle.ds_query.proofs.ColumnLaws.{has_column-first, starts_with_key-fold, ends_in_key-first, filter-first}
-use Rattle.ds_query.proofs.ReasonLaws.{IsUnrefused, key_is, key_unequal, unequal_inequality, any_of_inequality, kept_orders, first_counts, key_after_inequality_by, EndsWithKey, KeyPlace, key_place, kept_orders-any, no_projection_by_filter, no_projection_by_order, projects_no_key}
+use Rattle.ds_query.proofs.ReasonLaws.{IsUnrefused, key_unequal, unequal_inequality, any_of_inequality, kept_orders, first_counts}
+use Rattle.ds_query.proofs.ReasonLaws.{key_after_inequality_by, EndsWithKey, KeyPlace, key_place, kept_orders-any, no_projection_by_filter}
+use Rattle.ds_query.proofs.ReasonLaws.{no_projection_by_order, projects_no_key}
 
 -- a column of each projected property, and of no other
 has_column-ascending : (names : List (List ℕ)) (n : List ℕ) → has_column (map ascending names) n ≡ has_name names n
@@ -34,7 +40,7 @@ module _ (dropped : List ℕ → Bool) (q : Query) (u : IsUnrefused q) (fewer : 
   after_orders r =
       let ordered : List Column = kept_orders dropped q.orders in
       let has : has_column ordered key_name ≡ true =
-      ap (λ cs. has_column cs key_name) r.whole ∙ list_any-append (λ (x : Column). bytes_eq key_name x.name) r.front (r.key ∷ []) ∙ (λ i. r.none i || ((ap (bytes_eq key_name) (key_is r.key.name r.is_key) ∙ name_itself key_name) i || false)) in
+      ap (λ cs. has_column cs key_name) r.whole ∙ list_any-append (λ (x : Column). bytes_eq key_name x.name) r.front (r.key ∷ []) ∙ (λ i. r.none i || ((ap (bytes_eq key_name) (key_name-alone r.key.name r.is_key) ∙ name_itself key_name) i || false)) in
       let unprojected : projected q.select ≡ [] = no_projection_by_order q u (kept_orders-any dropped q.orders has) in
       let there : list_all (λ c. has_column (r.front ++ r.key ∷ []) c.name) (map ascending (option_to_list (inequality_of q.filters)) ++ ascending key_name ∷ []) ≡ true =
       ap (λ cs. list_all (λ c. has_column cs c.name) (map ascending (option_to_list (inequality_of q.filters)) ++ ascending key_name ∷ [])) (sym r.whole) ∙ ranged has (inequality_of q.filters) refl in

@@ -1,5 +1,6 @@
 -- What each way to meet the filters asks: pairs on the properties with an equality, and keys as bounds of the key.
-use Rattle.std.proofs.Common.{◌≡◌, ℕ, List, [], ◌∷◌, ◌++◌, Bool, true, false, ◌&&◌, ◌||◌, not, cond, Option, Some, None, map, flat_map, fold, refl, sym, ap, ◌∙◌}
+use Rattle.std.proofs.Common.{◌≡◌, ℕ, List, [], ◌∷◌, ◌++◌, Bool, true, false, ◌&&◌, ◌||◌, not, cond, Option, Some, None, map, flat_map}
+use Rattle.std.proofs.Common.{fold, refl, sym, ap, ◌∙◌}
 use Rattle.std.specs.Prelude.{bytes_eq, All}
 use Rattle.std.specs.List.{list_any, list_all}
 use Rattle.std.specs.List.Sorted.{IsStrictlySortedBy}
@@ -22,9 +23,11 @@ use Rattle.ds_query.specs.declared.branch.Pair.{Pair}
 use Rattle.ds_query.specs.declared.branch.Bound.{Bound}
 use Rattle.ds_query.specs.declared.branch.Range.{Range}
 use Rattle.ds_query.specs.declared.conditions.Conditions.{Conditions}
-use Rattle.ds_query.specs.Filters.{is_key_name, asks_equal, is_equality, is_inequality, has_equality, inequality_of}
+use Rattle.ds_query.specs.Filters.{asks_equal, is_equality, is_inequality, has_equality, inequality_of}
+use Rattle.ds_base.specs.KeyColumn.{is_key_name}
 use Rattle.ds_query.specs.Reasons.{is_key_value, has_wrong_key}
-use Rattle.ds_query.specs.Branching.{stricter, greater_bound, lesser_bound, with_bound, at_bound, from_bound, up_to_bound, within, unasked, narrowed, as_indexed, ways, split_by, split_all, conditions, pair_cmp, sorted_pairs}
+use Rattle.ds_query.specs.Branching.{stricter, greater_bound, lesser_bound, with_bound, at_bound, from_bound, up_to_bound, within, unasked}
+use Rattle.ds_query.specs.Branching.{narrowed, as_indexed, ways, split_by, split_all, conditions, pair_cmp, sorted_pairs}
 use Rattle.ds_query.specs.PairOrderLaws.{pair_cmp-total, pair_cmp-same}
 use Rattle.ds_query.specs.Lawful.{has_pair, is_key_bound, bounds_are_keys}
 use Rattle.ds_query.proofs.Booleans.{or_false, or_assoc, or_neither, and_both, and_other, not_false, true≢false, name_is}

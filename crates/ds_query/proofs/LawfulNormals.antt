@@ -1,5 +1,6 @@
 -- The normal form of a query that isn't refused is lawful.
-use Rattle.std.proofs.Common.{◌≡◌, ℕ, ◌<◌, List, [], ◌∷◌, ◌++◌, Bool, true, false, IsTrue, ◌&&◌, ◌||◌, not, cond, Option, Some, None, map, filter, fold, refl, sym, ap, ◌∙◌, subst}
+use Rattle.std.proofs.Common.{◌≡◌, ℕ, ◌<◌, List, [], ◌∷◌, ◌++◌, Bool, true, false, IsTrue, ◌&&◌, ◌||◌, not, cond, Option, Some, None, map}
+use Rattle.std.proofs.Common.{filter, fold, refl, sym, ap, ◌∙◌, subst}
 use Rattle.std.specs.Prelude.{bytes_eq, is_none, All}
 use Rattle.std.specs.Option.{option_to_list}
 use Rattle.std.specs.List.{list_any, list_all, slice_index_or}
@@ -14,18 +15,25 @@ use Rattle.ds_query.specs.declared.query.Filter.{Filter}
 use Rattle.ds_query.specs.declared.query.Query.{Query}
 use Rattle.ds_query.specs.declared.branch.Pair.{Pair}
 use Rattle.ds_query.specs.declared.conditions.Conditions.{Conditions}
-use Rattle.ds_query.specs.Filters.{key_name, is_key_name, asks_equal, has_equality, is_one_of, has_one_of, inequality_of, has_operands, is_split, is_several, projected}
+use Rattle.ds_query.specs.Filters.{asks_equal, has_equality, is_one_of, has_one_of, inequality_of, has_operands, is_split, is_several}
+use Rattle.ds_query.specs.Filters.{projected}
+use Rattle.ds_base.specs.KeyColumn.{key_name, is_key_name}
+use Rattle.ds_base.specs.KeyColumnLaws.{key_name-alone}
 use Rattle.ds_query.specs.Reasons.{another_inequality, needs_kind, reason_of}
-use Rattle.ds_query.specs.ColumnLists.{has_column, with_column, first_of_each_name, ascending, up_to_key, wanted_columns, columns_of, merged_of}
+use Rattle.ds_query.specs.ColumnLists.{has_column, with_column, first_of_each_name, ascending, up_to_key, wanted_columns, columns_of}
+use Rattle.ds_query.specs.ColumnLists.{merged_of}
 use Rattle.ds_query.specs.Branching.{conditions, sorted_pairs, branch_of}
 use Rattle.ds_query.specs.Normals.{normal_form}
 use Rattle.ds_query.specs.Lawful.{has_pair, starts_with_key, bounds_are_keys, IsKindless, IsLawfulBranch, AreAlike, IsLawfulNormal}
-use Rattle.ds_query.proofs.Booleans.{or_false, or_neither, and_both, not_false, not_true, refuted, true≢false, all_from_among, nothing_among, list_all-filter}
+use Rattle.ds_query.proofs.Booleans.{or_false, or_neither, and_both, not_false, not_true, refuted, true≢false, all_from_among}
+use Rattle.ds_query.proofs.Booleans.{nothing_among, list_all-filter}
 use Rattle.ds_query.proofs.ColumnLaws.{names_differ-first, fold_kept}
-use Rattle.ds_query.proofs.ReasonLaws.{IsUnrefused, unrefused, key_is, equal_no_key, any_of_inequality, projects_no_key, kept_orders}
+use Rattle.ds_query.proofs.ReasonLaws.{IsUnrefused, unrefused, equal_no_key, any_of_inequality, projects_no_key, kept_orders}
 use Rattle.ds_query.proofs.SplitLemmas.{conditions_some, conditions_single}
-use Rattle.ds_query.proofs.LawfulColumns.{columns_end_in_key, merged_end_in_key, equal_no_column, columns_among_merged, first_is_inequality, projected_are_columns}
-use Rattle.ds_query.proofs.LawfulConditions.{pairs_of_equalities, has_pair-sorted, sorted_pairs_ascend, bounds_keys, key_filters, equal_filters, key_bounds}
+use Rattle.ds_query.proofs.LawfulColumns.{columns_end_in_key, merged_end_in_key, equal_no_column, columns_among_merged, first_is_inequality}
+use Rattle.ds_query.proofs.LawfulColumns.{projected_are_columns}
+use Rattle.ds_query.proofs.LawfulConditions.{pairs_of_equalities, has_pair-sorted, sorted_pairs_ascend, bounds_keys, key_filters}
+use Rattle.ds_query.proofs.LawfulConditions.{equal_filters, key_bounds}
 
 -- ---- without a kind
 
@@ -36,7 +44,7 @@ is_key_order c = is_key_name c.name && not c.descending
 key_order_is : (c : Column) → is_key_order c ≡ true → c ≡ ascending key_name
 key_order_is c h =
     let both = and_both (is_key_name c.name) (not c.descending) h in
-    λ i. record { name = key_is c.name both.0 i; descending = not_true c.descending both.1 i }
+    λ i. record { name = key_name-alone c.name both.0 i; descending = not_true c.descending both.1 i }
 
 key_orders : (orders : List Column) → list_any needs_kind orders ≡ false → list_all is_key_order orders ≡ true
 key_orders [] e = refl

@@ -5,6 +5,7 @@ pub mod LawfulColumns
 pub mod LawfulConditions
 pub mod LawfulNormals
 pub mod NameLemmas
+pub mod NamedColumns
 pub mod ReasonLaws
 pub mod RepeatLemmas
 pub mod SplitLemmas

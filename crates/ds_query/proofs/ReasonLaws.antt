@@ -1,5 +1,6 @@
 -- What holds of a query that no reason refuses.
-use Rattle.std.proofs.Common.{◌≡◌, ◌⊎◌, inl, inr, ℕ, List, [], ◌∷◌, ◌++◌, Bool, true, false, ◌&&◌, ◌||◌, not, cond, Option, Some, None, filter, refl, sym, ap, ◌∙◌}
+use Rattle.std.proofs.Common.{◌≡◌, ◌⊎◌, inl, inr, ℕ, List, [], ◌∷◌, ◌++◌, Bool, true, false, ◌&&◌, ◌||◌, not, cond, Option, Some, None}
+use Rattle.std.proofs.Common.{filter, refl, sym, ap, ◌∙◌}
 use Rattle.std.specs.Prelude.{bytes_eq}
 use Rattle.std.specs.List.{list_any}
 use Rattle.ds_base.specs.declared.column.Column.{Column}
@@ -8,10 +9,14 @@ use Rattle.ds_query.specs.declared.query.Select.{Select}
 use Rattle.ds_query.specs.declared.query.Select.TheVariants as select
 use Rattle.ds_query.specs.declared.query.Query.{Query}
 use Rattle.ds_query.specs.declared.refusal.Reason.{Reason}
-use Rattle.ds_query.specs.Filters.{key_name, is_key_name, asks_equal, is_equality, is_inequality, has_equality, inequality_of, projected}
-use Rattle.ds_query.specs.Reasons.{has_wrong_key, has_unindexed, lacks_kind, two_inequalities, equal_and_range, first_left, are_apart, first_order_apart, is_projection, projects_key, repeats, projects_equal, reason_of}
+use Rattle.ds_query.specs.Filters.{asks_equal, is_equality, is_inequality, has_equality, inequality_of, projected}
+use Rattle.ds_base.specs.KeyColumn.{key_name, is_key_name}
+use Rattle.ds_base.specs.KeyColumnLaws.{key_name-alone}
+use Rattle.ds_query.specs.Reasons.{has_wrong_key, has_unindexed, lacks_kind, two_inequalities, equal_and_range, first_left, are_apart}
+use Rattle.ds_query.specs.Reasons.{first_order_apart, is_projection, projects_key, repeats, projects_equal, reason_of}
 use Rattle.ds_query.specs.ColumnLists.{has_column, up_to_key}
-use Rattle.ds_query.proofs.Booleans.{or_true, or_neither, and_first, not_false, refuted, true≢false, name_is, name_itself, name_symm, among-filter}
+use Rattle.ds_query.proofs.Booleans.{or_true, or_neither, and_first, not_false, refuted, true≢false, name_is, name_itself, name_symm}
+use Rattle.ds_query.proofs.Booleans.{among-filter}
 
 -- ---- each reason fails
 
@@ -62,12 +67,9 @@ key_unequal (f ∷ fs) = λ i. at (bytes_eq key_name f.property) refl i || key_u
       ap (λ k. (asks_equal f.op && not k) && true) key ∙ no_and (asks_equal f.op) true
   at false e = never (is_equality f)
 
-pub key_is : (n : List ℕ) → is_key_name n ≡ true → n ≡ key_name
-key_is n e = name_is n key_name e
-
 -- a name with an equality isn't the key's
 pub equal_no_key : (filters : List Filter) (n : List ℕ) → has_equality filters n ≡ true → is_key_name n ≡ false
-equal_no_key filters n e = refuted (is_key_name n) (λ k. true≢false (sym e ∙ ap (has_equality filters) (key_is n k) ∙ key_unequal filters))
+equal_no_key filters n e = refuted (is_key_name n) (λ k. true≢false (sym e ∙ ap (has_equality filters) (key_name-alone n k) ∙ key_unequal filters))
 
 -- what fails of the property of each inequality fails of the first's
 pub first_inequality : (g : List ℕ → Bool) (filters : List Filter) (p : List ℕ) → inequality_of filters ≡ Some p → list_any (λ f. is_inequality f && g f.property) filters ≡ false → g p ≡ false
@@ -156,7 +158,7 @@ key_place dropped free (c ∷ cs) = at (is_key_name c.name) refl (dropped c.name
 
   at : (k : Bool) → is_key_name c.name ≡ k → (b : Bool) → dropped c.name ≡ b → KeyPlace (kept_orders dropped cs)
       → KeyPlace (cond (not b) (c ∷ filter (λ (x : Column). not (dropped x.name)) (cond k [] (up_to_key cs))) (filter (λ (x : Column). not (dropped x.name)) (cond k [] (up_to_key cs))))
-  at true k true e later = absurd (true≢false (sym e ∙ ap dropped (key_is c.name k) ∙ free))
+  at true k true e later = absurd (true≢false (sym e ∙ ap dropped (key_name-alone c.name k) ∙ free))
   at true k false e later = inr (record { front = []; key = c; whole = refl; none = refl; is_key = k })
   at false k true e later = later
   at false k false e later = more (kept_orders dropped cs) k later

@@ -1,5 +1,6 @@
 -- How many conditions a filter may ask, and how many ways there are to meet several.
-use Rattle.std.proofs.Common.{◌≡◌, ◌≢◌, ℕ, ◌+◌, ◌*◌, ◌-◌, ◌^◌, ◌<◌, ◌≤◌, min, List, [], ◌∷◌, Bool, true, false, IsTrue, length, take, get_or, flat_map, fold, refl, sym, ap, ◌∙◌, subst, suc, lit≤, arith}
+use Rattle.std.proofs.Common.{◌≡◌, ◌≢◌, ℕ, ◌+◌, ◌*◌, ◌-◌, ◌^◌, ◌<◌, ◌≤◌, min, List, [], ◌∷◌, Bool, true, false, IsTrue, length, take}
+use Rattle.std.proofs.Common.{get_or, flat_map, fold, refl, sym, ap, ◌∙◌, subst, suc, lit≤, arith}
 use Rattle.std.specs.Prelude.{nat_le, ◌==◌}
 use Rattle.std.specs.List.{list_all, list_any}
 use Rattle.std.proofs.lemmas.List.{length-map, length-append}

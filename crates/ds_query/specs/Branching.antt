@@ -19,7 +19,8 @@ use Rattle.ds_query.specs.declared.branch.Bound.{Bound}
 use Rattle.ds_query.specs.declared.branch.Range.{Range}
 use Rattle.ds_query.specs.declared.branch.Branch.{Branch}
 use Rattle.ds_query.specs.declared.conditions.Conditions.{Conditions}
-use Rattle.ds_query.specs.Filters.{is_key_name, asks_equal}
+use Rattle.ds_query.specs.Filters.{asks_equal}
+use Rattle.ds_base.specs.KeyColumn.{is_key_name}
 use Rattle.ds_query.specs.ColumnLists.{columns_of}
 
 -- ---- ranges

@@ -6,7 +6,8 @@ use Rattle.std.specs.List.{list_any}
 use Rattle.ds_base.specs.declared.column.Column.{Column}
 use Rattle.ds_query.specs.declared.query.Query.{Query}
 use Rattle.ds_query.specs.Reasons.{has_name}
-use Rattle.ds_query.specs.Filters.{key_name, is_key_name, has_equality, has_one_of, inequality_of, projected}
+use Rattle.ds_query.specs.Filters.{has_equality, has_one_of, inequality_of, projected}
+use Rattle.ds_base.specs.KeyColumn.{key_name, is_key_name}
 
 -- is there a column of this name?
 abbrev pub has_column : List Column → List ℕ → Bool

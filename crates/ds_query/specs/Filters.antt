@@ -1,19 +1,13 @@
 -- What the filters of a query ask: which are equalities, which inequalities, and of which property.
-use Rattle.std.specs.Prelude.{ℕ, Bool, true, false, ◌&&◌, not, ◌==◌, nat_le, bytes_eq, codes, cond}
+use Rattle.std.specs.Prelude.{ℕ, Bool, true, false, ◌&&◌, not, ◌==◌, nat_le, bytes_eq, cond}
 use Rattle.std.specs.Prelude.{List, [], ◌∷◌, length, Option, Some, None}
 use Rattle.std.specs.List.{list_any}
+use Rattle.ds_base.specs.KeyColumn.{is_key_name}
 use Rattle.ds_query.specs.declared.query.Op.{Op}
 use Rattle.ds_query.specs.declared.query.Op.TheVariants as op
 use Rattle.ds_query.specs.declared.query.Filter.{Filter}
 use Rattle.ds_query.specs.declared.query.Select.{Select}
 use Rattle.ds_query.specs.declared.query.Select.TheVariants as select
-
--- the name by which filters, orders and columns speak of the key
-abbrev pub key_name : List ℕ
-key_name = codes "__key__"
-
-abbrev pub is_key_name : List ℕ → Bool
-is_key_name name = bytes_eq name key_name
 
 -- the values that a filter is written with: at least one for `in`, one for every other operator
 abbrev pub enough_values : Op → ℕ → Bool

@@ -13,7 +13,8 @@ use Rattle.ds_query.specs.declared.branch.Range.{Range}
 use Rattle.ds_query.specs.declared.branch.Branch.{Branch}
 use Rattle.ds_query.specs.declared.branch.Normal.{Normal}
 use Rattle.ds_query.specs.declared.branch.Window.{Window}
-use Rattle.ds_query.specs.Filters.{key_name, is_key_name, projected}
+use Rattle.ds_query.specs.Filters.{projected}
+use Rattle.ds_base.specs.KeyColumn.{key_name, is_key_name}
 use Rattle.ds_query.specs.Reasons.{repeats}
 use Rattle.ds_query.specs.ColumnLists.{has_column, ascending}
 use Rattle.ds_query.specs.Branching.{pair_cmp}

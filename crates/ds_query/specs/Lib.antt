@@ -6,3 +6,4 @@ pub mod Lawful
 pub mod Normals
 pub mod PairOrderLaws
 pub mod Reasons
+pub mod RowValues

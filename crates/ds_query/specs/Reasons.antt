@@ -11,7 +11,8 @@ use Rattle.ds_query.specs.declared.query.Select.TheVariants as select
 use Rattle.ds_query.specs.declared.query.Query.{Query}
 use Rattle.ds_query.specs.declared.refusal.Reason.{Reason}
 use Rattle.ds_query.specs.declared.refusal.Reason.TheVariants as reason
-use Rattle.ds_query.specs.Filters.{is_key_name, is_inequality, has_equality, inequality_of, is_several, projected}
+use Rattle.ds_query.specs.Filters.{is_inequality, has_equality, inequality_of, is_several, projected}
+use Rattle.ds_base.specs.KeyColumn.{is_key_name}
 
 -- ---- values
 

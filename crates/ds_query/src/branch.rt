@@ -3,7 +3,6 @@
 //! `specs/Lawful` says what every branch, normal form and window keeps.
 ghost use Rattle.std.specs.Prelude.{◌≡◌, IfOk};
 
-use crate::option::copy_option;
 use crate::query::Select;
 use crate::row::Place;
 use ds_base::{Columns, IndexValue, Key, Sequence, TextString, TryCopy};
@@ -106,8 +105,8 @@ impl TryCopy for Bound {
 impl TryCopy for Range {
     fn copy(&self, alloc: Global) -> Result<Range, AllocError> {
         Ok(Range {
-            lower: copy_option(alloc, &self.lower)?,
-            upper: copy_option(alloc, &self.upper)?,
+            lower: self.lower.copy(alloc)?,
+            upper: self.upper.copy(alloc)?,
         })
     }
 }
@@ -130,8 +129,8 @@ pub(crate) fn copy_target(
     ensures { IfOk result (λ t. (t.namespace ≡ namespace.now) × (t.kind ≡ kind.now) × (t.ancestor ≡ ancestor.now)) }
 {
     let namespace = namespace.copy(alloc)?;
-    let kind = copy_option(alloc, kind)?;
-    let ancestor = copy_option(alloc, ancestor)?;
+    let kind = kind.copy(alloc)?;
+    let ancestor = ancestor.copy(alloc)?;
     Ok(Target {
         namespace,
         kind,
@@ -175,8 +174,8 @@ impl TryCopy for Normal {
 impl TryCopy for Window {
     fn copy(&self, alloc: Global) -> Result<Window, AllocError> {
         Ok(Window {
-            start: copy_option(alloc, &self.start)?,
-            end: copy_option(alloc, &self.end)?,
+            start: self.start.copy(alloc)?,
+            end: self.end.copy(alloc)?,
             offset: self.offset,
             limit: self.limit,
         })

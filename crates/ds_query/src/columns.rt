@@ -3,12 +3,13 @@ ghost use Rattle.std.specs.Prelude.{◌≡◌, ◌&&◌, not, map, filter, fold,
 ghost use Rattle.std.specs.Option.{option_copied, option_to_list};
 ghost use Rattle.ds_query.specs.Filters.{has_equality, has_one_of};
 ghost use Rattle.ds_query.specs.Reasons.{has_name};
-ghost use Rattle.ds_query.specs.ColumnLists.{AreNamesOf, with_column, ascending, up_to_key, first_of_each_name, wanted_columns, columns_of, merged_of};
+ghost use Rattle.ds_query.specs.ColumnLists.{AreNamesOf, with_column, ascending, up_to_key, first_of_each_name, wanted_columns, columns_of};
+ghost use Rattle.ds_query.specs.ColumnLists.{merged_of};
 
-use crate::filters::{FilterNames, KEY_NAME, inequality_of, is_key_name, projected};
+use crate::filters::{FilterNames, inequality_of};
 use crate::names::NameSet;
 use crate::query::Query;
-use ds_base::{Column, Columns, TextString};
+use ds_base::{Column, Columns, KEY_NAME, TextString, is_key_name};
 use std::alloc::{AllocError, Global};
 
 /// Columns that are put together, of each name the first.
@@ -137,7 +138,7 @@ fn columns_without(
     };
     distinct.push_orders(alloc, query.orders.as_slice(), dropped, kept)?;
     distinct.push_property(alloc, inequality_of(query.filters.as_slice()))?;
-    distinct.push_names(alloc, projected(&query.select))?;
+    distinct.push_names(alloc, query.select.projected())?;
     distinct.push(alloc, KEY_NAME, false)?;
     Ok(Columns::from(distinct.columns))
 }

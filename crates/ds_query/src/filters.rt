@@ -1,23 +1,15 @@
 //! What the filters of a query ask: which are equalities, which inequalities, and of which property.
 ghost use Rattle.std.specs.Prelude.{◌≡◌, ◌&&◌, IfOk, List, ℕ, option_map, take};
 ghost use Rattle.std.specs.Option.{option_copied};
-ghost use Rattle.ds_query.specs.Filters.{is_key_name, asks_equal, is_equality, is_inequality, has_equality, is_one_of, has_one_of, inequality_of, is_split, is_several, has_operands, projected};
+ghost use Rattle.ds_query.specs.Filters.{asks_equal, is_equality, is_inequality, has_equality, is_one_of, has_one_of, inequality_of};
+ghost use Rattle.ds_query.specs.Filters.{is_split, is_several};
+ghost use Rattle.ds_base.specs.KeyColumn.{is_key_name};
 ghost use Rattle.ds_query.specs.Reasons.{has_name};
 
 use crate::names::NameSet;
-use crate::query::{Filter, Op, Select};
-use ds_base::TextString;
+use crate::query::{Filter, Op};
+use ds_base::{TextString, is_key_name};
 use std::alloc::{AllocError, Global};
-
-/// The name by which filters, orders and columns speak of the key.
-pub(crate) const KEY_NAME: &str = "__key__";
-
-/// Whether this is the name of the key.
-pub(crate) fn is_key_name(name: &TextString) -> bool
-    ensures { result ≡ is_key_name name.now }
-{
-    name.text() == "__key__"
-}
 
 /// Whether the operator is `=`, or `in` with one of its values.
 pub(crate) fn asks_equal(op: Op) -> bool
@@ -102,14 +94,4 @@ fn is_split(op: Op) -> bool
     ensures { result ≡ is_split op }
 {
     matches!(op, Op::NotEqual | Op::OneOf)
-}
-
-/// The names of a projection; none otherwise.
-pub(crate) fn projected(select: &Select) -> &[TextString]
-    ensures { result.now ≡ projected select.now }
-{
-    match select {
-        Select::Projection(names) => names.as_slice(),
-        _ => &[],
-    }
 }

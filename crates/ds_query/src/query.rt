@@ -2,7 +2,7 @@
 ghost use Rattle.std.specs.Prelude.{◌≡◌, ◌&&◌};
 ghost use Rattle.std.specs.List.{list_all};
 ghost use Rattle.ds_base.specs.Keys.{is_namespace};
-ghost use Rattle.ds_query.specs.Filters.{has_operands};
+ghost use Rattle.ds_query.specs.Filters.{has_operands, projected};
 
 use ds_base::{Columns, Key, Names, Sequence, TextString, TryCopy, Values, is_namespace};
 use std::alloc::{AllocError, Global};
@@ -83,15 +83,40 @@ impl Query {
 fn have_operands(filters: &[Filter]) -> bool
     ensures { result ≡ list_all has_operands filters.now }
 {
-    filters.iter().all(|filter| has_operands(filter))
+    filters.iter().all(|filter| filter.has_operands())
 }
 
-fn has_operands(filter: &Filter) -> bool
-    ensures { result ≡ has_operands filter.now }
-{
-    match filter.op {
-        Op::OneOf => filter.values.len() >= 1,
-        _ => filter.values.len() == 1,
+impl Filter {
+    /// Whether it has as many values as its operator takes: at least one for `in`, and one for every other.
+    pub fn has_operands(&self) -> bool
+        ensures { result ≡ has_operands self.now }
+    {
+        match self.op {
+            Op::OneOf => self.values.len() >= 1,
+            _ => self.values.len() == 1,
+        }
+    }
+}
+
+impl Select {
+    /// The names of a projection; none otherwise.
+    pub fn projected(&self) -> &[TextString]
+        ensures { result.now ≡ projected self.now }
+    {
+        match self {
+            Select::Projection(names) => names.as_slice(),
+            _ => &[],
+        }
+    }
+}
+
+impl TryCopy for Filter {
+    fn copy(&self, alloc: Global) -> Result<Filter, AllocError> {
+        Ok(Filter {
+            property: self.property.copy(alloc)?,
+            op: self.op,
+            values: self.values.copy(alloc)?,
+        })
     }
 }
 

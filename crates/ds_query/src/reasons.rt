@@ -2,14 +2,17 @@
 ghost use Rattle.std.specs.Prelude.{◌≡◌, ◌&&◌, not, bytes_eq, IfOk, List, ℕ};
 ghost use Rattle.std.specs.Option.{option_copied};
 ghost use Rattle.std.specs.List.{list_any};
-ghost use Rattle.ds_query.specs.Filters.{is_key_name, is_inequality, has_equality, inequality_of, is_several, projected};
-ghost use Rattle.ds_query.specs.Reasons.{is_key_value, is_unindexed, has_wrong_key, has_unindexed, needs_kind, lacks_kind, two_inequalities, equal_and_range, first_left, first_order_apart, is_projection, projects_key, has_name, repeats, projects_equal, first_that_holds, later_reasons, reason_of};
+ghost use Rattle.ds_query.specs.Filters.{is_inequality, has_equality, inequality_of, is_several, projected};
+ghost use Rattle.ds_base.specs.KeyColumn.{is_key_name};
+ghost use Rattle.ds_query.specs.Reasons.{is_key_value, is_unindexed, has_wrong_key, has_unindexed, needs_kind, lacks_kind};
+ghost use Rattle.ds_query.specs.Reasons.{two_inequalities, equal_and_range, first_left, first_order_apart, is_projection, projects_key};
+ghost use Rattle.ds_query.specs.Reasons.{has_name, repeats, projects_equal, first_that_holds, later_reasons, reason_of};
 
-use crate::filters::{inequality_of, is_equality, is_key_name, is_several, projected};
+use crate::filters::{inequality_of, is_equality, is_several};
 use crate::names::NameSet;
 use crate::query::{Filter, Query, Select};
 use crate::refusal::Reason;
-use ds_base::{Column, TextString, Value};
+use ds_base::{Column, TextString, Value, is_key_name};
 use std::alloc::{AllocError, Global};
 
 /// The first reason that holds; `equal` has the properties with an equality.
@@ -51,7 +54,7 @@ fn later_reason(alloc: Global, query: &Query, equal: &NameSet) -> Result<Option<
     if projects_key(query) {
         return Ok(Some(Reason::ProjectionKey));
     }
-    if repeats(alloc, projected(&query.select))? {
+    if repeats(alloc, query.select.projected())? {
         return Ok(Some(Reason::ProjectionRepeat));
     }
     if projects_equal(query, equal) {
@@ -120,7 +123,7 @@ fn lacks_kind(query: &Query) -> bool
         None => {
             any_property(query.filters.as_slice())
                 || any_needs_kind(query.orders.as_slice())
-                || any_other_name(projected(&query.select))
+                || any_other_name(query.select.projected())
         }
     }
 }
@@ -213,7 +216,7 @@ fn projects_key(query: &Query) -> bool
     ensures { result ≡ projects_key query.now }
 {
     is_projection(&query.select)
-        && (any_key_name(projected(&query.select))
+        && (any_key_name(query.select.projected())
             || any_on_key(query.filters.as_slice())
             || any_by_key(query.orders.as_slice()))
 }
@@ -260,7 +263,7 @@ fn projects_equal(query: &Query, equal: &NameSet) -> bool
     requires { (n : List ℕ) → has_name equal.now n ≡ has_equality query.now.filters n }
     ensures { result ≡ projects_equal query.now }
 {
-    for name in projected(&query.select) {
+    for name in query.select.projected() {
         if equal.contains(name.text()) {
             return true;
         }

@@ -3,14 +3,15 @@ ghost use Rattle.std.specs.Prelude.{◌≡◌, ◌++◌, ◌∷◌, [], min, len
 ghost use Rattle.std.specs.List.{list_all};
 ghost use Rattle.ds_base.specs.Limits.{greatest_told};
 ghost use Rattle.ds_query.specs.Filters.{has_operands};
-ghost use Rattle.ds_query.specs.Branching.{stricter, greater_bound, lesser_bound, from_bound, up_to_bound, within, unasked, narrowed, as_indexed, ways, choices, split_by, split_all, conditions};
+ghost use Rattle.ds_query.specs.Branching.{stricter, greater_bound, lesser_bound, from_bound, up_to_bound, within, unasked, narrowed};
+ghost use Rattle.ds_query.specs.Branching.{as_indexed, ways, choices, split_by, split_all, conditions};
 
 use crate::branch::{Bound, Pair, Pairs, Range};
 use crate::conditions::Conditions;
-use crate::filters::{asks_equal, is_key_name};
+use crate::filters::asks_equal;
 use crate::query::{Filter, Op};
 use ds_base::limits::MAX_TOLD_SIZE;
-use ds_base::{IndexValue, TextString, TryCopy, Value};
+use ds_base::{IndexValue, TextString, TryCopy, Value, is_key_name};
 use std::alloc::{AllocError, Global};
 use std::cmp::Ordering;
 

@@ -1,8 +1,9 @@
 -- Texts written one after another are their concatenation.
-use Rattle.std.proofs.Common.{◌≡◌, ℕ, ◌+◌, ◌≤◌, List, [], ◌++◌, length, length-append, append_assoc, append-nil, sym, ap, ◌∙◌, arith, min, refl, false, subst}
+use Rattle.std.proofs.Common.{◌≡◌, ℕ, ◌+◌, ◌≤◌, List, [], ◌++◌, length, length-append, append_assoc, append-nil, sym, ap, ◌∙◌, arith, min}
+use Rattle.std.proofs.Common.{refl, false, subst}
 use Rattle.ds_reply.specs.declared.output.Count.{Count}
 use Rattle.ds_reply.specs.declared.output.Growing.{Growing}
-use Rattle.ds_reply.specs.Outputs.{largest, Counts, Appends}
+use Rattle.ds_reply.specs.Outputs.{largest, Counts, WritesText}
 
 pub counts_nothing : (s : Count) → Counts [] s s
 counts_nothing s h = omega arith
@@ -14,7 +15,7 @@ counts_joined a b s t u f g h =
     let e2 = g le in
     omega (arith, length-append a b)
 
-pub appends_nothing : (s : Growing) → Appends [] s s
+pub appends_nothing : (s : Growing) → WritesText [] s s
 appends_nothing s = record {
   added = [];
   grown = sym (append-nil s.buffer.bytes);
@@ -24,7 +25,7 @@ appends_nothing s = record {
   fits = λ h le. h;
 }
 
-pub appends_joined : (a b : List ℕ) (s t u : Growing) → Appends a s t → Appends b t u → Appends (a ++ b) s u
+pub appends_joined : (a b : List ℕ) (s t u : Growing) → WritesText a s t → WritesText b t u → WritesText (a ++ b) s u
 appends_joined a b s t u f g = record {
   added = f.added ++ g.added;
   grown = g.grown ∙ ap (λ (l : List ℕ). l ++ g.added) f.grown ∙ append_assoc s.buffer.bytes f.added g.added;

@@ -12,7 +12,7 @@ abbrev pub Counts : List ℕ → Count → Count → Type 0
 Counts text s t = s.bytes ≤ largest → t.bytes ≡ min (s.bytes + length text) largest
 
 -- Bytes are put at the end: the text, unless a piece was refused, which doesn't happen where there is the room.
-pub record Appends (text : List ℕ) (s t : Growing) : Type 0 where
+pub record WritesText (text : List ℕ) (s t : Growing) : Type 0 where
   pub added : List ℕ
   pub grown : t.buffer.bytes ≡ s.buffer.bytes ++ added
   pub room : s.buffer.spare ≤ t.buffer.spare + length added

@@ -36,4 +36,5 @@ IsNextPlace ns vs later last None = past later last (projected_members ns vs no_
 IsNextPlace ns vs later last (Some i) =
     (i < length ns) × (i < length vs)
     × (past later last (projected_members ns vs no_members)
-    ≡ member (slice_index_or ns i []) (index_value_data (slice_index_or vs i index.Null)) (past true (slice_index_or ns i []) (projected_members ns vs no_members)))
+    ≡ member (slice_index_or ns i []) (index_value_data (slice_index_or vs i index.Null))
+    (past true (slice_index_or ns i []) (projected_members ns vs no_members)))

@@ -36,18 +36,21 @@ refusal_members (body.SecondGroup group) = refused 10 (codes "SecondGroup") (nam
 refusal_members body.TooManyGroups = refused 11 (codes "TooManyGroups") []
 refusal_members body.TooManyWrites = refused 12 (codes "TooManyWrites") []
 refusal_members (body.Conflict commit group place) =
-    refused 13 (codes "Conflict") (counted (codes "commit") commit ∷ named (codes "group") (key_data group) ∷ counted (codes "place") place ∷ [])
+    refused 13 (codes "Conflict")
+    (counted (codes "commit") commit ∷ named (codes "group") (key_data group) ∷ counted (codes "place") place ∷ [])
 refusal_members body.NeedAncestor = refused 14 (codes "NeedAncestor") []
 refusal_members (body.BadQuery r) = refused 15 (codes "BadQuery") (named (codes "reason") (string (reason_name r)) ∷ [])
 refusal_members (body.TooManySubqueries count) = refused 16 (codes "TooManySubqueries") (counted (codes "count") count ∷ [])
 refusal_members (body.MissingIndex c suggestion) =
-    refused 17 (codes "MissingIndex") (named (codes "constraint") (constraint_data c) ∷ named (codes "suggestion") (index_def_data suggestion) ∷ [])
+    refused 17 (codes "MissingIndex")
+    (named (codes "constraint") (constraint_data c) ∷ named (codes "suggestion") (index_def_data suggestion) ∷ [])
 refusal_members (body.BadCursor f) = refused 18 (codes "BadCursor") (at_field f ∷ [])
 refusal_members (body.CursorMismatch f) = refused 19 (codes "CursorMismatch") (at_field f ∷ [])
 refusal_members (body.BadGql at) = refused 20 (codes "BadGql") (counted (codes "at") at ∷ [])
 refusal_members (body.IdNotIssued id next) = refused 21 (codes "IdNotIssued") (counted (codes "id") id ∷ counted (codes "next") next ∷ [])
 refusal_members (body.IdsExhausted next) = refused 22 (codes "IdsExhausted") (counted (codes "next") next ∷ [])
 refusal_members (body.Expired applied place snapshot) =
-    refused 23 (codes "Expired") (counted (codes "applied") applied ∷ counted (codes "place") place ∷ counted (codes "snapshot") snapshot ∷ [])
+    refused 23 (codes "Expired")
+    (counted (codes "applied") applied ∷ counted (codes "place") place ∷ counted (codes "snapshot") snapshot ∷ [])
 refusal_members body.NoMemory = refused 24 (codes "NoMemory") []
 refusal_members _ = []

@@ -52,7 +52,8 @@ body_members (body.Gql s results sees cursor) = done (codes "gql") (found s resu
 body_members body.Begin = done (codes "begin") []
 body_members (body.Commit commit) = done (codes "commit") (counted (codes "commit") commit ∷ [])
 body_members body.Rollback = done (codes "rollback") []
-body_members (body.AllocateIds first count) = done (codes "allocate_ids") (counted (codes "count") count ∷ counted (codes "first") first ∷ [])
+body_members (body.AllocateIds first count) = done (codes "allocate_ids")
+    (counted (codes "count") count ∷ counted (codes "first") first ∷ [])
 body_members (body.Settle place applied) = done (codes "settle") (applied_counts applied ∷ counted (codes "place") place ∷ [])
 body_members (body.Apply applied count place shard) =
     done (codes "apply") (named (codes "applied") (boolean applied)

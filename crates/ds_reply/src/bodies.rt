@@ -1,15 +1,15 @@
 //! What each reply tells, in any order.
-ghost use Rattle.std.specs.Prelude.{◌≡◌, ◌≤◌, ◌++◌, map, [], ◌∷◌, length};
+ghost use Rattle.std.specs.Prelude.{◌≡◌, ◌≤◌, ◌++◌, map, [], Some, codes, MatchOption, option_map, unwrap_or};
 ghost use Rattle.arrayvec.specs.ArrayVec.{array_vec_len};
+ghost use Rattle.ds_reply.specs.Refusals.{refusal_members, counted};
 ghost use Rattle.ds_reply.specs.Replies.{body_members, reply_members, done, written_at, seen_at, found};
 ghost use Rattle.ds_reply.specs.Shown.{member_named};
 
-use crate::member::{
-    Member, Members, Shown, add_members, counts, key, number, optional_entity, results, text,
-};
+use crate::member::{Member, Members, Shown, counts, key, number, optional_entity, results, text};
 use crate::member_name::MemberName;
-use crate::refusals::add_refusal;
+use crate::refusals::refusal_of;
 use crate::reply::{Body, Reply, WriteAt};
+use crate::told::Told;
 use arrayvec::ArrayVec;
 use ds_base::{Results, Seen, TextString};
 use ds_query::Select;
@@ -32,23 +32,37 @@ fn add_body<'a>(members: &mut Members<'a>, body: &'a Body)
     ensures items { map member_named members.new.items ≡ map member_named members.old.items ++ body_members body.now }
     ensures few { array_vec_len members.new ≤ 7 }
 {
+    if let Some(told) = told_of(body) {
+        told.put(members);
+    }
+}
+
+/// What a body tells.
+fn told_of<'a>(body: &'a Body) -> Option<Told<'a>>
+    ensures { unwrap_or (option_map (λ t. map member_named t.members.items) result) [] ≡ body_members body.now }
+{
+    match done_of(body) {
+        Some(done) => Some(done),
+        None => refusal_of(body),
+    }
+}
+
+/// What is told of an operation that went well; none of a refusal.
+fn done_of<'a>(body: &'a Body) -> Option<Told<'a>>
+    ensures { MatchOption (option_map (λ t. map member_named t.members.items) result) (body_members body.now ≡ refusal_members body.now)
+        (λ told. told ≡ body_members body.now) }
+{
     match body {
-        Body::Put { key: of, at } => add_done(
-            members,
-            b"put",
-            &[written(*at), key(MemberName::Key, of)],
-        ),
-        Body::Delete { key: of, at } => add_done(
-            members,
+        Body::Put { key: of, at } => Told::done(b"put", &[written(*at), key(MemberName::Key, of)]),
+        Body::Delete { key: of, at } => Told::done(
             b"delete",
             &[written(*at), key(MemberName::Key, of)],
         ),
-        Body::Get { entity, place } => add_done(
-            members,
+        Body::Get { entity, place } => Told::done(
             b"get",
             &[
                 optional_entity(MemberName::Entity, entity),
-                number(MemberName::Place, *place),
+                at_place(*place),
             ],
         ),
         Body::Query {
@@ -56,56 +70,58 @@ fn add_body<'a>(members: &mut Members<'a>, body: &'a Body)
             results,
             seen,
             cursor,
-        } => add_found(members, b"query", select, results, seen, cursor),
+        } => found(b"query", select, results, seen, cursor),
         Body::Gql {
             select,
             results,
             seen,
             cursor,
-        } => add_found(members, b"gql", select, results, seen, cursor),
-        Body::Begin => add_done(members, b"begin", &[]),
-        Body::Commit { commit } => add_done(
-            members,
-            b"commit",
-            &[number(MemberName::Commit, *commit)],
-        ),
-        Body::Rollback => add_done(members, b"rollback", &[]),
-        Body::AllocateIds { first, count } => add_done(
-            members,
-            b"allocate_ids",
-            &[
-                number(MemberName::Count, *count),
-                number(MemberName::First, *first),
-            ],
-        ),
-        Body::Settle { place, applied } => add_done(
-            members,
+        } => found(b"gql", select, results, seen, cursor),
+        Body::Begin => Told::done(b"begin", &[]),
+        Body::Commit { commit } => Told::done(b"commit", &[number(MemberName::Commit, *commit)]),
+        Body::Rollback => Told::done(b"rollback", &[]),
+        Body::AllocateIds { first, count } => ids(*first, *count),
+        Body::Settle { place, applied } => Told::done(
             b"settle",
-            &[
-                counts(MemberName::Applied, applied),
-                number(MemberName::Place, *place),
-            ],
+            &[counts(MemberName::Applied, applied), at_place(*place)],
         ),
         Body::Apply {
             applied,
             count,
             place,
             shard,
-        } => add_done(
-            members,
-            b"apply",
-            &[
-                Member {
-                    name: MemberName::Applied,
-                    shown: Shown::Flag(*applied),
-                },
-                number(MemberName::Count, *count),
-                number(MemberName::Place, *place),
-                number(MemberName::Shard, u64::from(*shard)),
-            ],
-        ),
-        _ => add_refusal(members, body),
+        } => entry(*applied, *count, *place, *shard),
+        _ => None,
     }
+}
+
+/// The ids that were issued.
+fn ids<'a>(first: u64, count: u64) -> Option<Told<'a>>
+    ensures { option_map (λ t. map member_named t.members.items) result ≡ Some (body_members (Body.AllocateIds first count)) }
+{
+    let count = number(MemberName::Count, count);
+    let first = number(MemberName::First, first);
+    Told::done(b"allocate_ids", &[count, first])
+}
+
+/// Whether an entry was applied.
+fn entry<'a>(applied: bool, count: u64, place: u64, shard: u32) -> Option<Told<'a>>
+    ensures { option_map (λ t. map member_named t.members.items) result ≡ Some (body_members (Body.Apply applied count place shard)) }
+{
+    let applied = Member {
+        name: MemberName::Applied,
+        shown: Shown::Flag(applied),
+    };
+    let count = number(MemberName::Count, count);
+    let shard = number(MemberName::Shard, u64::from(shard));
+    Told::done(b"apply", &[applied, count, at_place(place), shard])
+}
+
+/// The place that was looked at.
+fn at_place<'a>(place: u64) -> Member<'a>
+    ensures { member_named result ≡ counted (codes "place") place }
+{
+    number(MemberName::Place, place)
 }
 
 /// Where a write stands: the number of its commit, or the place at which its group was touched.
@@ -114,28 +130,24 @@ fn written<'a>(at: WriteAt) -> Member<'a>
 {
     match at {
         WriteAt::Commit(commit) => number(MemberName::Commit, commit),
-        WriteAt::Place(place) => number(MemberName::Place, place),
+        WriteAt::Place(place) => at_place(place),
     }
 }
 
-/// Puts what a query found behind the others.
-fn add_found<'a>(
-    members: &mut Members<'a>,
+/// What a query found.
+fn found<'a>(
     op: &'static [u8],
     select: &'a Select,
     items: &'a Results,
     seen: &'a Seen,
     cursor: &'a Option<TextString>,
-)
-    requires { array_vec_len members.old ≤ 1 }
-    ensures items { map member_named members.new.items
-        ≡ map member_named members.old.items ++ done op.now (found select.now items.now seen.now cursor.now) }
-    ensures few { array_vec_len members.new ≤ 7 }
+) -> Option<Told<'a>>
+    ensures { option_map (λ t. map member_named t.members.items) result
+        ≡ Some (done op.now (found select.now items.now seen.now cursor.now)) }
 {
     let found = results(MemberName::Results, select, items);
     match cursor {
-        Some(cursor) => add_done(
-            members,
+        Some(cursor) => Told::done(
             op,
             &[
                 seen_at(seen),
@@ -143,7 +155,7 @@ fn add_found<'a>(
                 text(MemberName::Cursor, cursor.bytes()),
             ],
         ),
-        None => add_done(members, op, &[seen_at(seen), found]),
+        None => Told::done(op, &[seen_at(seen), found]),
     }
 }
 
@@ -153,18 +165,6 @@ fn seen_at<'a>(seen: &'a Seen) -> Member<'a>
 {
     match seen {
         Seen::Counts(applied) => counts(MemberName::Applied, applied),
-        Seen::Place(place) => number(MemberName::Place, *place),
+        Seen::Place(place) => at_place(*place),
     }
-}
-
-/// Puts the members of what went well behind the others: more, and the operation.
-fn add_done<'a>(members: &mut Members<'a>, op: &'static [u8], more: &[Member<'a>])
-    requires begun { array_vec_len members.old ≤ 1 }
-    requires few { length more.now ≤ 4 }
-    ensures items { map member_named members.new.items
-        ≡ map member_named members.old.items ++ done op.now (map member_named more.now) }
-    ensures few { array_vec_len members.new ≤ 7 }
-{
-    add_members(members, more);
-    members.push(text(MemberName::Ok, op));
 }

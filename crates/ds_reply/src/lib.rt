@@ -21,6 +21,7 @@ mod refusals;
 pub mod reply;
 mod results;
 mod text;
+mod told;
 mod values;
 mod write;
 

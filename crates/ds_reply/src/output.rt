@@ -1,6 +1,6 @@
 //! What takes a reply, piece by piece: a count of its bytes, or a buffer that grows.
 ghost use Rattle.std.specs.Prelude.{ℕ, List, [], ◌++◌};
-ghost use Rattle.ds_reply.specs.Outputs.{Counts, Appends};
+ghost use Rattle.ds_reply.specs.Outputs.{Counts, WritesText};
 ghost use Rattle.ds_reply.specs.OutputLaws.{counts_nothing, counts_joined, appends_nothing, appends_joined};
 
 use ds_base::Buffer;
@@ -45,7 +45,7 @@ pub(crate) struct Growing {
 }
 
 impl Output for Growing {
-    ghost Writes = { Appends };
+    ghost Writes = { WritesText };
 
     ghost nothing = { appends_nothing };
 

@@ -1,7 +1,8 @@
 //! A query's results, and the lists of counts and columns, as JSON.
 ghost use Rattle.std.specs.Prelude.{false};
 ghost use Rattle.serde_json.specs.Written.{compact_text, items_text};
-ghost use Rattle.ds_reply.specs.Printing.{count_items, column_data, column_items, index_def_data, constraint_data, result_data, result_items};
+ghost use Rattle.ds_reply.specs.Printing.{count_items, column_data, column_items, index_def_data, constraint_data, result_data};
+ghost use Rattle.ds_reply.specs.Printing.{result_items};
 ghost use Rattle.ds_reply.specs.Orders.{IsOrder};
 
 use crate::keys::write_key;
@@ -139,7 +140,8 @@ pub(crate) fn write_constraint<O: Output>(constraint: &Constraint, out: &mut O)
 }
 
 fn write_equality<O: Output>(property: &TextString, value: &IndexValue, out: &mut O)
-    ensures { O.Writes (compact_text (constraint_data (Constraint.Equal (record { property = property.now; value = value.now })))) out.old out.new }
+    ensures { O.Writes
+        (compact_text (constraint_data (Constraint.Equal (record { property = property.now; value = value.now })))) out.old out.new }
 {
     out.put(b"{\"property\":");
     write_text(property, out);

@@ -1,7 +1,7 @@
 //! From a reply to its line.
 ghost use Rattle.std.specs.Prelude.{◌≡◌, ◌≤◌, ◌+◌, ◌-◌, ◌^◌, ◌++◌, length, min, false, IsOk, OnOk, OnErr};
 ghost use Rattle.ds_reply.specs.Replies.{reply_text};
-ghost use Rattle.ds_reply.specs.Outputs.{Appends};
+ghost use Rattle.ds_reply.specs.Outputs.{WritesText};
 
 use crate::bodies::members_of;
 use crate::object::write_object;
@@ -42,7 +42,8 @@ pub fn write_reply(reply: &Reply, onto: &mut Buffer) -> Result<(), NoMemory>
 
 /// Puts the line behind the buffer's bytes, and tells whether a piece of it was refused.
 fn append_line(buffer: Buffer, reply: &Reply) -> (Buffer, bool)
-    ensures { Appends (reply_text reply.now) (record { buffer = buffer; refused = false }) (record { buffer = result.0; refused = result.1 }) }
+    ensures { WritesText (reply_text reply.now) (record { buffer = buffer; refused = false })
+        (record { buffer = result.0; refused = result.1 }) }
 {
     let mut out = Growing {
         buffer,

@@ -1,5 +1,6 @@
 -- Whose line it is: the client that asks, or that is told what is wrong, is one of those that there are.
-use Rattle.std.proofs.Common.{◌≡◌, ℕ, ◌≤◌, List, [], Bool, true, false, Option, Some, None, option_and_then, Result, Ok, Err, IfOk, IfErr, MatchResult, cond, nat_le, leb-true, refl, subst, arith}
+use Rattle.std.proofs.Common.{◌≡◌, ℕ, ◌≤◌, List, [], Bool, true, false, Option, Some, None, option_and_then, Result, Ok, Err, IfOk, IfErr}
+use Rattle.std.proofs.Common.{MatchResult, cond, nat_le, leb-true, refl, subst, arith}
 use Rattle.std.specs.Option.{ok_or}
 use Rattle.serde_json.specs.Data.{Data, null, boolean, number, string, array, object, Members}
 use Rattle.ds_base.specs.Limits.{greatest_client}
@@ -19,8 +20,10 @@ use Rattle.ds_request.specs.Reading.{Reads, and_then, read_as, member_of, requir
 use Rattle.ds_request.specs.Keys.{key_of, writable_key_of}
 use Rattle.ds_request.specs.Values.{value_of}
 use Rattle.ds_request.specs.Entities.{entity_of}
-use Rattle.ds_request.specs.Forms.{text_of, name_of, namespace_of, flag_of, client_of, results_of, count_of, shard_of, list_of, filter_of, order_of, select_of, named_values_of}
-use Rattle.ds_request.specs.Requests.{told_at, member_read, call_of, query_call_of, gql_call_of, operation_of, object_request_of, data_request_of, line_data, request_of, client_told}
+use Rattle.ds_request.specs.Forms.{text_of, name_of, namespace_of, flag_of, client_of, results_of, count_of, shard_of, list_of, filter_of}
+use Rattle.ds_request.specs.Forms.{order_of, select_of, named_values_of}
+use Rattle.ds_request.specs.Requests.{told_at, member_read, call_of, query_call_of, gql_call_of, operation_of, object_request_of}
+use Rattle.ds_request.specs.Requests.{data_request_of, line_data, request_of, client_told}
 use Rattle.ds_request.proofs.LawfulLemmas.{kept_then, kept_as, kept_told, kept_defaulted, value_kept}
 
 -- ---- refusals

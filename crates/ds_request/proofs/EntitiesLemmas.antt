@@ -1,5 +1,6 @@
 -- The names of a put's properties ascend, as the keys of a map do.
-use Rattle.std.proofs.Common.{◌≡◌, ℕ, List, [], ◌∷◌, ◌++◌, Bool, true, false, Result, Ok, Err, Less, Global, String, string_bytes, string_cmp, nat_cmp, cond, IsTrue, not, ◌||◌, refl, subst}
+use Rattle.std.proofs.Common.{◌≡◌, ℕ, List, [], ◌∷◌, ◌++◌, Bool, true, false, Result, Ok, Err, Less, Global, String, string_bytes}
+use Rattle.std.proofs.Common.{string_cmp, nat_cmp, cond, IsTrue, not, ◌||◌, refl, subst}
 use Rattle.std.specs.Prelude.{⊤}
 use Rattle.std.specs.Option.{option_to_list}
 use Rattle.std.specs.Cmp.Lexicographic.{slice_cmp}

@@ -1,5 +1,6 @@
 -- Each call that the definitions of a request give is lawful.
-use Rattle.std.proofs.Common.{◌≡◌, ℕ, List, [], ◌∷◌, length, Bool, true, false, ◌==◌, Option, Some, None, Result, Ok, Err, IfOk, IsTrue, cond, option_and_then, ◌≤◌, nat_le, le-leb, leb-true, refl, subst, arith}
+use Rattle.std.proofs.Common.{◌≡◌, ℕ, List, [], ◌∷◌, length, Bool, true, false, ◌==◌, Option, Some, None, Result, Ok, Err, IfOk, IsTrue}
+use Rattle.std.proofs.Common.{cond, option_and_then, ◌≤◌, nat_le, le-leb, leb-true, refl, subst, arith}
 use Rattle.std.specs.List.{list_all}
 use Rattle.std.specs.Option.{ok_or}
 use Rattle.std.proofs.lemmas.Bool.{and_from}
@@ -22,7 +23,8 @@ use Rattle.ds_request.specs.declared.refusal.Refusal.TheVariants as refusal
 use Rattle.ds_request.specs.Reading.{Reads, and_then, read_as, each_of, member_of, required, optional, defaulted, natural_of}
 use Rattle.ds_request.specs.Keys.{key_of}
 use Rattle.ds_request.specs.Values.{value_of}
-use Rattle.ds_request.specs.Forms.{text_of, name_of, namespace_of, flag_of, results_of, count_of, some_of, list_of, op_of, operands_of, filter_of, order_of, select_of, named_values_of}
+use Rattle.ds_request.specs.Forms.{text_of, name_of, namespace_of, flag_of, results_of, count_of, some_of, list_of, op_of, operands_of}
+use Rattle.ds_request.specs.Forms.{filter_of, order_of, select_of, named_values_of}
 use Rattle.ds_request.specs.Requests.{told_at, member_read, query_call_of, gql_call_of, allocate_ids_call_of}
 use Rattle.ds_request.specs.Lawful.{IsLawfulCall}
 

@@ -1,5 +1,6 @@
 -- What a map of members has at a name, as the members that it stands for.
-use Rattle.std.proofs.Common.{◌≡◌, ℕ, List, false, cond, Option, None, Some, option_map, String, BTreeMap, Global, Bor, string_bytes, string_cmp, nat_cmp, refl, sym, ap, ◌∙◌}
+use Rattle.std.proofs.Common.{◌≡◌, ℕ, List, false, cond, Option, None, Some, option_map, String, BTreeMap, Global, Bor, string_bytes}
+use Rattle.std.proofs.Common.{string_cmp, nat_cmp, refl, sym, ap, ◌∙◌}
 use Rattle.std.specs.Cmp.Lexicographic.{slice_cmp}
 use Rattle.std.specs.Option.{option_copied}
 use Rattle.std.specs.BTreeMap.{UpdatesBy, get_by_text}

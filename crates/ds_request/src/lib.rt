@@ -10,6 +10,7 @@
 #![tactic(auto)]
 
 pub mod call;
+mod copying;
 mod forms;
 pub mod line;
 mod members;

@@ -1,10 +1,11 @@
 -- One call of a reader: what it has read so far, and what each of its ends says.
-use Rattle.std.proofs.Common.{◌≡◌, ◌≢◌, ℕ, ◌+◌, ◌<◌, ◌≤◌, List, [], ◌∷◌, ◌++◌, length, refl, ap, sym, ◌∙◌, arith, Bool, true, false, Option, Some, None, Result, Ok, Err, append-nil, length-append, subst, ◌⊎◌, inl, inr}
+use Rattle.std.proofs.Common.{◌≡◌, ◌≢◌, ℕ, ◌+◌, ◌<◌, ◌≤◌, List, [], ◌∷◌, ◌++◌, length, refl, ap, sym, ◌∙◌, arith, Bool, true, false, Option}
+use Rattle.std.proofs.Common.{Some, None, Result, Ok, Err, append-nil, length-append, subst, ◌⊎◌, inl, inr}
 use Rattle.std.specs.Prelude.{nat_lt}
 use Rattle.std.proofs.lemmas.Bool.{cases_lt, ltb-false}
 use Rattle.std.specs.Io.KnownBytes.{Consumes, IsAtEnd, Keeps}
 use Rattle.ds_base.specs.Limits.{most_input_bytes}
-use Rattle.ds_io.specs.KnownBytesLaws.{Consumes-kept, Consumes-none, Consumes-then}
+use Rattle.std.proofs.KnownBytes.{Consumes-kept, Consumes-nil, Consumes-trans}
 use Rattle.ds_rounds.specs.Drafts.{Absorbed, DraftParts, IsLine, IsOpen, IsSame, LeavesRound, Stands, WantsMemory, number_in, so_far}
 use Rattle.ds_rounds.specs.Lines.{lines_in}
 use Rattle.ds_rounds.specs.Reading.{GivesNone, IsReader, Outcome, ReaderParts, ReadsRound}
@@ -37,7 +38,7 @@ pub record IsReading (first now : Option (List ℕ)) (old : ReaderParts) (draft 
 pub reading_first : (left : Option (List ℕ)) (old : ReaderParts) (draft : DraftParts) → IsReader old → old.stage ≡ stage.Reading → draft.first ≡ old.number → draft.lines ≡ [] → draft.kept ≡ [] → draft.blank ≡ true → IsReading left left old draft old.number old.taken old.buffered
 reading_first left old draft ok reading first lines kept blank = record {
   read = [];
-  told = Consumes-none left;
+  told = Consumes-nil left;
   counted = omega arith;
   at_once = inl refl;
   stands = begin old draft first lines kept blank;
@@ -86,7 +87,7 @@ waits {first} {now} {old} {draft} {number} {taken} {piece} reading none = none_e
 pub read_more : {first now next : Option (List ℕ)} {old : ReaderParts} {before after : DraftParts} {number taken count : ℕ} {empty : List ℕ} (piece : List ℕ) → IsReading first now old before number taken empty → empty ≡ [] → taken < most_input_bytes → IsSame before after → 0 < after.byte_room → 0 < after.line_room → Consumes now next piece → count ≡ taken + length piece → count ≤ most_input_bytes → (count ≡ most_input_bytes → length piece ≤ 1) → IsReading first next old after number count piece
 read_more {first} {now} {next} {old} {before} {after} {number} {taken} {count} {empty} piece reading none below same bytes lines told counted within one = record {
   read = reading.read ++ piece;
-  told = Consumes-then first now next reading.read piece reading.told told;
+  told = Consumes-trans first now next reading.read piece reading.told told;
   counted = omega (arith, counted, reading.counted, length-append reading.read piece);
   at_once = inr (still_none reading.at_once);
   stands = read_on old reading.read piece before after number (subst (Stands (ahead old reading.read) before number) none reading.stands) same;
@@ -178,7 +179,7 @@ nothing_buffered old ended none = ap (rounds_in ended old.number) (append-nil ol
 pub reads_ended : (left : Option (List ℕ)) (old : ReaderParts) → IsReader old → old.stage ≡ stage.Ended → ReadsRound old old left left (Ok None)
 reads_ended left old ok is_ended = record {
   read = [];
-  told = Consumes-none left;
+  told = Consumes-nil left;
   counted = omega arith;
   at_once = inl refl;
   past_the_end = λ _. (refl, refl);
@@ -191,7 +192,7 @@ reads_ended left old ok is_ended = record {
 pub reads_failed : (left : Option (List ℕ)) (old : ReaderParts) (refusal : RoundRefused) → IsReader old → old.stage ≡ stage.Failed → (old.taken ≡ most_input_bytes → refusal ≡ refused.InputLimit) → (old.taken < most_input_bytes → refusal ≡ refused.NoMemory) → ReadsRound old old left left (Err refusal)
 reads_failed left old refusal ok failed limit memory = record {
   read = [];
-  told = Consumes-none left;
+  told = Consumes-nil left;
   counted = omega arith;
   at_once = inl refl;
   past_the_end = λ is_ended. absurd (let never : stage.Failed ≡ stage.Ended = sym failed ∙ is_ended in cc);

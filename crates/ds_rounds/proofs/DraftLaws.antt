@@ -1,5 +1,6 @@
 -- A draft's lines, and what ending a line makes of its rounds.
-use Rattle.std.proofs.Common.{◌≡◌, ℕ, suc, ◌+◌, ◌<◌, ◌≤◌, List, [], ◌∷◌, ◌++◌, length, refl, ap, sym, ◌∙◌, arith, Bool, true, false, length-append, ◌⊎◌, inl, inr}
+use Rattle.std.proofs.Common.{◌≡◌, ℕ, suc, ◌+◌, ◌<◌, ◌≤◌, List, [], ◌∷◌, ◌++◌, length, refl, ap, sym, ◌∙◌, arith, Bool, true, false}
+use Rattle.std.proofs.Common.{length-append, ◌⊎◌, inl, inr}
 use Rattle.std.specs.Prelude.{nat_le, sum_by}
 use Rattle.ds_base.specs.Limits.{most_round_bytes, most_round_lines}
 use Rattle.std.proofs.lemmas.Bool.{cases_lt, le-leb, lt-leb}

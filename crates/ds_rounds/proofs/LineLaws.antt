@@ -1,5 +1,6 @@
 -- Lines piece by piece: bytes without a newline, and then a newline or the end.
-use Rattle.std.proofs.Common.{◌≡◌, ℕ, suc, ◌+◌, ◌<◌, ◌≤◌, List, [], ◌∷◌, ◌++◌, length, take, drop, refl, ap, ◌∙◌, arith, Bool, true, false, cond, not, Some, None, subst}
+use Rattle.std.proofs.Common.{◌≡◌, ℕ, suc, ◌+◌, ◌<◌, ◌≤◌, List, [], ◌∷◌, ◌++◌, length, take, drop, refl, ap, ◌∙◌, arith, Bool, true, false}
+use Rattle.std.proofs.Common.{cond, not, Some, None, subst}
 use Rattle.std.specs.Prelude.{◌==◌, nat_lt, nat_le, position}
 use Rattle.std.specs.List.{prefix_len}
 use Rattle.std.proofs.lemmas.Bool.{eqb-true, leb-true, leb-false, lt-leb, ltb-true, ltb-false}

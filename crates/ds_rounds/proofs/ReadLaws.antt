@@ -1,5 +1,6 @@
 -- Reading on: the bytes of one call, read by read.
-use Rattle.std.proofs.Common.{◌≡◌, ℕ, List, [], ◌∷◌, ◌++◌, length, refl, ap, sym, ◌∙◌, arith, Bool, true, false, append_assoc, append-nil, subst}
+use Rattle.std.proofs.Common.{◌≡◌, ℕ, List, [], ◌∷◌, ◌++◌, length, refl, ap, sym, ◌∙◌, arith, Bool, true, false, append_assoc, append-nil}
+use Rattle.std.proofs.Common.{subst}
 use Rattle.ds_rounds.specs.Drafts.{DraftParts, IsLine, IsSame, Stands, number_in, so_far}
 use Rattle.ds_rounds.specs.Lines.{lines_in}
 use Rattle.ds_rounds.specs.Reading.{Gives, GivesNone, MayFollow, ReaderParts}

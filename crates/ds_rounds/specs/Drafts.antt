@@ -37,11 +37,13 @@ pub record Stands (rounds : Bool → List ℕ → List (List NumberedLine)) (dra
   pub line : List ℕ
   pub is_line : IsLine draft line
   pub counted : number ≡ draft.first + length draft.lines
-  pub rounds_are : (ended : Bool) (more : List ℕ) → rounds ended more ≡ rounds_from ended (so_far draft) number (lines_in ended (line ++ (bytes ++ more)))
+  pub rounds_are : (ended : Bool) (more : List ℕ)
+      → rounds ended more ≡ rounds_from ended (so_far draft) number (lines_in ended (line ++ (bytes ++ more)))
 
 -- the draft is a round, and the first of these rounds; the others are those of the bytes behind it
 abbrev pub IsFirst : (Bool → List ℕ → List (List NumberedLine)) → DraftParts → ℕ → List ℕ → Type 0
-IsFirst rounds draft number bytes = (ended : Bool) (more : List ℕ) → rounds ended more ≡ so_far draft ∷ rounds_in ended number (bytes ++ more)
+IsFirst rounds draft number bytes = (ended : Bool) (more : List ℕ)
+    → rounds ended more ≡ so_far draft ∷ rounds_in ended number (bytes ++ more)
 
 -- nothing but the room changed
 pub record IsSame (old new : DraftParts) : Type 0 where
@@ -72,9 +74,11 @@ Leaves false old new = IsOpen new × (number_in new ≡ number_in old + 1) × (o
 -- the rounds of a draft and the line that has ended are the round that it made, if it made one, and those behind it
 abbrev pub EndsLine : Bool → DraftParts → DraftParts → List ℕ → Type 0
 EndsLine true old new line =
-    (ended : Bool) (lines : List (List ℕ)) → rounds_from ended (so_far old) (number_in old) (line ∷ lines) ≡ so_far new ∷ rounds_from ended [] (number_in old + 1) lines
+    (ended : Bool) (lines : List (List ℕ))
+    → rounds_from ended (so_far old) (number_in old) (line ∷ lines) ≡ so_far new ∷ rounds_from ended [] (number_in old + 1) lines
 EndsLine false old new line =
-    IsLine new [] × ((ended : Bool) (lines : List (List ℕ)) → rounds_from ended (so_far old) (number_in old) (line ∷ lines) ≡ rounds_from ended (so_far new) (number_in old + 1) lines)
+    IsLine new [] × ((ended : Bool) (lines : List (List ℕ))
+    → rounds_from ended (so_far old) (number_in old) (line ∷ lines) ≡ rounds_from ended (so_far new) (number_in old + 1) lines)
 
 -- what is left of a draft at the end of the input, behind the line that is being read
 abbrev pub EndsInput : DraftParts → DraftParts → List ℕ → Type 0

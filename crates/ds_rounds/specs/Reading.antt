@@ -1,5 +1,6 @@
 -- What reading a round does, told of a reader before and after it.
-use Rattle.std.specs.Prelude.{◌≡◌, ◌≢◌, ℕ, ◌+◌, ◌<◌, ◌≤◌, ◌⊎◌, List, [], ◌∷◌, ◌++◌, Bool, true, false, Option, Some, None, Result, Ok, Err, length, ⊤}
+use Rattle.std.specs.Prelude.{◌≡◌, ◌≢◌, ℕ, ◌+◌, ◌<◌, ◌≤◌, ◌⊎◌, List, [], ◌∷◌, ◌++◌, Bool, true, false, Option, Some, None, Result, Ok, Err}
+use Rattle.std.specs.Prelude.{length, ⊤}
 use Rattle.std.specs.Io.KnownBytes.{Consumes, IsAtEnd}
 use Rattle.ds_base.specs.Limits.{most_input_bytes, most_round_lines}
 use Rattle.ds_io.specs.Faults.{next_count}
@@ -43,7 +44,8 @@ MayFollow stage.Failed ended more = ⊥
 -- this one, and then those of what is buffered now and stands behind.
 abbrev pub Gives : ReaderParts → List ℕ → List NumberedLine → ReaderParts → Type 0
 Gives old read round new =
-    (ended : Bool) (more : List ℕ) → MayFollow new.stage ended more → rounds_in ended old.number (old.buffered ++ (read ++ more)) ≡ round ∷ rounds_in ended new.number (new.buffered ++ more)
+    (ended : Bool) (more : List ℕ) → MayFollow new.stage ended more
+    → rounds_in ended old.number (old.buffered ++ (read ++ more)) ≡ round ∷ rounds_in ended new.number (new.buffered ++ more)
 
 -- What a round that is given says: it is the first one, and the number of the next line has risen.
 pub record GivesRound (old : ReaderParts) (read : List ℕ) (round : List NumberedLine) (new : ReaderParts) : Type 0 where
@@ -67,8 +69,10 @@ Outcome old read (Err refused.InputLimit) new = GivesNone old read false × (new
 Outcome old read (Err refused.NoMemory) new = (new.stage ≡ stage.Failed) × (new.taken < most_input_bytes)
 
 -- One call: the bytes that it read, which its source had in front of what it has left, and of which there are none where a
--- round stood in the buffer, the input had ended, or an earlier call was refused; and what its answer says of them. Where it met the end nothing is left.
-pub record ReadsRound (old new : ReaderParts) (left_old left_new : Option (List ℕ)) (result : Result (Option Round) RoundRefused) : Type 0 where
+-- round stood in the buffer, the input had ended, or an earlier call was refused; and what its answer says of them. Where it met
+-- the end nothing is left.
+pub record ReadsRound (old new : ReaderParts) (left_old left_new : Option (List ℕ))
+    (result : Result (Option Round) RoundRefused) : Type 0 where
   pub read : List ℕ
   pub told : Consumes left_old left_new read
   pub counted : new.taken ≡ old.taken + length read
@@ -96,4 +100,5 @@ pub record HasRead (first now : Option (List ℕ)) (bytes : List ℕ) (rounds : 
   pub told : Consumes first now bytes
   pub at_the_end : reader.stage ≡ stage.Ended → IsAtEnd now
   pub going : reader.stage ≢ stage.Failed
-  pub so_far : (ended : Bool) (more : List ℕ) → MayFollow reader.stage ended more → rounds_in ended 1 (bytes ++ more) ≡ rounds ++ rounds_in ended reader.number (reader.buffered ++ more)
+  pub so_far : (ended : Bool) (more : List ℕ) → MayFollow reader.stage ended more
+      → rounds_in ended 1 (bytes ++ more) ≡ rounds ++ rounds_in ended reader.number (reader.buffered ++ more)

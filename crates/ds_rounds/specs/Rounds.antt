@@ -29,7 +29,8 @@ unfoldable pub rounds_from : Bool → List NumberedLine → ℕ → List (List �
 rounds_from ended so_far number [] = cond ended (round_of so_far []) []
 rounds_from ended so_far number (line ∷ lines) =
     let longer = so_far ++ (record { number = number; content = content_of line }) ∷ [] in
-    cond (is_blank line) (round_of so_far (rounds_from ended [] (number + 1) lines)) (cond (is_full longer) (longer ∷ rounds_from ended [] (number + 1) lines) (rounds_from ended longer (number + 1) lines))
+    cond (is_blank line) (round_of so_far (rounds_from ended [] (number + 1) lines))
+    (cond (is_full longer) (longer ∷ rounds_from ended [] (number + 1) lines) (rounds_from ended longer (number + 1) lines))
 
 -- the rounds of bytes that begin at a line of this number, of an input that ends with them or goes on
 unfoldable pub rounds_in : Bool → ℕ → List ℕ → List (List NumberedLine)

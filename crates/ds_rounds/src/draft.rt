@@ -1,5 +1,6 @@
 //! A round that is being read.
-ghost use Rattle.std.specs.Prelude.{◌≡◌, ℕ, ◌+◌, ◌^◌, ◌-◌, ◌<◌, ◌≤◌, ◌==◌, ◌&&◌, [], ◌∷◌, ◌++◌, List, Bool, true, false, length, take, position, IfOk, OnOk, OnErr};
+ghost use Rattle.std.specs.Prelude.{◌≡◌, ℕ, ◌+◌, ◌^◌, ◌-◌, ◌<◌, ◌≤◌, ◌==◌, ◌&&◌, [], ◌∷◌, ◌++◌, List, Bool, true, false, length, take};
+ghost use Rattle.std.specs.Prelude.{position, IfOk, OnOk, OnErr};
 ghost use Rattle.ds_base.specs.Limits.{most_line_bytes};
 ghost use Rattle.ds_rounds.specs.Lines.{Content, content_of, is_blank};
 ghost use Rattle.ds_rounds.specs.Rounds.{is_full};
@@ -31,7 +32,14 @@ impl Model for Draft {
 
     ghost Value = { DraftParts };
 
-    ghost view = { λ d. record { first = d.first; lines = contents (take d.start d.bytes.items) d.spans.items; kept = drop d.start d.bytes.items; blank = d.blank; byte_room = vec_capacity d.bytes - vec_len d.bytes; line_room = vec_capacity d.spans - vec_len d.spans } };
+    ghost view = { λ d. record {
+      first = d.first;
+      lines = contents (take d.start d.bytes.items) d.spans.items;
+      kept = drop d.start d.bytes.items;
+      blank = d.blank;
+      byte_room = vec_capacity d.bytes - vec_len d.bytes;
+      line_room = vec_capacity d.spans - vec_len d.spans;
+    } };
 
     ghost invariant = { λ d. IsDraft d.start d.bytes.items d.spans.items };
 }

@@ -1,5 +1,6 @@
 //! Reading an input round by round.
-ghost use Rattle.std.specs.Prelude.{◌≡◌, ℕ, ◌+◌, ◌^◌, ◌<◌, ◌≤◌, ◌==◌, ◌⊎◌, Bool, true, nat_lt, List, [], length, IsErr, IfOk, OnOk, OnErr, IfSome, Ok, Err, None};
+ghost use Rattle.std.specs.Prelude.{◌≡◌, ℕ, ◌+◌, ◌^◌, ◌<◌, ◌≤◌, ◌==◌, ◌⊎◌, Bool, true, nat_lt, List, [], length, IsErr, IfOk, OnOk, OnErr};
+ghost use Rattle.std.specs.Prelude.{IfSome, Ok, Err, None};
 ghost use Rattle.std.specs.Io.KnownBytes.{Consumes, IsAtEnd, Keeps};
 ghost use Rattle.ds_base.specs.Limits.{most_input_bytes, most_round_lines};
 ghost use Rattle.ds_io.specs.Faults.{next_count};
@@ -164,7 +165,8 @@ fn absorb(piece: &mut Piece, number: &mut u64, draft: &mut Draft) -> Result<bool
     requires fits { number.old + length piece.old + 1 < 2 ^ 64 }
     ensures leaves { IfOk result (λ ended. LeavesRound ended draft.new number.new piece.new) }
     ensures first { OnOk result (draft.old.first ≤ draft.new.first) }
-    ensures rounds { IfOk result (λ ended. (rounds : Bool → List ℕ → List (List NumberedLine)) → Stands rounds draft.old number.old piece.old → Absorbed ended rounds draft.new number.new piece.new) }
+    ensures rounds { IfOk result (λ ended. (rounds : Bool → List ℕ → List (List NumberedLine))
+        → Stands rounds draft.old number.old piece.old → Absorbed ended rounds draft.new number.new piece.new) }
     ensures counted { number.new + length piece.new ≤ number.old + length piece.old }
     ensures rises { IfOk result (λ ended. ended ≡ true → number.old < number.new) }
     ensures err { OnErr result (WantsMemory draft.old piece.old) }
@@ -186,7 +188,8 @@ fn absorb(piece: &mut Piece, number: &mut u64, draft: &mut Draft) -> Result<bool
 fn last_round(draft: Draft) -> Result<Option<Round>, AllocError>
     requires { IsOpen draft }
     ensures round { IfOk result (λ found. IfSome found (λ round. IsLastOf draft round)) }
-    ensures rounds { IfOk result (λ found. (line : List ℕ) → IsLine draft line → rounds_from true (so_far draft) (number_in draft) (lines_in true line) ≡ found_rounds found) }
+    ensures rounds { IfOk result (λ found. (line : List ℕ) → IsLine draft line
+        → rounds_from true (so_far draft) (number_in draft) (lines_in true line) ≡ found_rounds found) }
 {
     let mut draft = draft;
     draft.end_input()?;

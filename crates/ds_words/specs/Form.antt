@@ -1,5 +1,6 @@
 -- The form of the words behind the program's name.
-use Rattle.std.specs.Prelude.{ℕ, List, [], ◌∷◌, Bool, false, not, ◌&&◌, ◌||◌, ◌==◌, nat_le, nat_lt, cond, bytes_eq, codes, length, map, filter, Option, Some, None, option_map, option_and_then}
+use Rattle.std.specs.Prelude.{ℕ, List, [], ◌∷◌, Bool, false, not, ◌&&◌, ◌||◌, ◌==◌, nat_le, nat_lt, cond, bytes_eq, codes, length, map}
+use Rattle.std.specs.Prelude.{filter, Option, Some, None, option_map, option_and_then}
 use Rattle.std.specs.List.{after_first, before_first, list_all, list_any}
 use Rattle.std.specs.Str.Parse.{digits_value}
 use Rattle.ds_base.specs.Limits.{greatest_window, most_appliers, most_shards}
@@ -14,7 +15,9 @@ pub record Item : Type 0 where
 
 -- the four options
 abbrev pub is_option : List ℕ → Bool
-is_option name = bytes_eq name (codes "--indexes") || bytes_eq name (codes "--shards") || bytes_eq name (codes "--appliers") || bytes_eq name (codes "--window")
+is_option name =
+    bytes_eq name (codes "--indexes") || bytes_eq name (codes "--shards") || bytes_eq name (codes "--appliers")
+    || bytes_eq name (codes "--window")
 
 -- a value isn't empty and doesn't begin with `-`
 abbrev pub is_value : List ℕ → Bool
@@ -42,7 +45,8 @@ in_front first others = option_and_then (λ item. option_map (λ items. item ∷
 abbrev pub items_of : List (List ℕ) → Option (List Item)
 items_of [] = Some []
 items_of (word ∷ []) = cond (is_joined word) (in_front (joined word) (Some [])) None
-items_of (word ∷ next ∷ words) = cond (is_joined word) (in_front (joined word) (items_of (next ∷ words))) (in_front (item_of word next) (items_of words))
+items_of (word ∷ next ∷ words) =
+    cond (is_joined word) (in_front (joined word) (items_of (next ∷ words))) (in_front (item_of word next) (items_of words))
 
 -- ---- options
 
@@ -67,7 +71,8 @@ is_digits = list_all (λ b. nat_le 48 b && nat_le b 57)
 abbrev pub number_of : ℕ → ℕ → ℕ → List ℕ → Option ℕ
 number_of digits least greatest text =
     let number = digits_value 10 text in
-    cond (nat_lt 0 (length text) && nat_le (length text) digits && is_digits text && nat_le least number && nat_le number greatest) (Some number) None
+    cond (nat_lt 0 (length text) && nat_le (length text) digits && is_digits text && nat_le least number && nat_le number greatest)
+    (Some number) None
 
 -- the number that a value stands for, and another one where there is none
 abbrev pub number_or : ℕ → ℕ → ℕ → ℕ → Option (List ℕ) → Option ℕ

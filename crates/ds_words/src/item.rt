@@ -16,7 +16,9 @@ pub(crate) struct Item<'a> {
 pub(crate) fn first_item(words: &[String]) -> Option<Item<'_>>
     requires { 0 < length words.now }
     ensures few { IfSome result (λ item. item.words ≤ 2) }
-    ensures items { MatchOption result (items_of (map string_bytes words.now) ≡ None) (λ item. (0 < item.words) × (item.words ≤ length words.now) × (items_of (map string_bytes words.now) ≡ in_front (Some (seen item)) (items_of (map string_bytes (drop item.words words.now))))) }
+    ensures items { MatchOption result (items_of (map string_bytes words.now) ≡ None)
+        (λ item. (0 < item.words) × (item.words ≤ length words.now) × (items_of (map string_bytes words.now)
+        ≡ in_front (Some (seen item)) (items_of (map string_bytes (drop item.words words.now))))) }
 {
     let first = words[0].as_str();
     match first.split_once('=') {

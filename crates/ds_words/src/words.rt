@@ -11,10 +11,10 @@ use ds_base::limits::{MAX_APPLIERS, MAX_SHARDS, MAX_WINDOW};
 use std::alloc::Global;
 
 /// The shards where no word says how many.
-pub const DEFAULT_SHARDS: u32 = 4;
+const DEFAULT_SHARDS: u32 = 4;
 
 /// The background appliers where no word says how many.
-pub const DEFAULT_APPLIERS: u32 = 2;
+const DEFAULT_APPLIERS: u32 = 2;
 
 /// The numbers that an option may be given: of at most so many digits, within these bounds, and the one that it has where it is
 /// given none.
@@ -83,8 +83,10 @@ pub fn read_words(alloc: Global, words: &[String]) -> Result<Options, WordsRefus
 /// The number that words give to an option.
 fn number_in(words: &[String], name: &str, numbers: Numbers) -> Result<u32, WordsRefused>
     requires { numbers.digits ≤ 5 }
-    ensures number { IfOk result (λ n. number_in (map string_bytes words.now) name.now numbers.digits numbers.least numbers.greatest numbers.absent ≡ Some n) }
-    ensures usage { IfErr result (λ e. (e ≡ WordsRefused.Usage) × (number_in (map string_bytes words.now) name.now numbers.digits numbers.least numbers.greatest numbers.absent ≡ None)) }
+    ensures number { IfOk result (λ n. number_in (map string_bytes words.now) name.now numbers.digits numbers.least numbers.greatest
+        numbers.absent ≡ Some n) }
+    ensures usage { IfErr result (λ e. (e ≡ WordsRefused.Usage) × (number_in (map string_bytes words.now) name.now numbers.digits
+        numbers.least numbers.greatest numbers.absent ≡ None)) }
 {
     match value_in(words, name)? {
         Some(text) => number_of(text, numbers.digits, numbers.least, numbers.greatest).ok_or(

@@ -14,7 +14,7 @@ ghost use Rattle.ds_query.specs.declared.query.Select.TheVariants as select;
 use crate::printer::Printer;
 use crate::statement::Statement;
 use crate::token::Mark;
-use ds_base::{Column, TextString};
+use ds_base::{Column, KEY_NAME, TextString};
 use ds_query::Select;
 use std::alloc::Global;
 
@@ -42,7 +42,7 @@ impl Printer {
     {
         match select {
             Select::Entities => self.put_mark(Mark::Star),
-            Select::Keys => self.put_name("__key__"),
+            Select::Keys => self.put_name(KEY_NAME),
             Select::Projection(names) => self.put_names(names.as_slice()),
         }
     }

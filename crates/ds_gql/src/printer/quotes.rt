@@ -1,5 +1,5 @@
 //! Strings, with each quote doubled.
-ghost use Rattle.ds_gql.specs.Printers.{Appends};
+ghost use Rattle.ds_gql.specs.Printers.{PutsText};
 ghost use Rattle.ds_gql.specs.Printing.{doubled};
 
 use crate::printer::Printer;
@@ -8,7 +8,7 @@ use crate::steps::strings::split_quote;
 impl Printer {
     /// Puts a text with two quotes for each one, run by run.
     pub(super) fn append_doubled(&mut self, text: &str)
-        ensures { Appends (doubled text.now) self.old self.new }
+        ensures { PutsText (doubled text.now) self.old self.new }
     {
         let mut rest = text;
         'quotes: loop {

@@ -7,7 +7,7 @@ use crate::arguments::Arguments;
 use crate::steps::strings::undoubled;
 use crate::token::{Mark, Piece};
 use ds_base::limits::MAX_ID;
-use ds_base::{Ident, NoMemory, TextString, TryCopy, Value, is_name};
+use ds_base::{Ident, NoMemory, TextString, Value, copy_of, is_name};
 use ds_query::Op;
 use std::alloc::Global;
 
@@ -49,8 +49,8 @@ pub(super) fn value_of(
         Piece::Name(_) => Ok(None),
         Piece::Integer(n) => Ok(Some(Value::Int(n))),
         Piece::Quoted(raw) => Ok(Some(Value::Str(undoubled(alloc, raw)?))),
-        Piece::Numbered(n) => copied(alloc, arguments.numbered(n)),
-        Piece::Named(name) => copied(alloc, arguments.named(name)),
+        Piece::Numbered(n) => copy_of(alloc, arguments.numbered(n)),
+        Piece::Named(name) => copy_of(alloc, arguments.named(name)),
         Piece::Strange => Ok(None),
     }
 }
@@ -63,15 +63,6 @@ fn constant_of(mark: Mark) -> Option<Value>
         Mark::False => Some(Value::Bool(false)),
         Mark::Null => Some(Value::Null),
         _ => None,
-    }
-}
-
-fn copied(alloc: Global, value: Option<&Value>) -> Result<Option<Value>, NoMemory>
-    ensures { IfOk result (λ copy. copy ≡ option_map (λ v. v.now) value.entry) }
-{
-    match value {
-        Some(value) => Ok(Some(value.copy(alloc)?)),
-        None => Ok(None),
     }
 }
 

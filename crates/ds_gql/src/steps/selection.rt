@@ -6,7 +6,7 @@ ghost use Rattle.ds_gql.specs.Pieces.{seen, name_in};
 
 use crate::draft::{Draft, Phase};
 use crate::token::{Mark, Piece};
-use ds_base::{NoMemory, TextString, is_name};
+use ds_base::{KEY_NAME, NoMemory, TextString, is_name};
 use ds_query::Select;
 use std::alloc::{AllocError, Global};
 
@@ -20,7 +20,7 @@ impl Draft {
         }
         match piece.name() {
             Some(name) => {
-                if is_key_name(name) {
+                if name == KEY_NAME {
                     self.select = Select::Keys;
                     Ok(self.go(Phase::Selected))
                 } else {
@@ -37,7 +37,7 @@ impl Draft {
     {
         match piece.name() {
             Some(name) => {
-                if is_key_name(name) {
+                if name == KEY_NAME {
                     Ok(false)
                 } else {
                     self.put_name(alloc, name)
@@ -95,11 +95,4 @@ impl Draft {
             None => Ok(false),
         }
     }
-}
-
-/// Whether the name is that of keys.
-pub(crate) fn is_key_name(name: &str) -> bool
-    ensures { result ≡ bytes_eq name.now spec.key_name }
-{
-    name == "__key__"
 }

@@ -36,42 +36,32 @@ pub(crate) trait ReadMember: Drop {
         ensures { Reads Refusal.NoMemory (reads self (option_map view given)) result };
 }
 
-/// A member that has to be there.
+/// A member that has to be there: the field that it is told by, and its form.
 #[derive(Drop)]
-pub(crate) struct Required<F> {
-    pub(crate) field: Field,
-    pub(crate) form: F,
-}
+pub(crate) struct Required<F>(pub(crate) Field, pub(crate) F);
 
-/// A member that may be absent.
+/// A member that may be absent: the field that it is told by, and its form.
 #[derive(Drop)]
-pub(crate) struct Optional<F> {
-    pub(crate) field: Field,
-    pub(crate) form: F,
-}
+pub(crate) struct Optional<F>(pub(crate) Field, pub(crate) F);
 
-/// A member for which something stands where it is absent.
+/// A member that may be absent: the field that it is told by, its form, and what stands for it then.
 #[derive(Drop)]
-pub(crate) struct Defaulted<F, T> {
-    pub(crate) field: Field,
-    pub(crate) form: F,
-    pub(crate) absent: T,
-}
+pub(crate) struct Defaulted<F, T>(pub(crate) Field, pub(crate) F, pub(crate) T);
 
 impl<F: Form> ReadMember for Required<F> {
     type Item = F::Item;
 
-    ghost field = { λ m. m.field };
+    ghost field = { λ m. m.0 };
 
-    ghost reads = { λ m. required (F.reads m.form) };
+    ghost reads = { λ m. required (F.reads m.1) };
 
     fn field(&self) -> Field {
-        self.field
+        self.0
     }
 
     fn read(self, alloc: Global, given: Option<Value>) -> Result<F::Item, Refusal> {
         match given {
-            Some(value) => self.form.read(alloc, value),
+            Some(value) => self.1.read(alloc, value),
             None => Err(Refusal::Request),
         }
     }
@@ -80,17 +70,17 @@ impl<F: Form> ReadMember for Required<F> {
 impl<F: Form> ReadMember for Optional<F> {
     type Item = Option<F::Item>;
 
-    ghost field = { λ m. m.field };
+    ghost field = { λ m. m.0 };
 
-    ghost reads = { λ m. optional (F.reads m.form) };
+    ghost reads = { λ m. optional (F.reads m.1) };
 
     fn field(&self) -> Field {
-        self.field
+        self.0
     }
 
     fn read(self, alloc: Global, given: Option<Value>) -> Result<Option<F::Item>, Refusal> {
         match given {
-            Some(value) => Ok(Some(self.form.read(alloc, value)?)),
+            Some(value) => Ok(Some(self.1.read(alloc, value)?)),
             None => Ok(None),
         }
     }
@@ -99,18 +89,18 @@ impl<F: Form> ReadMember for Optional<F> {
 impl<T: Drop, F: Form<Item = T>> ReadMember for Defaulted<F, T> {
     type Item = T;
 
-    ghost field = { λ m. m.field };
+    ghost field = { λ m. m.0 };
 
-    ghost reads = { λ m. defaulted m.absent (F.reads m.form) };
+    ghost reads = { λ m. defaulted m.2 (F.reads m.1) };
 
     fn field(&self) -> Field {
-        self.field
+        self.0
     }
 
     fn read(self, alloc: Global, given: Option<Value>) -> Result<T, Refusal> {
         match given {
-            Some(value) => self.form.read(alloc, value),
-            None => Ok(self.absent),
+            Some(value) => self.1.read(alloc, value),
+            None => Ok(self.2),
         }
     }
 }

@@ -18,10 +18,7 @@ pub(crate) fn read_allocate_ids(
 ) -> Result<Call, RequestRefused>
     ensures { Reads RequestRefused.NoMemory (allocate_ids_call_of client (members_view members.entries)) result }
 {
-    let count = Required {
-        field: Field::Count,
-        form: CountForm,
-    };
+    let count = Required(Field::Count, CountForm);
     let count = read_member(alloc, client, &mut members, count)?;
     Ok(Call::AllocateIds { count })
 }

@@ -18,10 +18,7 @@ pub(crate) fn read_apply(
 ) -> Result<Call, RequestRefused>
     ensures { Reads RequestRefused.NoMemory (apply_call_of client (members_view members.entries)) result }
 {
-    let shard = Required {
-        field: Field::Shard,
-        form: ShardForm,
-    };
+    let shard = Required(Field::Shard, ShardForm);
     let shard = read_member(alloc, client, &mut members, shard)?;
     Ok(Call::Apply { shard })
 }

@@ -18,11 +18,7 @@ pub(crate) fn read_begin(
 ) -> Result<Call, RequestRefused>
     ensures { Reads RequestRefused.NoMemory (begin_call_of client (members_view members.entries)) result }
 {
-    let xg = Defaulted {
-        field: Field::Xg,
-        form: FlagForm,
-        absent: false,
-    };
+    let xg = Defaulted(Field::Xg, FlagForm, false);
     let xg = read_member(alloc, client, &mut members, xg)?;
     Ok(Call::Begin { xg })
 }

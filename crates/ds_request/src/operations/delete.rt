@@ -18,10 +18,7 @@ pub(crate) fn read_delete(
 ) -> Result<Call, RequestRefused>
     ensures { Reads RequestRefused.NoMemory (delete_call_of client (members_view members.entries)) result }
 {
-    let key = Required {
-        field: Field::Key,
-        form: WritableKeyForm,
-    };
+    let key = Required(Field::Key, WritableKeyForm);
     let key = read_member(alloc, client, &mut members, key)?;
     Ok(Call::Delete { key })
 }

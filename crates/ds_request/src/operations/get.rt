@@ -18,10 +18,7 @@ pub(crate) fn read_get(
 ) -> Result<Call, RequestRefused>
     ensures { Reads RequestRefused.NoMemory (get_call_of client (members_view members.entries)) result }
 {
-    let key = Required {
-        field: Field::Key,
-        form: KeyForm,
-    };
+    let key = Required(Field::Key, KeyForm);
     let key = read_member(alloc, client, &mut members, key)?;
     Ok(Call::Get { key })
 }

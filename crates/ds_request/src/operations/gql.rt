@@ -19,38 +19,17 @@ use std::alloc::Global;
 pub(crate) fn read_gql(alloc: Global, client: u32, members: Members) -> Result<Call, RequestRefused>
     ensures { Reads RequestRefused.NoMemory (gql_call_of client (members_view members.entries)) result }
 {
-    let namespace = Defaulted {
-        field: Field::Namespace,
-        form: NamespaceForm,
-        absent: TextString::new(alloc),
-    };
-    let text = Required {
-        field: Field::Text,
-        form: TextForm,
-    };
-    let args = Defaulted {
-        field: Field::Args,
-        form: ListForm { item: ValueForm },
-        absent: Values::new(alloc),
-    };
-    let names = Defaulted {
-        field: Field::Names,
-        form: NamedValuesForm,
-        absent: NamedValues::new(alloc),
-    };
-    let start = Optional {
-        field: Field::Start,
-        form: TextForm,
-    };
-    let end = Optional {
-        field: Field::End,
-        form: TextForm,
-    };
-    let cursor = Defaulted {
-        field: Field::Cursor,
-        form: FlagForm,
-        absent: false,
-    };
+    let namespace = Defaulted(Field::Namespace, NamespaceForm, TextString::new(alloc));
+    let text = Required(Field::Text, TextForm);
+    let args = Defaulted(
+        Field::Args,
+        ListForm { item: ValueForm },
+        Values::new(alloc),
+    );
+    let names = Defaulted(Field::Names, NamedValuesForm, NamedValues::new(alloc));
+    let start = Optional(Field::Start, TextForm);
+    let end = Optional(Field::End, TextForm);
+    let cursor = Defaulted(Field::Cursor, FlagForm, false);
     let table = (
         namespace,
         (text, (args, (names, (start, (end, (cursor, ())))))),

@@ -21,10 +21,7 @@ pub(crate) fn read_put(
     ensures read { Reads RequestRefused.NoMemory (put_call_of client (members_view members.entries)) result }
     ensures lawful { IfOk result IsLawfulCall }
 {
-    let entity = Required {
-        field: Field::Entity,
-        form: EntityForm,
-    };
+    let entity = Required(Field::Entity, EntityForm);
     let written = read_member(alloc, client, &mut members, entity)?;
     Ok(written.into_call())
 }

@@ -25,56 +25,25 @@ pub(crate) fn read_query(
 ) -> Result<Call, RequestRefused>
     ensures { Reads RequestRefused.NoMemory (query_call_of client (members_view members.entries)) result }
 {
-    let namespace = Defaulted {
-        field: Field::Namespace,
-        form: NamespaceForm,
-        absent: TextString::new(alloc),
-    };
-    let kind = Optional {
-        field: Field::Kind,
-        form: NameForm,
-    };
-    let ancestor = Optional {
-        field: Field::Ancestor,
-        form: KeyForm,
-    };
-    let filters = Defaulted {
-        field: Field::Filters,
-        form: ListForm { item: FilterForm },
-        absent: Filters::new(alloc),
-    };
-    let orders = Defaulted {
-        field: Field::Orders,
-        form: ListForm { item: OrderForm },
-        absent: Columns::new(alloc),
-    };
-    let select = Defaulted {
-        field: Field::Select,
-        form: SelectForm,
-        absent: Select::Entities,
-    };
-    let offset = Defaulted {
-        field: Field::Offset,
-        form: ResultsForm,
-        absent: 0,
-    };
-    let limit = Optional {
-        field: Field::Limit,
-        form: ResultsForm,
-    };
-    let start = Optional {
-        field: Field::Start,
-        form: TextForm,
-    };
-    let end = Optional {
-        field: Field::End,
-        form: TextForm,
-    };
-    let cursor = Defaulted {
-        field: Field::Cursor,
-        form: FlagForm,
-        absent: false,
-    };
+    let namespace = Defaulted(Field::Namespace, NamespaceForm, TextString::new(alloc));
+    let kind = Optional(Field::Kind, NameForm);
+    let ancestor = Optional(Field::Ancestor, KeyForm);
+    let filters = Defaulted(
+        Field::Filters,
+        ListForm { item: FilterForm },
+        Filters::new(alloc),
+    );
+    let orders = Defaulted(
+        Field::Orders,
+        ListForm { item: OrderForm },
+        Columns::new(alloc),
+    );
+    let select = Defaulted(Field::Select, SelectForm, Select::Entities);
+    let offset = Defaulted(Field::Offset, ResultsForm, 0);
+    let limit = Optional(Field::Limit, ResultsForm);
+    let start = Optional(Field::Start, TextForm);
+    let end = Optional(Field::End, TextForm);
+    let cursor = Defaulted(Field::Cursor, FlagForm, false);
     let page = (offset, (limit, (start, (end, (cursor, ())))));
     let table = (
         namespace,

@@ -1,7 +1,7 @@
 use Rattle.std.proofs.Common.{◌≡◌, List, ℕ, drop, sym, subst, ◌∙◌, false, true}
 use Rattle.std.specs.Prelude.{IsUtf8}
 use Rattle.ds_bytes.specs.Encoding.{directed, escaped}
-use Rattle.ds_bytes.specs.Lawful.{AreBytes}
+use Rattle.ds_base.specs.Bytes.{AreBytes}
 use Rattle.ds_bytes.specs.Reading.{Found}
 use Rattle.ds_bytes.specs.AncestorLaws.{escaped-reads_once}
 use Rattle.ds_bytes.proofs.input.read_text.Goals as goal

@@ -1,6 +1,5 @@
-use Rattle.std.proofs.Common.{◌≡◌, ◌≤◌, ◌∷◌, ◌++◌, [], length, arith, sym, subst}
+use Rattle.std.proofs.Common.{◌≤◌, ◌∷◌, length, arith, sym, subst}
 use Rattle.ds_lanes.specs.Kernels.{first_zero}
-use Rattle.ds_bytes.specs.Encoding.{escaped}
 use Rattle.ds_bytes.specs.Writing.{Puts}
 use Rattle.ds_bytes.proofs.Escapes.{escaped-whole}
 use Rattle.ds_bytes.proofs.output.put_tagged.Goals as goal

@@ -1,7 +1,5 @@
-use Rattle.std.proofs.Common.{◌≡◌, List, ℕ, Bool, length, drop, sym, ◌∙◌, subst, ap}
-use Rattle.std.specs.Prelude.{◌↔◌}
+use Rattle.std.proofs.Common.{sym, ◌∙◌, ap}
 use Rattle.ds_cursor.specs.RowSteps.{Behind}
-use Rattle.ds_cursor.specs.RowsOfColumns.{IsRowIn, directions}
 use Rattle.ds_cursor.proofs.RowLemmas.{value_step, key_step}
 use Rattle.ds_cursor.proofs.rows.is_row.Goals as goal
 use Rattle.ds_cursor.proofs.rows.is_row.Goals.{then-not-is_key_name+in_ok-behind_value+in-Some, else-not-is_key_name}

@@ -1,5 +1,6 @@
 use Rattle.std.proofs.Common.{◌+◌, drop, Some, None, sym, ◌∙◌, ap, arith}
-use Rattle.ds_foundation_tests.proofs.ListingLaws.{listing_seen, listing_unseen, place, skipped, step-below, step-unseen, step-seen, step-end, walk_finds, walk_costs}
+use Rattle.ds_foundation_tests.proofs.ListingLaws.{listing_seen, listing_unseen, place, skipped, step-below, step-unseen, step-seen}
+use Rattle.ds_foundation_tests.proofs.ListingLaws.{step-end, walk_finds, walk_costs}
 use Rattle.ds_foundation_tests.proofs.zigzag.first_from.Goals as goal
 use Rattle.ds_foundation_tests.proofs.zigzag.first_from.Goals.{then-not-stands_before+else-entry, else-not-stands_before}
 

@@ -2,13 +2,13 @@ use Rattle.std.proofs.Common.{◌≡◌, ℕ, suc, ◌+◌, ◌-◌, ◌<◌, Li
 use Rattle.std.specs.Prelude.{filter}
 use Rattle.std.specs.List.{range_with_len}
 use Rattle.std.proofs.lemmas.List.Elements.{filter-append}
-use Rattle.ds_planner.specs.declared.planned.Index.{Index}
-use Rattle.ds_planner.specs.declared.planned.Index.TheVariants.{Composite}
+use Rattle.ds_planner.specs.declared.planned.PlannedIndex.{PlannedIndex}
+use Rattle.ds_planner.specs.declared.planned.PlannedIndex.TheVariants.{Composite}
 use Rattle.ds_planner.specs.Indexes.{is_candidate}
 use Rattle.ds_planner.proofs.candidates.composites.Goals as goal
 
 -- the next place is the first of those to come
-next : (p : Index → Bool) (all before after : List Index) (i n : ℕ) → i < n → all ≡ before ++ filter p (map Composite (range_with_len i (n - i))) → after ≡ before ++ filter p (Composite i ∷ []) → all ≡ after ++ filter p (map Composite (range_with_len (i + 1) (n - (i + 1))))
+next : (p : PlannedIndex → Bool) (all before after : List PlannedIndex) (i n : ℕ) → i < n → all ≡ before ++ filter p (map Composite (range_with_len i (n - i))) → after ≡ before ++ filter p (Composite i ∷ []) → all ≡ after ++ filter p (map Composite (range_with_len (i + 1) (n - (i + 1))))
 next p all before after i n h e f =
     let left : n - i ≡ suc (n - (i + 1)) = omega arith in
     let rest = map Composite (range_with_len (i + 1) (n - (i + 1))) in

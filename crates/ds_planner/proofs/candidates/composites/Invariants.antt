@@ -1,7 +1,7 @@
 use Rattle.std.proofs.Common.{◌≡◌, ◌-◌, ◌++◌, map, length}
 use Rattle.std.specs.Prelude.{filter}
 use Rattle.std.specs.List.{range_with_len}
-use Rattle.ds_planner.specs.declared.planned.Index.TheVariants.{Composite}
+use Rattle.ds_planner.specs.declared.planned.PlannedIndex.TheVariants.{Composite}
 use Rattle.ds_planner.specs.Indexes.{is_candidate}
 use Rattle.ds_planner.proofs.candidates.composites.Given as goal
 

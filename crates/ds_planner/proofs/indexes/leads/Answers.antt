@@ -1,6 +1,7 @@
 use Rattle.std.proofs.Common.{sym, ap, ◌∙◌, is_some, is_none, ◌&&◌}
 use Rattle.std.specs.Prelude.{bytes_eq}
-use Rattle.ds_planner.specs.Indexes.{leads, is_by_key}
+use Rattle.ds_planner.specs.Indexes.{leads}
+use Rattle.ds_base.specs.KeyColumn.{is_by_key}
 use Rattle.ds_planner.proofs.ColumnEnds.{names_by_key, names_by_property}
 use Rattle.ds_planner.proofs.indexes.leads.Goals as goal
 

@@ -1,9 +1,9 @@
 use Rattle.std.proofs.Common.{List, sym, ap, ◌∙◌, ◌-◌, ◌∷◌, ◌++◌, [], ◌≡◌, false, cond, take, length, None}
 use Rattle.ds_base.specs.declared.column.Column.{Column}
-use Rattle.ds_query.specs.Filters.{key_name}
+use Rattle.ds_base.specs.KeyColumn.{key_name, is_ascending_key}
 use Rattle.ds_query.specs.ColumnLists.{ascending}
 use Rattle.ds_query.specs.Lawful.{ends_in_key}
-use Rattle.ds_planner.specs.Indexes.{by_key, with_key, in_front_of, is_ascending_key}
+use Rattle.ds_planner.specs.Indexes.{by_key, with_key, in_front_of}
 use Rattle.ds_planner.proofs.ColumnEnds.{last_split, in_front_of-last, ascending_key, stripped}
 use Rattle.ds_planner.proofs.key_columns.in_front_of.Goals as goal
 

@@ -1,6 +1,6 @@
 use Rattle.std.proofs.Common.{sym, ap, ◌∙◌, ◌-◌, ◌∷◌, ◌++◌, [], ◌≡◌, cond, take, length}
 use Rattle.ds_planner.specs.Missing.{without_key}
-use Rattle.ds_planner.specs.Indexes.{is_ascending_key}
+use Rattle.ds_base.specs.KeyColumn.{is_ascending_key}
 use Rattle.ds_planner.proofs.ColumnEnds.{last_split, without_key-last}
 use Rattle.ds_planner.proofs.key_columns.without_key.Goals as goal
 

@@ -1,4 +1,5 @@
-use Rattle.std.proofs.Common.{◌≡◌, ℕ, List, true, false, ◌++◌, ◌-◌, ◌+◌, ◌<◌, ◌∙◌, ◌⊎◌, Some, ap, arith, inl, inr, length, length-drop, subst, sym, take}
+use Rattle.std.proofs.Common.{◌≡◌, ℕ, List, true, false, ◌++◌, ◌-◌, ◌+◌, ◌<◌, ◌∙◌, ◌⊎◌, Some, ap, arith, inl, inr, length, length-drop}
+use Rattle.std.proofs.Common.{subst, sym, take}
 use Rattle.std.specs.Prelude.{◌==◌, ◌&&◌, position}
 use Rattle.ds_rounds.specs.Lines.{is_blank}
 use Rattle.ds_rounds.specs.Drafts.{Leaves, Stands, number_in}

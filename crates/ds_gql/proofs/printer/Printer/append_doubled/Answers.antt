@@ -1,5 +1,5 @@
 use Rattle.std.proofs.Common.{rules, List, ℕ, sym, subst}
-use Rattle.ds_gql.specs.Printers.{Appends}
+use Rattle.ds_gql.specs.Printers.{PutsText}
 use Rattle.ds_gql.proofs.PrintingSteps.{doubled_none, doubled_step}
 use Rattle.ds_gql.proofs.printer.Printer.append_doubled.Goals as goal
 
@@ -11,4 +11,4 @@ quotes-preserved c =
     )
 
 pub returns-in-None : goal.returns-in-None
-returns-in-None c = c.quotes.invariant.1 c.append-in-None.new.self (subst (λ (t : List ℕ). Appends t c.quotes.self c.append-in-None.new.self) (sym (doubled_none c.quotes.rest.now c.in-None.ensures)) c.append-in-None.ensures)
+returns-in-None c = c.quotes.invariant.1 c.append-in-None.new.self (subst (λ (t : List ℕ). PutsText t c.quotes.self c.append-in-None.new.self) (sym (doubled_none c.quotes.rest.now c.in-None.ensures)) c.append-in-None.ensures)

@@ -4,7 +4,8 @@ use Rattle.ds_base.specs.Limits.{most_input_bytes}
 use Rattle.ds_rounds.specs.Drafts.{LeavesRound}
 use Rattle.ds_rounds.specs.declared.stage.RoundRefused.TheVariants as refused
 use Rattle.ds_rounds.specs.declared.stage.Stage.TheVariants as stage
-use Rattle.ds_rounds.proofs.CallLaws.{IsReading, absorbed_all, ends, ends_input, gives, kept_on, nothing_read, read_more, reading_first, waits}
+use Rattle.ds_rounds.proofs.CallLaws.{IsReading, absorbed_all, ends, ends_input, gives, kept_on, nothing_read, read_more, reading_first}
+use Rattle.ds_rounds.proofs.CallLaws.{waits}
 use Rattle.ds_rounds.proofs.rounds.Rounds.read_round.Goals as goal
 
 pub read-init : goal.read-init
