@@ -33,17 +33,16 @@ use Rattle.ds_query.specs.declared.branch.Bound.{Bound}
 use Rattle.ds_query.specs.declared.branch.Range.{Range}
 use Rattle.ds_query.specs.declared.branch.Branch.{Branch}
 use Rattle.ds_query.specs.declared.row.Place.{Place}
-use Rattle.ds_query.specs.Filters.{is_key_name}
+use Rattle.ds_base.specs.KeyColumn.{is_key_name, is_by_key, is_ascending_key, key_descends}
 use Rattle.ds_query.specs.ColumnLists.{has_column}
 use Rattle.ds_query.specs.Lawful.{IsLawfulBranch, ends_in_key, names_differ, starts_with_key, bounds_are_keys, is_key_bound}
-use Rattle.ds_planner.specs.Indexes.{is_by_key, is_ascending_key}
 use Rattle.ds_planner.proofs.Members.{both, join, not_true, true_false}
 use Rattle.ds_table.specs.Versions.{is_below, is_before, in_range}
 use Rattle.ds_zigzag.proofs.Order.{above-is_from, below_below, below_upto}
 use Rattle.ds_scan.specs.Ranges.{begins_with, rest, later}
 use Rattle.ds_scan.specs.RangeLaws.{begins-is}
 use Rattle.ds_scan.proofs.Order.{between, from_later, to_later}
-use Rattle.ds_cursor.specs.RowsOfColumns.{directions, key_descends}
+use Rattle.ds_cursor.specs.RowsOfColumns.{directions}
 use Rattle.ds_model.specs.Rows.{place_of, first_value, is_within, is_above as meets_lower, is_below as meets_upper, is_under}
 use Rattle.ds_model.specs.Results.{is_up_to}
 use Rattle.ds_engine.specs.Bounds.{beyond, begun_with, value_in_column, first_descends, low_at, high_at, first_bound, last_bound}

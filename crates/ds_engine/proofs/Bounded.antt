@@ -20,8 +20,10 @@ use Rattle.ds_rows.specs.Versions.{Version, entities_at}
 use Rattle.ds_zigzag.specs.CommonStrings.{least_count, total_count}
 use Rattle.ds_zigzag.specs.Walks.{steps_to_end, steps_up_to}
 use Rattle.ds_model.specs.Results.{branch_results, last_place}
-use Rattle.ds_model.specs.Bounds.{given, stop_at, part_rows, least_of, least, old, bound}
-use Rattle.ds_merge.specs.Merging.{placed, last_of}
+use Rattle.ds_model.specs.Bounds.{given, stop_at, part_rows, least, old, bound}
+use Rattle.ds_base.specs.Least.{least_of}
+use Rattle.ds_pages.specs.Pages.{last_of}
+use Rattle.ds_pages.specs.Places.{placed}
 use Rattle.ds_engine.specs.Places.{bytes_of, is_wanted, walk_steps}
 use Rattle.ds_engine.specs.ScanLaws.{IsPlanned, plan_strings, plan_passed}
 use Rattle.ds_engine.proofs.PartRows.{few_strings}

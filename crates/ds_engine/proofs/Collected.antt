@@ -5,7 +5,7 @@ use Rattle.std.specs.Prelude.{OnErr, All, Contains, IsTrue, nat_lt, count_by, ze
 use Rattle.std.specs.List.{list_any}
 use Rattle.std.proofs.lemmas.Bool.Decides.{nat_tests}
 use Rattle.std.proofs.lemmas.List.{length-map, take_all, map_push}
-use Rattle.std.proofs.lemmas.List.Elements.{All-head}
+use Rattle.std.proofs.lemmas.List.Elements.{All-head, All-push}
 use Rattle.ds_base.specs.declared.column.Column.{Column}
 use Rattle.ds_bytes.specs.Rows.{RowParts}
 use Rattle.ds_query.specs.declared.row.Row.{Row}
@@ -17,11 +17,12 @@ use Rattle.ds_zigzag.proofs.Counts.{count_by-lt}
 use Rattle.ds_zigzag.proofs.Order.{below_below, not_below_itself}
 use Rattle.ds_model.specs.Rows.{place_of}
 use Rattle.ds_model.specs.Results.{at_most, first_of_each, same_mark}
-use Rattle.ds_merge.specs.Marks.{is_same}
-use Rattle.ds_merge.specs.Merging.{IsPlaced, parts_of, placed, last_of}
-use Rattle.ds_merge.specs.Slots.{slot_of}
-use Rattle.ds_merge.proofs.FirstLaws.{with_item, with_item-map}
-use Rattle.ds_merge.proofs.MarkLaws.{is_same-placed}
+use Rattle.ds_pages.specs.Marks.{is_same}
+use Rattle.ds_pages.specs.Pages.{last_of}
+use Rattle.ds_pages.specs.Places.{IsPlaced, parts_of, placed}
+use Rattle.ds_pages.specs.Slots.{slot_of}
+use Rattle.ds_pages.proofs.FirstLaws.{with_item, with_item-map}
+use Rattle.ds_pages.proofs.MarkLaws.{is_same-placed}
 use Rattle.ds_planner.proofs.Members.{both}
 use Rattle.ds_engine.specs.Common.{AreCommonRows, IsCommonAfter}
 use Rattle.ds_engine.specs.Kept.{have_no_values, with_one}
@@ -155,6 +156,31 @@ module _ (columns : List Column) (names : List (List ℕ)) (after : Option (List
         let here : length (kept_at columns names last sorted) ≡ m =
         sym (length-map (kept_at columns names last sorted) (placed columns)) ∙ sym (ap length kept) ∙ long in
         kept ∙ ap (map (placed columns)) (enough_kept columns names after lists sorted common last m here)
+
+-- ---- one row more
+
+pub all_with : (P : Row → Type 0) (all : Bool) (slots : List (Option ℕ)) (rows : List Row) (row : Row) → All P rows → P row
+    → All P (with_one all slots rows row)
+all_with P true slots rows row h p = All-push P rows row h p
+all_with P false slots rows row h p = by (list_any (is_same slots row) rows) where
+  by : (b : Bool) → All P (cond b rows (rows ++ row ∷ []))
+  by true = h
+  by false = All-push P rows row h p
+
+pub one_longer : (all : Bool) (slots : List (Option ℕ)) (rows : List Row) (row : Row)
+    → length (with_one all slots rows row) ≤ length rows + 1
+one_longer true slots rows row = let more = length-append rows (row ∷ []) in omega (arith, more)
+one_longer false slots rows row = by (list_any (is_same slots row) rows) where
+  by : (b : Bool) → length (cond b rows (rows ++ row ∷ [])) ≤ length rows + 1
+  by true = omega arith
+  by false = let more = length-append rows (row ∷ []) in omega (arith, more)
+
+pub none_wanted : (most : Option ℕ) (found : ℕ) → most ≡ Some 0 → is_wanted most found ≡ true → ⊥
+none_wanted None found none wanted = cc
+none_wanted (Some m) found none wanted =
+    let zero_asked : m ≡ 0 = cc in
+    let below : found < m = grind (arith, nat_tests) in
+    omega (arith, zero_asked, below)
 
 -- ---- the walk ends
 

@@ -8,15 +8,14 @@ use Rattle.std.proofs.lemmas.List.{take-append-drop}
 use Rattle.ds_base.specs.declared.column.Column.{Column}
 use Rattle.ds_base.specs.Columns.{same_column}
 use Rattle.ds_base.specs.ColumnLaws.{same_column-decides}
-use Rattle.ds_query.specs.Filters.{is_key_name, key_name}
+use Rattle.ds_base.specs.KeyColumn.{is_key_name, key_name, key_descends}
 use Rattle.ds_query.specs.ColumnLists.{ascending, has_column}
 use Rattle.ds_query.specs.Lawful.{ends_in_key, names_differ}
 use Rattle.ds_planner.specs.Indexes.{by_key, with_key, in_front_of}
 use Rattle.ds_planner.proofs.Members.{both, true_false, not_true}
 use Rattle.ds_planner.proofs.PairLists.{same_name, name_itself}
-use Rattle.ds_rows.specs.Indexes.{last_key_descends, value_columns as front_columns}
-use Rattle.ds_model.specs.Rows.{value_columns}
-use Rattle.ds_cursor.specs.RowsOfColumns.{key_descends}
+use Rattle.ds_rows.specs.Indexes.{last_key_descends, front_columns}
+use Rattle.ds_query.specs.RowValues.{value_columns}
 
 -- ---- the last column
 

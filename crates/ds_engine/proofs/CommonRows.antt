@@ -25,7 +25,8 @@ use Rattle.ds_query.specs.declared.branch.Branch.{Branch}
 use Rattle.ds_query.specs.declared.row.Place.{Place}
 use Rattle.ds_query.specs.Lawful.{IsLawfulBranch}
 use Rattle.ds_planner.specs.declared.planned.PlannedScan.{PlannedScan}
-use Rattle.ds_planner.specs.Indexes.{is_by_key, has_flag, binds_ancestor}
+use Rattle.ds_planner.specs.Indexes.{has_flag, binds_ancestor}
+use Rattle.ds_base.specs.KeyColumn.{is_by_key, key_descends}
 use Rattle.ds_planner.specs.Suits.{suits, is_scan, are_some, chooses}
 use Rattle.ds_planner.proofs.Members.{Member, both, join, contained, member_contained, map_member, member_map, filter_member}
 use Rattle.ds_planner.proofs.Members.{member_filter, some_member, each_member, all_members, member_flat_map, or_cases, true_false}
@@ -40,11 +41,12 @@ use Rattle.ds_scan.specs.RangeLaws.{row_of_rest, rest_of_row}
 use Rattle.ds_table.specs.Versions.{in_range}
 use Rattle.ds_zigzag.specs.Spans.{is_above}
 use Rattle.ds_zigzag.specs.CommonStrings.{IsCommon}
-use Rattle.ds_cursor.specs.RowsOfColumns.{directions, key_descends, IsRowIn, IsRowOf}
-use Rattle.ds_model.specs.Rows.{rows, entity_rows, is_found, is_under, is_within, first_value, has_value, has_kind, value_columns}
+use Rattle.ds_cursor.specs.RowsOfColumns.{directions, IsRowIn, IsRowOf}
+use Rattle.ds_model.specs.Rows.{rows, entity_rows, is_found, is_under, is_within, first_value, has_value, has_kind}
+use Rattle.ds_query.specs.RowValues.{value_columns}
 use Rattle.ds_model.specs.Rows.{place_of, compare_rows}
 use Rattle.ds_model.specs.Results.{is_between, is_after, is_up_to}
-use Rattle.ds_merge.proofs.PlaceOrder.{folded}
+use Rattle.ds_pages.proofs.PlaceOrder.{folded}
 use Rattle.ds_engine.specs.Prefixes.{scan_prefix}
 use Rattle.ds_engine.specs.Bounds.{low_of, high_of}
 use Rattle.ds_engine.specs.Ranging.{range_of}

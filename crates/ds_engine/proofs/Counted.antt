@@ -16,8 +16,7 @@ use Rattle.ds_planner.proofs.Members.{Member, member_append, member_map, map_mem
 use Rattle.ds_planner.proofs.Members.{member_filter, both, join}
 use Rattle.ds_rows.specs.Laws.{IsOnce}
 use Rattle.ds_rows.specs.OwnRowLaws.{each_kept}
-use Rattle.ds_zigzag.specs.CommonStrings.{least_of as zigzag_least}
-use Rattle.ds_model.specs.Bounds.{least_of as bound_least}
+use Rattle.ds_base.specs.Least.{least_of}
 use Rattle.ds_engine.proofs.RowBytes.{all_from}
 
 -- ---- items that stand once
@@ -99,7 +98,7 @@ strict_once (x ∷ xs) h = (apart xs h.0, strict_once xs h.1) where
 
 -- ---- least numbers
 
-pub least_member : {X : Type 0} (f : X → ℕ) (xs : List X) (x : X) → Member x xs → zigzag_least (map f xs) ≤ f x
+pub least_member : {X : Type 0} (f : X → ℕ) (xs : List X) (x : X) → Member x xs → least_of (map f xs) ≤ f x
 least_member f [] x m = absurd m
 least_member f (y ∷ []) x (inl e) = omega (arith, ap f e)
 least_member f (y ∷ []) x (inr m) = absurd m
@@ -107,7 +106,7 @@ least_member f (y ∷ z ∷ xs) x (inl e) = let same = ap f e in omega (arith, s
 least_member f (y ∷ z ∷ xs) x (inr m) = let more = least_member f (z ∷ xs) x m in omega (arith, more)
 
 pub below_least : {X : Type 0} (n : ℕ) (f : X → ℕ) (xs : List X) → 0 < length xs → ((x : X) → Member x xs → n ≤ f x)
-    → n ≤ bound_least (map f xs)
+    → n ≤ least_of (map f xs)
 below_least n f [] some each = absurd (omega arith)
 below_least n f (x ∷ []) some each = each x (inl refl)
 below_least n f (x ∷ y ∷ xs) some each =

@@ -15,7 +15,8 @@ use Rattle.ds_query.specs.declared.branch.Branch.{Branch}
 use Rattle.ds_planner.proofs.Members.{Member, contained, find_member, filter_member, member_filter, member_map, map_member, member_flat_map}
 use Rattle.ds_rows.specs.IndexedValues.{property_values, each_way}
 use Rattle.ds_rows.specs.Indexable.{IsIndexable}
-use Rattle.ds_model.specs.Rows.{rows, entity_rows, is_found, is_within, first_value, value_columns}
+use Rattle.ds_model.specs.Rows.{rows, entity_rows, is_found, is_within, first_value}
+use Rattle.ds_query.specs.RowValues.{value_columns}
 use Rattle.ds_engine.proofs.ScanColumns.{values_in}
 use Rattle.ds_engine.proofs.Ways.{AreTaken, way_taken, taken_way, flat_map_member}
 

@@ -11,12 +11,12 @@ use Rattle.ds_base.specs.IndexOrder.{index_value_cmp}
 use Rattle.std.specs.Ordering.{is_eq}
 use Rattle.std.specs.Cmp.Lexicographic.{pointwise}
 use Rattle.ds_bytes.specs.Rows.{RowParts, IsRow}
-use Rattle.ds_query.specs.Filters.{is_key_name}
+use Rattle.ds_base.specs.KeyColumn.{is_key_name}
 use Rattle.ds_cursor.specs.RowsOfColumns.{directions}
 use Rattle.ds_zigzag.specs.Spans.{is_above}
 use Rattle.ds_model.specs.Rows.{place_of}
 use Rattle.ds_model.specs.Results.{first_of_each, same_mark, projected_values}
-use Rattle.ds_merge.proofs.FirstLaws.{with_item}
+use Rattle.ds_pages.proofs.FirstLaws.{with_item}
 use Rattle.ds_planner.proofs.Members.{Member, both, refuted, true_false, some_member, filter_member, member_append}
 use Rattle.ds_engine.specs.Kept.{have_no_values}
 use Rattle.ds_engine.proofs.Walking.{reached, kept_at}

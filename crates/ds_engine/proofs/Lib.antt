@@ -1,5 +1,6 @@
 pub mod AncestorPaths
 pub mod BoundLaws
+mod BoundSums
 pub mod Bounded
 pub mod Collected
 pub mod Columns

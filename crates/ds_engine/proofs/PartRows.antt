@@ -19,7 +19,9 @@ use Rattle.ds_query.specs.declared.branch.Branch.{Branch}
 use Rattle.ds_query.specs.declared.row.Place.{Place}
 use Rattle.ds_query.specs.Lawful.{IsLawfulBranch}
 use Rattle.ds_planner.specs.declared.planned.PlannedScan.{PlannedScan}
-use Rattle.ds_planner.specs.Indexes.{is_by_key, has_flag, binds_ancestor}
+use Rattle.ds_planner.specs.Indexes.{has_flag, binds_ancestor}
+use Rattle.ds_base.specs.KeyColumn.{is_by_key}
+use Rattle.ds_base.specs.Least.{least_of}
 use Rattle.ds_planner.specs.Parts.{Part, pair_part, ancestor_part, empty_part, conditions, parts, branch_of_part, or_empty_part}
 use Rattle.ds_planner.specs.Suits.{suits, is_scan, chooses, are_some}
 use Rattle.ds_planner.specs.Lean.{binds, BindEach, IsLean}
@@ -40,7 +42,7 @@ use Rattle.ds_zigzag.specs.Spans.{is_above, is_within, count_between}
 use Rattle.ds_zigzag.specs.CommonStrings.{least_count, total_count}
 use Rattle.ds_model.specs.Rows.{rows, entity_rows, is_found, is_under, is_within as in_values, first_value, has_value, has_kind, place_of}
 use Rattle.ds_model.specs.Results.{is_between, is_after, is_up_to}
-use Rattle.ds_model.specs.Bounds.{part_rows, least_of, old, unseen_at}
+use Rattle.ds_model.specs.Bounds.{part_rows, old, unseen_at}
 use Rattle.ds_engine.specs.Prefixes.{scan_prefix}
 use Rattle.ds_engine.specs.Bounds.{low_of, high_of}
 use Rattle.ds_engine.specs.Ranging.{range_of}

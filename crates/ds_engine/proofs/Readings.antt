@@ -13,12 +13,12 @@ use Rattle.ds_bytes.specs.Lawful.{IsLawfulKey, IsLawfulValue}
 use Rattle.ds_bytes.specs.LawfulLaws.{key_of_bytes, value_of_bytes}
 use Rattle.ds_bytes.specs.Reading.{Begins, NoneBegins}
 use Rattle.ds_bytes.specs.Rows.{RowParts, columns_bytes}
-use Rattle.ds_query.specs.Filters.{is_key_name}
+use Rattle.ds_base.specs.KeyColumn.{is_key_name, key_descends}
 use Rattle.ds_query.specs.declared.row.Row.{Row}
-use Rattle.ds_cursor.specs.RowsOfColumns.{directions, key_descends, IsRowIn, IsRowOf}
+use Rattle.ds_cursor.specs.RowsOfColumns.{directions, IsRowIn, IsRowOf}
 use Rattle.ds_cursor.proofs.RowLemmas.{directions-key, directions-value}
 use Rattle.ds_model.specs.Rows.{place_of}
-use Rattle.ds_merge.specs.Merging.{IsPlaced, parts_of, placed}
+use Rattle.ds_pages.specs.Places.{IsPlaced, parts_of, placed}
 use Rattle.ds_engine.specs.Reading.{ValueStands, KeyStands}
 
 -- ---- what stands at the front
@@ -50,10 +50,6 @@ pub record IsLeft (columns : List Column) (i : ℕ) (kd : Bool) (values : List I
   pub long : length left ≡ length (directions (drop i columns))
   pub lawful : All IsLawfulValue left
   pub bytes : rest ≡ columns_bytes (directions (drop i columns)) left ++ key_encoding kd row.key
-
-pub none_read : (columns : List Column) (bytes : List ℕ) (r : IsRowOf columns bytes)
-    → IsLeft columns 0 (key_descends columns) [] bytes r.row
-none_read columns bytes r = record { left = r.row.values; whole = refl; long = r.long; lawful = r.values; bytes = r.written }
 
 -- a column with a value is next
 record IsNext (columns : List Column) (i : ℕ) (d kd : Bool) (values : List IndexValue) (rest : List ℕ) (row : RowParts) : Type 0 where

@@ -16,14 +16,15 @@ use Rattle.ds_base.specs.Entities.{EntityParts}
 use Rattle.ds_base.specs.SortingLaws.{IsPermutation-sorted_by}
 use Rattle.ds_indexdef.specs.declared.IndexDef.{IndexDef}
 use Rattle.ds_bytes.specs.Encoding.{escaped, directed, encoding, key_bytes, key_encoding, value_bytes}
-use Rattle.ds_bytes.specs.Lawful.{AreBytes, IsElemOfBytes, IsKeyOfBytes, IsValueOfBytes}
+use Rattle.ds_bytes.specs.Lawful.{IsElemOfBytes, IsKeyOfBytes, IsValueOfBytes}
+use Rattle.ds_base.specs.Bytes.{AreBytes}
 use Rattle.ds_bytes.specs.LawfulLaws.{key_of_bytes}
 use Rattle.ds_bytes.specs.ByteLaws.{escaped-AreBytes, key_bytes-AreBytes, value_bytes-AreBytes}
 use Rattle.ds_bytes.specs.Rows.{columns_bytes, IsRow}
 use Rattle.ds_planner.proofs.Members.{Member, member_append, map_member, filter_member}
 use Rattle.ds_rows.specs.IndexedValues.{last_kind, kind_of, kind_in}
-use Rattle.ds_rows.specs.Indexes.{Index, AllByKey, KindByKey, ByProperty, Composite, indexes_of, property_indexes, composite_indexes}
-use Rattle.ds_rows.specs.Indexes.{has_ancestor, directions, key_descends}
+use Rattle.ds_rows.specs.Indexes.{RowIndex, AllByKey, KindByKey, ByProperty, Composite, indexes_of, property_indexes, composite_indexes}
+use Rattle.ds_rows.specs.Indexes.{has_ancestor, directions, index_key_descends}
 use Rattle.ds_rows.specs.Rows.{IndexRow, four_bytes, index_front, ancestor_bytes, index_row_bytes, index_rows, rows_in, rows_of}
 use Rattle.ds_rows.specs.Laws.{IsIndexOf, SuitsAncestor, IsRowOf}
 use Rattle.ds_rows.specs.OwnRowLaws.{each_flat, each_map, own_rows, own_indexes, IsOwn}
@@ -73,11 +74,11 @@ low : (n : ℕ) (bs : List ℕ) → AreBytes bs → AreBytes (n % 256 ∷ bs)
 low n bs p = one (n % 256) bs (mod_below n 256 (omega arith)) p
 
 -- the property of an index has a name of bytes
-abbrev IsNameOfBytes : Index → Type 0
+abbrev IsNameOfBytes : RowIndex → Type 0
 IsNameOfBytes (ByProperty name d) = AreBytes name
 IsNameOfBytes _ = Unit {0}
 
-front_bytes : (i : Index) (namespace kind : List ℕ) → IsNameOfBytes i → AreBytes namespace → AreBytes kind
+front_bytes : (i : RowIndex) (namespace kind : List ℕ) → IsNameOfBytes i → AreBytes namespace → AreBytes kind
     → AreBytes (index_front i namespace kind)
 front_bytes AllByKey n k p q r = one 0 (escaped n) (omega arith) (escaped-AreBytes n q)
 front_bytes KindByKey n k p q r =
@@ -102,7 +103,7 @@ ancestors_bytes false (Some a) p = absurd p
 
 -- ---- rows
 
-names_of_bytes : (defs : List IndexDef) (e : EntityParts) → IsIndexable e → (i : Index) → Member i (indexes_of defs e) → IsNameOfBytes i
+names_of_bytes : (defs : List IndexDef) (e : EntityParts) → IsIndexable e → (i : RowIndex) → Member i (indexes_of defs e) → IsNameOfBytes i
 names_of_bytes defs e p AllByKey m = tt
 names_of_bytes defs e p KindByKey m = tt
 names_of_bytes defs e p (Composite n d) m = tt
@@ -129,7 +130,7 @@ names_of_bytes defs e p (ByProperty name d) (inr (inr m)) =
       apart : (n : ℕ) (x : IndexDef) → ByProperty name d ≡ Composite n x → ⊥
       apart n x h = cc h
 
-row_bytes : (defs : List IndexDef) (e : EntityParts) (i : Index) (r : IndexRow) → IsIndexable e → IsNameOfBytes i → IsOwn defs e i r
+row_bytes : (defs : List IndexDef) (e : EntityParts) (i : RowIndex) (r : IndexRow) → IsIndexable e → IsNameOfBytes i → IsOwn defs e i r
     → AreBytes (index_row_bytes i r)
 row_bytes defs e i r p named own =
     let is = own.0 in
@@ -137,8 +138,8 @@ row_bytes defs e i r p named own =
     joined (index_front i r.parts.key.namespace (kind_of r.parts.key)) _
     (front_bytes i r.parts.key.namespace (kind_of r.parts.key) named key.namespace (kind_bytes r.parts.key.elems key.elems))
     (joined (ancestor_bytes r.ancestor) _ (ancestors_bytes (has_ancestor i) r.ancestor is.ancestor)
-    (joined (columns_bytes (directions i) r.parts.values) (key_encoding (key_descends i) r.parts.key)
-    (values_bytes (directions i) r.parts.values is.parts.values) (key_encoding_bytes (key_descends i) r.parts.key key)))
+    (joined (columns_bytes (directions i) r.parts.values) (key_encoding (index_key_descends i) r.parts.key)
+    (values_bytes (directions i) r.parts.values is.parts.values) (key_encoding_bytes (index_key_descends i) r.parts.key key)))
 
 pub rows_bytes : (defs : List IndexDef) (e : EntityParts) → IsIndexable e → All AreBytes (rows_of defs e)
 rows_bytes defs e p =

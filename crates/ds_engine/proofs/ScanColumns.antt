@@ -16,22 +16,21 @@ use Rattle.ds_bytes.specs.Rows.{columns_bytes}
 use Rattle.ds_indexdef.specs.declared.IndexDef.{IndexDef}
 use Rattle.ds_query.specs.declared.branch.Pair.{Pair}
 use Rattle.ds_query.specs.declared.branch.Branch.{Branch}
-use Rattle.ds_query.specs.Filters.{is_key_name, key_name}
+use Rattle.ds_base.specs.KeyColumn.{is_key_name, key_name, key_descends}
 use Rattle.ds_query.specs.ColumnLists.{ascending}
 use Rattle.ds_query.specs.Lawful.{ends_in_key, has_pair, IsLawfulBranch}
-use Rattle.ds_planner.specs.declared.planned.Index.{Index as Planned}
+use Rattle.ds_planner.specs.declared.planned.PlannedIndex.{PlannedIndex as Planned}
 use Rattle.ds_planner.specs.declared.planned.PlannedScan.{PlannedScan}
 use Rattle.ds_planner.specs.Indexes.{by_key, with_key}
 use Rattle.ds_planner.proofs.Members.{Member, both, join, each_member, all_members, filter_member, not_true, refuted, true_false}
 use Rattle.ds_planner.proofs.Members.{any_member, member_append}
 use Rattle.ds_planner.proofs.PairLists.{has_pair-member, member-has_pair, same_name, name_itself}
-use Rattle.ds_rows.specs.Indexes.{Index, AllByKey, KindByKey, ByProperty, Composite, directions as index_directions}
-use Rattle.ds_rows.specs.Indexes.{key_descends as index_key_descends, last_key_descends, value_columns as front_columns}
+use Rattle.ds_rows.specs.Indexes.{RowIndex, AllByKey, KindByKey, ByProperty, Composite, directions as index_directions}
+use Rattle.ds_rows.specs.Indexes.{index_key_descends, last_key_descends, front_columns}
 use Rattle.ds_rows.specs.IndexedValues.{indexed_values, column_values}
 use Rattle.ds_rows.specs.Rows.{index_lists}
-use Rattle.ds_model.specs.Rows.{value_columns}
-use Rattle.ds_model.specs.Results.{asked_value}
-use Rattle.ds_cursor.specs.RowsOfColumns.{directions, key_descends}
+use Rattle.ds_query.specs.RowValues.{value_columns, asked_value}
+use Rattle.ds_cursor.specs.RowsOfColumns.{directions}
 use Rattle.ds_engine.specs.Prefixes.{columns_of, bound_or, bound_bytes}
 use Rattle.ds_engine.specs.Scans.{AreLawfulBound, IsLawfulOr}
 use Rattle.ds_engine.proofs.Columns.{with_key-split, end_column, same_ends}
@@ -167,7 +166,7 @@ plain_values e (c ∷ cs) h =
     λ i. cond (not_true (is_key_name c.name) s.0 i) (class.Key e.key ∷ []) (values_in e c)
     ∷ plain_values e cs s.1 i
 
-lists_in_front : (e : EntityParts) (i : Index) → IsNamed i → index_lists e i
+lists_in_front : (e : EntityParts) (i : RowIndex) → IsNamed i → index_lists e i
     ≡ map (λ c. column_values e c.name) (front_columns (columns_of i))
 lists_in_front e AllByKey n = refl
 lists_in_front e KindByKey n = refl
@@ -180,7 +179,7 @@ lists_in_front e (ByProperty name d) n =
       by false = refl
 lists_in_front e (Composite k d) n = refl
 
-directions_in_front : (i : Index) → IsNamed i → index_directions i ≡ map (λ c. c.descending) (front_columns (columns_of i))
+directions_in_front : (i : RowIndex) → IsNamed i → index_directions i ≡ map (λ c. c.descending) (front_columns (columns_of i))
 directions_in_front AllByKey n = refl
 directions_in_front KindByKey n = refl
 directions_in_front (ByProperty name d) n =
@@ -190,7 +189,7 @@ directions_in_front (ByProperty name d) n =
       by false = refl
 directions_in_front (Composite k d) n = refl
 
-key_in_front : (i : Index) → IsNamed i → index_key_descends i ≡ last_key_descends (columns_of i)
+key_in_front : (i : RowIndex) → IsNamed i → index_key_descends i ≡ last_key_descends (columns_of i)
 key_in_front AllByKey n = refl
 key_in_front KindByKey n = refl
 key_in_front (ByProperty name d) n = λ i. sym n i && d
@@ -207,7 +206,7 @@ not_keys q defs s lawful b =
     ])
 
 -- what the index holds of an entity, and the directions of its columns
-pub record AreIndexColumns (q : Branch) (i : Index) (lead : List Column) : Type 0 where
+pub record AreIndexColumns (q : Branch) (i : RowIndex) (lead : List Column) : Type 0 where
   pub lists : (e : EntityParts) → index_lists e i ≡ map (values_in e) lead ++ map (values_in e) (value_columns q.columns)
   pub directions : index_directions i ≡ map (λ c. c.descending) lead ++ directions q.columns
   pub key : index_key_descends i ≡ key_descends q.columns

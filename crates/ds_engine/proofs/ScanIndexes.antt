@@ -10,22 +10,21 @@ use Rattle.ds_base.specs.KeyOrderLaws.{same_key-decides}
 use Rattle.ds_indexdef.specs.declared.IndexDef.{IndexDef}
 use Rattle.ds_query.specs.declared.branch.Pair.{Pair}
 use Rattle.ds_query.specs.declared.branch.Branch.{Branch}
-use Rattle.ds_query.specs.Filters.{is_key_name, key_name}
+use Rattle.ds_base.specs.KeyColumn.{is_key_name, key_name, key_descends}
 use Rattle.ds_query.specs.ColumnLists.{ascending, has_column}
 use Rattle.ds_query.specs.Lawful.{ends_in_key, names_differ, has_pair, IsLawfulBranch}
-use Rattle.ds_planner.specs.declared.planned.Index.{Index as Planned}
-use Rattle.ds_planner.specs.declared.planned.Index.TheVariants as planned
+use Rattle.ds_planner.specs.declared.planned.PlannedIndex.{PlannedIndex as Planned}
+use Rattle.ds_planner.specs.declared.planned.PlannedIndex.TheVariants as planned
 use Rattle.ds_planner.specs.declared.planned.PlannedScan.{PlannedScan}
 use Rattle.ds_planner.specs.Indexes.{by_key, with_key, in_front_of, index_columns, defined_columns, is_usable, is_of_kind, leading}
 use Rattle.ds_planner.specs.Indexes.{are_paired, is_paired, leads, names_column, has_flag, is_candidate}
 use Rattle.ds_planner.specs.Suits.{chooses, properties_differ, same_ancestor, bound_ancestor, is_choice, is_scan}
 use Rattle.ds_planner.proofs.Members.{Member, both, true_false, not_true, each_member, all_members, some_member}
 use Rattle.ds_planner.proofs.PairLists.{chooses-member, same_name, has_pair-member}
-use Rattle.ds_rows.specs.Indexes.{Index, AllByKey, KindByKey, ByProperty, Composite, has_ancestor, last_key_descends}
-use Rattle.ds_rows.specs.Indexes.{value_columns as front_columns}
+use Rattle.ds_rows.specs.Indexes.{RowIndex, AllByKey, KindByKey, ByProperty, Composite, has_ancestor, last_key_descends}
+use Rattle.ds_rows.specs.Indexes.{front_columns}
 use Rattle.ds_rows.specs.Laws.{IsIndexOf}
-use Rattle.ds_model.specs.Rows.{value_columns}
-use Rattle.ds_cursor.specs.RowsOfColumns.{key_descends}
+use Rattle.ds_query.specs.RowValues.{value_columns}
 use Rattle.ds_engine.specs.Prefixes.{index_in, columns_of}
 use Rattle.ds_engine.proofs.Columns.{with_key-split, end_descends, end_column, whole_split, same_ends, values_in_front, key_at_end}
 use Rattle.ds_engine.proofs.Columns.{front_is, first_not_key}
@@ -33,19 +32,19 @@ use Rattle.ds_engine.proofs.Columns.{front_is, first_not_key}
 -- ---- the index
 
 -- the branch is of the index's kind, and has none where the index is of all entities
-abbrev pub SuitsKind : Option (List ℕ) → Index → Type 0
+abbrev pub SuitsKind : Option (List ℕ) → RowIndex → Type 0
 SuitsKind kind AllByKey = kind ≡ None
 SuitsKind kind KindByKey = is_some kind ≡ true
 SuitsKind kind (ByProperty name descending) = is_some kind ≡ true
 SuitsKind kind (Composite n d) = kind ≡ Some d.kind
 
 -- the property of an index isn't the key
-abbrev pub IsNamed : Index → Type 0
+abbrev pub IsNamed : RowIndex → Type 0
 IsNamed (ByProperty name descending) = is_key_name name ≡ false
 IsNamed _ = Unit {0}
 
 -- there is an ancestor where the index has a row for each
-abbrev pub SuitsFlag : Index → Option KeyParts → Type 0
+abbrev pub SuitsFlag : RowIndex → Option KeyParts → Type 0
 SuitsFlag (Composite n d) ancestor = (not d.ancestor || is_some ancestor) ≡ true
 SuitsFlag _ ancestor = Unit {0}
 
@@ -69,7 +68,7 @@ led last (Some full) equal h = by (in_front_of last full) refl h where
 
 -- the index of the tables that is planned, and what its columns are
 pub record IsFound (q : Branch) (defs : List IndexDef) (j : Planned) (equal : List Pair) : Type 0 where
-  pub index : Index
+  pub index : RowIndex
   pub is : index_in defs j ≡ Some index
   pub stands : IsIndexOf defs index
   pub kind : SuitsKind q.kind index

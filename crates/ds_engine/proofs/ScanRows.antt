@@ -37,8 +37,8 @@ use Rattle.ds_planner.proofs.Members.{Member, both, join, contained, member_cont
 use Rattle.ds_planner.proofs.Members.{member_append, member_left, member_right, filter_member, member_filter, some_member, any_member}
 use Rattle.ds_planner.proofs.Members.{each_member, all_members, find_member}
 use Rattle.ds_planner.proofs.PairLists.{same_name, name_itself, one_each}
-use Rattle.ds_rows.specs.Indexes.{Index, AllByKey, KindByKey, ByProperty, Composite, has_ancestor, indexes_of, property_indexes}
-use Rattle.ds_rows.specs.Indexes.{composite_indexes, directions as index_directions, key_descends as index_key_descends}
+use Rattle.ds_rows.specs.Indexes.{RowIndex, AllByKey, KindByKey, ByProperty, Composite, has_ancestor, indexes_of, property_indexes}
+use Rattle.ds_rows.specs.Indexes.{composite_indexes, directions as index_directions, index_key_descends}
 use Rattle.ds_rows.specs.IndexedValues.{kind_of, kind_in, indexed_values, property_values, each_way}
 use Rattle.ds_rows.specs.Rows.{IndexRow, rows_of, rows_in, index_rows, index_row_bytes, index_front, row_rest, row_with, row_ancestors}
 use Rattle.ds_rows.specs.Rows.{index_lists, ancestor_bytes, ancestors, paths_to}
@@ -46,8 +46,10 @@ use Rattle.ds_rows.specs.Laws.{IsIndexOf, IsRowOf, HoldsKind, IsSameIndex}
 use Rattle.ds_rows.specs.RowLaws.{fronts_apart}
 use Rattle.ds_rows.specs.OwnRowLaws.{own_rows, own_indexes, IsOwn, ancestors_lawful}
 use Rattle.ds_rows.specs.Indexable.{IsIndexable}
-use Rattle.ds_model.specs.Rows.{rows, place_of, entity_rows, has_value, has_kind, is_under, is_found, value_columns}
-use Rattle.ds_cursor.specs.RowsOfColumns.{directions, key_descends}
+use Rattle.ds_model.specs.Rows.{rows, place_of, entity_rows, has_value, has_kind, is_under, is_found}
+use Rattle.ds_query.specs.RowValues.{value_columns}
+use Rattle.ds_cursor.specs.RowsOfColumns.{directions}
+use Rattle.ds_base.specs.KeyColumn.{key_descends}
 use Rattle.ds_engine.specs.Prefixes.{index_in, columns_of, bound_bytes, prefix_in, scan_prefix}
 use Rattle.ds_engine.specs.Scans.{scan_branch, IsLawfulScan, IsLawfulAncestor, IsLawfulIn, AreLawfulBound}
 use Rattle.ds_engine.specs.ScanLaws.{ScansTellRows}
@@ -115,7 +117,7 @@ nothing_more n = omega arith
 index_there : (q : Branch) (defs : List IndexDef) (s : PlannedScan) (b : IsBoundScan q defs s) (e : EntityParts) (values : List IndexValue)
     → has_kind q.kind e.key ≡ true → AreTaken (index_lists e b.found.index) values → Member b.found.index (indexes_of defs e)
 index_there q defs s b e values kind taken = by b.found.index b.found.stands b.found.kind values taken where
-  by : (i : Index) → IsIndexOf defs i → SuitsKind q.kind i → (values : List IndexValue) → AreTaken (index_lists e i) values
+  by : (i : RowIndex) → IsIndexOf defs i → SuitsKind q.kind i → (values : List IndexValue) → AreTaken (index_lists e i) values
       → Member i (indexes_of defs e)
   by AllByKey stands suits values taken = inl refl
   by KindByKey stands suits values taken = inr (inl refl)
@@ -205,7 +207,7 @@ record AreKnown (q : Branch) (defs : List IndexDef) (s : PlannedScan) (e : Entit
   entity : IsIndexable e
 
 module _ (q : Branch) (defs : List IndexDef) (s : PlannedScan) (e : EntityParts) (known : AreKnown q defs s e) where
-  abbrev index : Index
+  abbrev index : RowIndex
   index = known.scan.found.index
 
   abbrev lead : List Column
@@ -245,7 +247,7 @@ module _ (q : Branch) (defs : List IndexDef) (s : PlannedScan) (e : EntityParts)
 
   flag_some : has_ancestor index ≡ true → is_some q.ancestor ≡ true
   flag_some h = by index known.scan.found.flag h where
-    by : (i : Index) → SuitsFlag i q.ancestor → has_ancestor i ≡ true → is_some q.ancestor ≡ true
+    by : (i : RowIndex) → SuitsFlag i q.ancestor → has_ancestor i ≡ true → is_some q.ancestor ≡ true
     by AllByKey f h = absurd (cc h)
     by KindByKey f h = absurd (cc h)
     by (ByProperty n d) f h = absurd (cc h)
@@ -279,7 +281,7 @@ module _ (q : Branch) (defs : List IndexDef) (s : PlannedScan) (e : EntityParts)
     written : ancestor_bytes ancestor ++ (columns_bytes lead_directions front ++ place_of q.columns (record { values = back; key = e.key }))
         ≡ ancestor_bytes s.ancestor ++ (columns_bytes lead_directions bound_values ++ x)
 
-  kind_holds : (i : Index) → SuitsKind q.kind i → Member i (indexes_of defs e) → HoldsKind i (kind_of e.key) (unwrap_or q.kind [])
+  kind_holds : (i : RowIndex) → SuitsKind q.kind i → Member i (indexes_of defs e) → HoldsKind i (kind_of e.key) (unwrap_or q.kind [])
       → has_kind q.kind e.key ≡ true
   kind_holds AllByKey suits m holds = ap (λ k. has_kind k e.key) suits
   kind_holds KindByKey suits m holds = some_kind_holds q.kind suits holds where
@@ -415,7 +417,7 @@ module _ (q : Branch) (defs : List IndexDef) (s : PlannedScan) (e : EntityParts)
         bound_taken cs two.1 met,
       )
 
-  front_same : (i : Index) → SuitsKind q.kind i → has_kind q.kind e.key ≡ true
+  front_same : (i : RowIndex) → SuitsKind q.kind i → has_kind q.kind e.key ≡ true
       → index_front i q.namespace (kind_of e.key) ≡ index_front i q.namespace (unwrap_or q.kind [])
   front_same AllByKey suits kind = refl
   front_same KindByKey suits kind = ap (index_front KindByKey q.namespace) (kind_is e.key q.kind suits kind)

@@ -18,7 +18,8 @@ use Rattle.ds_base.specs.IndexOrderLaws.{index_value_cmp-Equal}
 use Rattle.ds_base.specs.SortingLaws.{Ascends, NoneBefore, Ascends-from_IsSorted}
 use Rattle.ds_bytes.specs.Rows.{RowParts, IsRow}
 use Rattle.ds_bytes.specs.RowLaws.{row_bytes-reads_once}
-use Rattle.ds_cursor.specs.RowsOfColumns.{directions, key_descends}
+use Rattle.ds_cursor.specs.RowsOfColumns.{directions}
+use Rattle.ds_base.specs.KeyColumn.{key_descends}
 use Rattle.ds_query.specs.declared.row.Row.{Row}
 use Rattle.ds_planner.proofs.Members.{Member, contained, member_contained, map_member, filter_member, member_filter, member_append, join}
 use Rattle.ds_planner.proofs.Members.{both, true_false, not_true}
@@ -27,8 +28,8 @@ use Rattle.ds_zigzag.specs.CommonStrings.{IsCommon, IsNextCommon, HasNoNextCommo
 use Rattle.ds_zigzag.proofs.Order.{below_below, below_upto, upto_upto, same_unless_below, below_back, not_below_itself}
 use Rattle.ds_model.specs.Rows.{place_of}
 use Rattle.ds_model.specs.Results.{at_most, first_of_each, same_mark, projected_values}
-use Rattle.ds_merge.specs.Merging.{IsPlaced, parts_of, placed}
-use Rattle.ds_merge.proofs.FirstLaws.{with_item}
+use Rattle.ds_pages.specs.Places.{IsPlaced, parts_of, placed}
+use Rattle.ds_pages.proofs.FirstLaws.{with_item}
 use Rattle.ds_engine.specs.Common.{AreCommonRows, IsCommonAfter}
 use Rattle.ds_engine.proofs.EntityRows.{all_member}
 

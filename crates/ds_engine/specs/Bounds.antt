@@ -5,13 +5,12 @@ use Rattle.ds_base.specs.declared.column.Column.{Column}
 use Rattle.ds_base.specs.declared.index_value.IndexValue.{IndexValue}
 use Rattle.ds_base.specs.declared.index_value.IndexValue.TheVariants as class
 use Rattle.ds_bytes.specs.Encoding.{encoding, key_encoding, key_front}
-use Rattle.ds_query.specs.Filters.{is_key_name}
+use Rattle.ds_base.specs.KeyColumn.{is_key_name, is_by_key}
 use Rattle.ds_query.specs.declared.branch.Bound.{Bound}
 use Rattle.ds_query.specs.declared.branch.Range.{Range}
 use Rattle.ds_query.specs.declared.branch.Branch.{Branch}
 use Rattle.ds_query.specs.declared.row.Place.{Place}
 use Rattle.ds_table.specs.Versions.{is_below}
-use Rattle.ds_planner.specs.Indexes.{is_by_key}
 
 -- above all that may follow a value in a row
 abbrev pub beyond : List ℕ

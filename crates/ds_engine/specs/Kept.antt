@@ -5,8 +5,8 @@ use Rattle.ds_base.specs.Keys.{KeyParts}
 use Rattle.ds_base.specs.KeyOrder.{same_key}
 use Rattle.ds_base.specs.declared.column.Column.{Column}
 use Rattle.ds_query.specs.declared.row.Row.{Row}
-use Rattle.ds_query.specs.Filters.{is_key_name}
-use Rattle.ds_merge.specs.FirstRows.{with_row}
+use Rattle.ds_base.specs.KeyColumn.{is_key_name}
+use Rattle.ds_pages.specs.FirstRows.{with_row}
 
 -- whether all are kept, or of each mark the first; where the projected values stand among those of a row; and the rows
 pub record KeptParts : Type 0 where
@@ -19,8 +19,8 @@ abbrev pub have_no_values : List Column → Bool
 have_no_values = list_all (λ c. is_key_name c.name)
 
 -- those of two lists that count: where all are kept the first
-abbrev pub rows_of : Bool → List Row → List Row → List Row
-rows_of keeps_all whole firsts = cond keeps_all whole firsts
+abbrev pub kept_rows : Bool → List Row → List Row → List Row
+kept_rows keeps_all whole firsts = cond keeps_all whole firsts
 
 -- the rows with one more, which is kept where all are, and else where no row of its mark was
 abbrev pub with_one : Bool → List (Option ℕ) → List Row → Row → List Row

@@ -1,4 +1,5 @@
 pub mod Bounds
+pub mod BoundSums
 pub mod Common
 pub mod Kept
 pub mod Places

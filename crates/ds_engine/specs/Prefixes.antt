@@ -7,22 +7,22 @@ use Rattle.ds_indexdef.specs.declared.IndexDef.{IndexDef}
 use Rattle.ds_bytes.specs.Encoding.{encoding}
 use Rattle.ds_query.specs.declared.branch.Pair.{Pair}
 use Rattle.ds_query.specs.declared.branch.Branch.{Branch}
-use Rattle.ds_planner.specs.declared.planned.Index.{Index as Planned}
-use Rattle.ds_planner.specs.declared.planned.Index.TheVariants as planned
+use Rattle.ds_planner.specs.declared.planned.PlannedIndex.{PlannedIndex as Planned}
+use Rattle.ds_planner.specs.declared.planned.PlannedIndex.TheVariants as planned
 use Rattle.ds_planner.specs.declared.planned.PlannedScan.{PlannedScan}
-use Rattle.ds_rows.specs.Indexes.{Index, AllByKey, KindByKey, ByProperty, Composite}
+use Rattle.ds_rows.specs.Indexes.{RowIndex, AllByKey, KindByKey, ByProperty, Composite}
 use Rattle.ds_rows.specs.Rows.{index_front, ancestor_bytes}
-use Rattle.ds_model.specs.Results.{asked_value}
+use Rattle.ds_query.specs.RowValues.{asked_value}
 
 -- the index of the tables that is planned; none where no definition stands at its position
-abbrev pub index_in : List IndexDef → Planned → Option Index
+abbrev pub index_in : List IndexDef → Planned → Option RowIndex
 index_in defs planned.AllByKey = Some AllByKey
 index_in defs planned.KindByKey = Some KindByKey
 index_in defs (planned.Property name descending) = Some (ByProperty name descending)
 index_in defs (planned.Composite position) = option_map (Composite position) (slice_get defs position)
 
 -- the columns of an index in front of the key that ends each row, and that key where the definition names it last
-abbrev pub columns_of : Index → List Column
+abbrev pub columns_of : RowIndex → List Column
 columns_of (ByProperty name descending) = record { name = name; descending = descending } ∷ []
 columns_of (Composite n d) = d.columns
 columns_of _ = []
@@ -38,7 +38,7 @@ bound_bytes pairs [] = []
 bound_bytes pairs (c ∷ cs) = bound_or c.descending (asked_value pairs c.name) (bound_bytes pairs cs)
 
 -- what the rows of an index begin with that have the scan's ancestor and values
-abbrev pub prefix_in : Branch → PlannedScan → Index → List ℕ
+abbrev pub prefix_in : Branch → PlannedScan → RowIndex → List ℕ
 prefix_in q s i =
     index_front i q.namespace (unwrap_or q.kind []) ++ (ancestor_bytes s.ancestor ++ bound_bytes s.equal (columns_of i))
 

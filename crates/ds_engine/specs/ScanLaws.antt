@@ -9,7 +9,8 @@ use Rattle.ds_query.specs.declared.branch.Branch.{Branch}
 use Rattle.ds_query.specs.declared.row.Place.{Place}
 use Rattle.ds_query.specs.Lawful.{IsLawfulBranch}
 use Rattle.ds_planner.specs.declared.planned.PlannedScan.{PlannedScan}
-use Rattle.ds_planner.specs.Indexes.{is_by_key}
+use Rattle.ds_base.specs.KeyColumn.{is_by_key}
+use Rattle.ds_base.specs.Least.{least_of}
 use Rattle.ds_planner.specs.Lean.{IsLean}
 use Rattle.ds_planner.specs.Parts.{parts}
 use Rattle.ds_planner.specs.Suits.{is_scan, suits}
@@ -22,7 +23,7 @@ use Rattle.ds_zigzag.specs.CommonStrings.{least_count, total_count}
 use Rattle.ds_cursor.specs.RowsOfColumns.{directions}
 use Rattle.ds_model.specs.Rows.{rows, place_of, compare_rows, first_value, is_within, is_under}
 use Rattle.ds_model.specs.Results.{is_between, is_up_to}
-use Rattle.ds_model.specs.Bounds.{least_of, part_rows, old}
+use Rattle.ds_model.specs.Bounds.{part_rows, old}
 use Rattle.ds_engine.specs.Bounds.{low_of, high_of}
 use Rattle.ds_engine.specs.Common.{AreCommonRows}
 use Rattle.ds_engine.specs.Places.{bytes_of}

@@ -10,11 +10,10 @@ use Rattle.ds_query.specs.declared.branch.Bound.{Bound}
 use Rattle.ds_query.specs.declared.branch.Pair.{Pair}
 use Rattle.ds_query.specs.declared.branch.Range.{Range}
 use Rattle.ds_query.specs.declared.branch.Branch.{Branch}
-use Rattle.ds_query.specs.Filters.{is_key_name}
-use Rattle.ds_planner.specs.Indexes.{is_by_key}
+use Rattle.ds_base.specs.KeyColumn.{is_key_name, is_by_key}
 use Rattle.ds_planner.specs.declared.planned.PlannedScan.{PlannedScan}
-use Rattle.ds_rows.specs.Indexes.{Index}
-use Rattle.ds_model.specs.Results.{asked_value}
+use Rattle.ds_rows.specs.Indexes.{RowIndex}
+use Rattle.ds_query.specs.RowValues.{asked_value}
 use Rattle.ds_engine.specs.Bounds.{first_bound, last_bound}
 use Rattle.ds_engine.specs.Prefixes.{columns_of, index_in}
 
@@ -38,7 +37,7 @@ AreLawfulBound pairs [] = Unit {0}
 AreLawfulBound pairs (c ∷ cs) = IsLawfulOr (asked_value pairs c.name) (AreLawfulBound pairs cs)
 
 -- the ancestor and the values that a scan of an index is bound to
-abbrev pub IsLawfulIn : PlannedScan → Option Index → Type 0
+abbrev pub IsLawfulIn : PlannedScan → Option RowIndex → Type 0
 IsLawfulIn s None = Unit {0}
 IsLawfulIn s (Some i) = IsLawfulAncestor s.ancestor × AreLawfulBound s.equal (columns_of i)
 

@@ -1,5 +1,5 @@
 //! The rows of a branch.
-ghost use Rattle.std.specs.Prelude.{◌≡◌, ◌+◌, ◌≤◌, ◌≢◌, map, None, Some, IsTrue, IfOk, IfErr, OnErr};
+ghost use Rattle.std.specs.Prelude.{◌≡◌, ◌+◌, ◌≤◌, ◌≢◌, All, length, map, None, Some, IsTrue, IfOk, IfErr, OnErr};
 ghost use Rattle.std.specs.Option.{option_copied};
 ghost use Rattle.ds_query.specs.Lawful.{IsLawfulBranch};
 ghost use Rattle.ds_planner.specs.Suits.{suits};
@@ -7,7 +7,7 @@ ghost use Rattle.ds_planner.specs.Lean.{IsLean};
 ghost use Rattle.ds_planner.specs.Missing.{Missing, missing_of};
 ghost use Rattle.ds_rows.specs.Versions.{entities_at};
 ghost use Rattle.ds_model.specs.Bounds.{bound, given};
-ghost use Rattle.ds_merge.specs.Merging.{placed};
+ghost use Rattle.ds_pages.specs.Places.{IsPlaced, placed};
 
 use crate::collecting::first_common;
 use crate::ranging::scans_of;
@@ -26,7 +26,10 @@ use std::sync::ledger::Ledger;
 ///
 /// It needs the definitions of the tables, a plan that suits the branch under them, and a stamp that the tables keep. Where no scan of the
 /// plan is one too many it takes at most `bound` steps, which speaks of no row above the last one given where as many are given as were
-/// asked for. Refused: want of memory; it may then have looked at all rows up to the end.
+/// asked for; each row given took a step, and where none is asked for no step is taken. Refused: want of memory; it may then have looked
+/// at all rows up to the end.
+///
+/// Whoever asks several shards plans the branch once, by `ds_planner::plan`, and calls this for each of them with that plan.
 pub fn answer<T: Tables, L: Ledger>(
     alloc: Global,
     tables: &T,
@@ -46,10 +49,13 @@ pub fn answer<T: Tables, L: Ledger>(
     requires suits { IsTrue (suits branch.now defs.now plan.now.scans) }
     ensures rows { IfOk result (λ rows. rows ≡ map (placed branch.now.columns)
         (given branch.now (option_copied start.entry) (option_copied end.entry) most (entities_at at (T.versions tables.now)))) }
+    ensures placed { IfOk result (λ rows. All (IsPlaced branch.now.columns) rows) }
     ensures steps_bounded { IsLean branch.now defs.now plan.now.scans → IfOk result (λ rows. steps.new
         ≤ steps.old + bound branch.now (option_copied start.entry) (option_copied end.entry) most at (T.versions tables.now)) }
     ensures steps_when_refused { IsLean branch.now defs.now plan.now.scans → OnErr result (steps.new
         ≤ steps.old + bound branch.now (option_copied start.entry) (option_copied end.entry) None at (T.versions tables.now)) }
+    ensures a_step_for_each { IfOk result (λ rows. steps.old + length rows ≤ steps.new) }
+    ensures none_asked { most ≡ Some 0 → steps.new ≡ steps.old }
     ensures steps_stay_counted { steps.old ≤ steps.new }
 {
     tables.stand(at);
@@ -76,6 +82,7 @@ pub fn branch_rows<T: Tables, L: Ledger>(
     requires lawful { IsLawfulBranch branch.now }
     ensures rows { IfOk result (λ rows. rows ≡ map (placed branch.now.columns)
         (given branch.now (option_copied start.entry) (option_copied end.entry) most (entities_at at (T.versions tables.now)))) }
+    ensures placed { IfOk result (λ rows. All (IsPlaced branch.now.columns) rows) }
     ensures served { IfOk result (λ rows. missing_of branch.now defs.now ≡ None) }
     ensures missing { IfErr result (λ e. e ≢ EngineRefused.NoMemory → (m : Missing)
         × (missing_of branch.now defs.now ≡ Some m)
@@ -84,6 +91,8 @@ pub fn branch_rows<T: Tables, L: Ledger>(
         ≤ steps.old + bound branch.now (option_copied start.entry) (option_copied end.entry) most at (T.versions tables.now)) }
     ensures steps_when_refused { OnErr result (steps.new
         ≤ steps.old + bound branch.now (option_copied start.entry) (option_copied end.entry) None at (T.versions tables.now)) }
+    ensures a_step_for_each { IfOk result (λ rows. steps.old + length rows ≤ steps.new) }
+    ensures none_asked { most ≡ Some 0 → steps.new ≡ steps.old }
     ensures steps_stay_counted { steps.old ≤ steps.new }
 {
     match plan(alloc, branch, defs) {

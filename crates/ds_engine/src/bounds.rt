@@ -3,13 +3,12 @@ ghost use Rattle.std.specs.Prelude.{◌≡◌, true, [], ◌++◌, IfOk, OnOk, I
 ghost use Rattle.std.specs.Option.{option_copied};
 ghost use Rattle.ds_bytes.specs.Encoding.{key_front};
 ghost use Rattle.ds_bytes.specs.Lawful.{IsLawfulKey};
-ghost use Rattle.ds_query.specs.Filters.{is_key_name};
-ghost use Rattle.ds_planner.specs.Indexes.{is_by_key, is_ascending_key};
+ghost use Rattle.ds_base.specs.KeyColumn.{is_key_name, is_by_key};
 ghost use Rattle.ds_engine.specs.Bounds.{beyond, begun_with, first_descends, low_at, high_at, first_bound, last_bound};
 ghost use Rattle.ds_engine.specs.Bounds.{ancestor_low, ancestor_high, behind_place, greater, lesser_end, low_of, high_of, value_in_column};
 ghost use Rattle.ds_engine.specs.Scans.{IsLawfulAncestor, IsLawfulBound, IsLawfulFirst, IsLawfulInColumn};
 
-use ds_base::{Buffer, Column, IndexValue, Key, NoMemory};
+use ds_base::{Buffer, Column, IndexValue, Key, NoMemory, is_by_key, is_key_name};
 use ds_bytes::{encode, encode_key};
 use ds_query::{Bound, Branch, Place, Range};
 use std::alloc::Global;
@@ -125,7 +124,7 @@ fn put_value(column: &Column, value: &IndexValue, bytes: &mut Buffer) -> Result<
         ≡ bytes.old.bytes ++ value_in_column (is_key_name column.now.name) column.now.descending value.now) }
     ensures lawful { OnOk result (IsLawfulInColumn (is_key_name column.now.name) value.now) }
 {
-    if column.name.text() == "__key__" {
+    if is_key_name(&column.name) {
         put_key(column.descending, value, bytes)
     } else {
         encode(value, column.descending, bytes)
@@ -165,22 +164,6 @@ fn ancestor_high(alloc: Global, branch: &Branch) -> Result<Option<Buffer>, NoMem
         }
         _ => Ok(None),
     }
-}
-
-/// Whether the columns are `__key__` ascending alone.
-fn is_by_key(columns: &[Column]) -> bool
-    ensures { result ≡ is_by_key columns.now }
-{
-    match columns {
-        [only] => is_ascending_key(only),
-        _ => false,
-    }
-}
-
-fn is_ascending_key(column: &Column) -> bool
-    ensures { result ≡ is_ascending_key column.now }
-{
-    column.name.text() == "__key__" && !column.descending
 }
 
 /// What the keys under an ancestor begin with: its encoding without the byte that ends its path.

@@ -1,5 +1,5 @@
 //! The walk over the strings that the scans of a plan have in common.
-ghost use Rattle.std.specs.Prelude.{◌≡◌, ◌+◌, ◌<◌, ◌≤◌, [], List, ℕ, length, map, None, IfOk, OnErr};
+ghost use Rattle.std.specs.Prelude.{◌≡◌, ◌+◌, ◌<◌, ◌≤◌, [], List, ℕ, All, length, map, Some, None, IfOk, OnErr};
 ghost use Rattle.std.specs.Option.{option_copied};
 ghost use Rattle.ds_bytes.specs.Rows.{RowParts};
 ghost use Rattle.ds_query.specs.Filters.{projected};
@@ -7,7 +7,8 @@ ghost use Rattle.ds_cursor.specs.RowsOfColumns.{IsRowOf};
 ghost use Rattle.ds_zigzag.specs.CommonStrings.{IsCommon};
 ghost use Rattle.ds_zigzag.specs.Walks.{steps_to_end};
 ghost use Rattle.ds_model.specs.Results.{at_most, first_of_each, same_mark};
-ghost use Rattle.ds_merge.specs.Merging.{placed, last_of};
+ghost use Rattle.ds_pages.specs.Pages.{last_of};
+ghost use Rattle.ds_pages.specs.Places.{IsPlaced, placed};
 ghost use Rattle.ds_engine.specs.Common.{AreCommonRows};
 ghost use Rattle.ds_engine.specs.Places.{bytes_of, is_wanted, walk_steps};
 
@@ -21,7 +22,8 @@ use std::alloc::Global;
 use std::sync::ledger::Ledger;
 
 /// Of the rows whose places are the strings that all scans have after the start, in order, the first of each mark, at most so many.
-/// It looks at no string above the last row that it gives where so many are given. Refused: want of memory.
+/// It looks at no string above the last row that it gives where so many are given, and at none where none is asked for. Each row that
+/// it gives took a step. Refused: want of memory.
 pub(crate) fn first_common<S: Scan, L: Ledger>(
     alloc: Global,
     scans: &mut [S],
@@ -37,10 +39,13 @@ pub(crate) fn first_common<S: Scan, L: Ledger>(
         → AreCommonRows branch.now.columns (bytes_of (option_copied start.entry)) (map S.strings scans.old) sorted
         → found ≡ map (placed branch.now.columns) (at_most most
         (first_of_each (same_mark branch.now.columns (projected branch.now.select)) sorted))) }
+    ensures placed { IfOk result (λ found. All (IsPlaced branch.now.columns) found) }
     ensures steps_when_done { IfOk result (λ found. steps.new ≤ steps.old + walk_steps (is_wanted most (length found)) (length scans.old)
         (bytes_of (option_copied start.entry)) (bytes_of (last_of None found)) (map S.strings scans.old) (map S.passed scans.old)) }
     ensures steps_when_refused { OnErr result (steps.new ≤ steps.old + steps_to_end (length scans.old)
         (bytes_of (option_copied start.entry)) (map S.strings scans.old) (map S.passed scans.old)) }
+    ensures a_step_for_each { IfOk result (λ found. steps.old + length found ≤ steps.new) }
+    ensures none_asked { most ≡ Some 0 → steps.new ≡ steps.old }
     ensures steps_stay_counted { steps.old ≤ steps.new }
 {
     let mut walk = Walk::begin(alloc, scans.len(), bytes_of(start))?;

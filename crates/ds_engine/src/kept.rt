@@ -1,11 +1,11 @@
 //! The rows of an answer, kept as they are reached.
 ghost use Rattle.std.specs.Prelude.{◌≡◌, length, map, [], ◌∷◌, ◌++◌, IfOk, OnOk};
-ghost use Rattle.ds_query.specs.Filters.{is_key_name};
-ghost use Rattle.ds_merge.specs.Slots.{slot_of};
+ghost use Rattle.ds_base.specs.KeyColumn.{is_key_name};
+ghost use Rattle.ds_pages.specs.Slots.{slot_of};
 ghost use Rattle.ds_engine.specs.Kept.{have_no_values, with_one, with_key, AreKeys};
 
-use ds_base::{Column, Key, NoMemory, TextString, TryCopy};
-use ds_merge::FirstRows;
+use ds_base::{Column, Key, NoMemory, TextString, TryCopy, is_key_name};
+use ds_pages::FirstRows;
 use ds_query::{Row, RowList};
 use std::alloc::Global;
 use std::collections::HashSet;
@@ -30,14 +30,14 @@ pub(crate) struct KeptRows {
 
 impl Model for KeptRows {
     ghost use Rattle.std.specs.Prelude.{◌||◌};
-    ghost use Rattle.ds_engine.specs.Kept.{KeptParts, rows_of, AreKept};
+    ghost use Rattle.ds_engine.specs.Kept.{KeptParts, kept_rows, AreKept};
 
     ghost Value = { KeptParts };
 
     ghost view = { λ k. record {
       keeps_all = k.keeps_all;
       slots = k.firsts.slots;
-      rows = rows_of (k.keeps_all || k.by_key) k.whole.items k.firsts.rows;
+      rows = kept_rows (k.keeps_all || k.by_key) k.whole.items k.firsts.rows;
     } };
 
     ghost invariant = { λ k. AreKept k.keeps_all k.by_key k.firsts.slots k.keys.keys k.whole.items };
@@ -142,11 +142,5 @@ fn put_new(keys: &mut HashSet<Key>, rows: &mut Vec<Row>, key: Key, row: Row) -> 
 fn have_no_values(columns: &[Column]) -> bool
     ensures { result ≡ have_no_values columns.now }
 {
-    columns.iter().all(|column| is_key_column(column))
-}
-
-fn is_key_column(column: &Column) -> bool
-    ensures { result ≡ is_key_name column.now.name }
-{
-    column.name.text() == "__key__"
+    columns.iter().all(|column| is_key_name(&column.name))
 }

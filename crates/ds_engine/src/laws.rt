@@ -1,4 +1,7 @@
 //! What is claimed of planned scans: laws of the definitions. The functions do nothing.
+ghost use Rattle.std.specs.Prelude.{ℕ, Option};
+ghost use Rattle.ds_query.specs.declared.row.Place.{Place};
+ghost use Rattle.ds_engine.specs.BoundSums.{BoundsAddUp};
 ghost use Rattle.ds_engine.specs.ScanLaws.{ScansTellRows, PlansTellRows, BoundsTellRows, ScansHaveFewStrings};
 
 /// The rows of an entity that begin with what a scan is bound to go on with the places of its rows under what the scan binds.
@@ -21,4 +24,10 @@ pub fn plans_tell_rows()
 /// Between two places no scan has more strings than the parts that it binds have rows, nor do the scans pass more.
 pub fn scans_have_few_strings()
     ensures { ScansHaveFewStrings }
+{}
+
+/// The bounds of the answers of several branches over several shards add up: one more shard or branch adds its own bounds, in either
+/// order.
+pub fn bounds_add_up()
+    ensures { (start end : Option Place) (most : Option ℕ) → BoundsAddUp start end most }
 {}

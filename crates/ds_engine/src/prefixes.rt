@@ -5,14 +5,14 @@ ghost use Rattle.ds_bytes.specs.Encoding.{escaped};
 ghost use Rattle.ds_indexdef.specs.declared.IndexDef.{IndexDef};
 ghost use Rattle.ds_rows.specs.Indexes.{AllByKey, KindByKey, ByProperty, Composite};
 ghost use Rattle.ds_rows.specs.Rows.{index_front, ancestor_bytes};
-ghost use Rattle.ds_model.specs.Results.{asked_value};
+ghost use Rattle.ds_query.specs.RowValues.{asked_value};
 ghost use Rattle.ds_engine.specs.Prefixes.{bound_bytes, columns_of, prefix_in, scan_prefix};
 ghost use Rattle.ds_engine.specs.Scans.{IsLawfulAncestor, IsLawfulScan, IsLawfulIn, AreLawfulBound};
 
 use ds_base::{Buffer, Column, IndexValue, Key, NoMemory, TextString};
 use ds_bytes::{encode, encode_key, encode_text};
 use ds_indexdef::{Defs, IndexDef};
-use ds_planner::{Index, PlannedScan};
+use ds_planner::{PlannedIndex, PlannedScan};
 use ds_query::{Branch, Pair};
 use std::alloc::Global;
 
@@ -40,18 +40,18 @@ pub(crate) fn scan_prefix(
 {
     let mut prefix = Buffer::new(alloc);
     match &scan.index {
-        Index::AllByKey => {
+        PlannedIndex::AllByKey => {
             put_tag(ALL_BY_KEY, branch, &mut prefix)?;
             put_ancestor(&scan.ancestor, &mut prefix)?;
         }
-        Index::KindByKey => {
+        PlannedIndex::KindByKey => {
             put_kind_front(branch, &mut prefix)?;
             put_ancestor(&scan.ancestor, &mut prefix)?;
         }
-        Index::Property { name, descending } => {
+        PlannedIndex::Property { name, descending } => {
             put_property_prefix(branch, scan, name, *descending, &mut prefix)?;
         }
-        Index::Composite { position } => {
+        PlannedIndex::Composite { position } => {
             put_composite_prefix(branch, defs, scan, *position, &mut prefix)?;
         }
     }

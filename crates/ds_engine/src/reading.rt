@@ -4,12 +4,14 @@ ghost use Rattle.ds_base.specs.declared.index_value.IndexValue.{IndexValue};
 ghost use Rattle.ds_base.specs.Keys.{KeyParts};
 ghost use Rattle.ds_bytes.specs.Encoding.{encoding, key_encoding};
 ghost use Rattle.ds_bytes.specs.Lawful.{IsLawfulKey, IsLawfulValue};
-ghost use Rattle.ds_query.specs.Filters.{is_key_name};
-ghost use Rattle.ds_cursor.specs.RowsOfColumns.{IsRowOf, key_descends};
-ghost use Rattle.ds_merge.specs.Merging.{IsPlaced};
+ghost use Rattle.ds_base.specs.KeyColumn.{is_key_name, key_descends};
+ghost use Rattle.ds_cursor.specs.RowsOfColumns.{IsRowOf};
+ghost use Rattle.ds_pages.specs.Places.{IsPlaced};
 ghost use Rattle.ds_engine.specs.Reading.{ValueStands, KeyStands};
 
-use ds_base::{ByteString, Column, IndexValue, IndexValues, Key, NoMemory, TextString};
+use ds_base::{
+    ByteString, Column, IndexValue, IndexValues, Key, NoMemory, is_key_name, key_descends,
+};
 use ds_bytes::{decode, decode_key};
 use ds_query::{Place, Row};
 use std::alloc::Global;
@@ -66,23 +68,4 @@ fn key_of(alloc: Global, bytes: &[u8], descending: bool) -> Result<Key, NoMemory
         Some(found) => Ok(found.key),
         None => unreachable!(),
     }
-}
-
-fn is_key_name(name: &TextString) -> bool
-    ensures { result ≡ is_key_name name.now }
-{
-    name.text() == "__key__"
-}
-
-/// Whether a column `__key__` descends.
-fn key_descends(columns: &[Column]) -> bool
-    ensures { result ≡ key_descends columns.now }
-{
-    columns.iter().any(|column| descends_by_key(column))
-}
-
-fn descends_by_key(column: &Column) -> bool
-    ensures { result ≡ (is_key_name column.now.name && column.now.descending) }
-{
-    is_key_name(&column.name) && column.descending
 }

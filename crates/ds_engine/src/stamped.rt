@@ -50,7 +50,8 @@ impl<'a, T: Tables> Rows for StampedTables<'a, T> {
         below: Option<&[u8]>,
         steps: &mut Steps<L>,
     ) -> Option<&[u8]> {
-        self.tables.seek(self.at, at_least, below, steps)
+        let mut near = 0;
+        self.seek_near(at_least, below, &mut near, steps)
     }
 
     fn seek_near<L: Ledger>(

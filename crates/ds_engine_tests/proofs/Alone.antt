@@ -1,5 +1,6 @@
 -- A branch alone is a lawful normal form.
-use Rattle.std.proofs.Common.{◌≡◌, ℕ, zero, suc, ◌<◌, List, [], ◌∷◌, Bool, true, false, IsTrue, ◌&&◌, not, cond, filter, refl, ap, ◌∙◌, arith}
+use Rattle.std.proofs.Common.{◌≡◌, ℕ, zero, suc, ◌<◌, List, [], ◌∷◌, Bool, true, false, IsTrue, ◌&&◌, not, cond, filter, refl, ap, ◌∙◌}
+use Rattle.std.proofs.Common.{arith}
 use Rattle.std.specs.Prelude.{All, length}
 use Rattle.std.specs.List.{list_all}
 use Rattle.ds_base.specs.declared.column.Column.{Column}

@@ -132,7 +132,21 @@ fn agree_from<L: Ledger>(
     Ok(true)
 }
 
-/// Whether they do at every stamp, the one before the first entry among them, and enough branches are asked.
+/// Whether they do at every stamp of a store with these entries, the one before the first of them among them, and enough branches are
+/// asked.
+fn agree_in<L: Ledger>(
+    alloc: Global,
+    store: &Store,
+    entries: &[Entry],
+    steps: &mut Steps<L>,
+) -> Result<bool, Fail> {
+    let mut asked = served(alloc, store, steps)?;
+    if asked.len() < 30 || !agree_at(alloc, store, 0, &[], asked.as_slice(), steps)? {
+        return Ok(false);
+    }
+    agree_from(alloc, store, entries, asked.as_mut_slice(), steps)
+}
+
 fn all_agree<L: Ledger>(blank: Blank, alloc: Global) -> Result<bool, Fail>
     requires name { blank.name ≡ L.name }
     requires parts { blank.parts ≡ L.parts }
@@ -141,17 +155,7 @@ fn all_agree<L: Ledger>(blank: Blank, alloc: Global) -> Result<bool, Fail>
     let mut steps = Steps::<L>::new(blank);
     let entries = made_entries(alloc, ENTRIES)?;
     let store = absorbed(alloc, entries.as_slice())?;
-    let mut asked = served(alloc, &store, &mut steps)?;
-    if asked.len() < 30 || !agree_at(alloc, &store, 0, &[], asked.as_slice(), &mut steps)? {
-        return Ok(false);
-    }
-    agree_from(
-        alloc,
-        &store,
-        entries.as_slice(),
-        asked.as_mut_slice(),
-        &mut steps,
-    )
+    agree_in(alloc, &store, entries.as_slice(), &mut steps)
 }
 
 #[test]

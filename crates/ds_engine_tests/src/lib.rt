@@ -4,7 +4,7 @@
 //!
 //! Begin with `worked`, the tables, and `history`. `written` reads writes and queries from the text of requests, `dice` and
 //! `generated` make up the history and the queries, `asked` is a branch that is asked of both, `store` is a shard with its definitions,
-//! and `shown` writes rows as text.
+//! `shards` has a plan that serves two of them, and `shown` writes rows as text.
 #![tactic(auto)]
 
 #[cfg(test)]
@@ -17,6 +17,8 @@ mod generated;
 mod history;
 #[cfg(test)]
 mod reference;
+#[cfg(test)]
+mod shards;
 #[cfg(test)]
 mod shown;
 #[cfg(test)]

@@ -6,7 +6,7 @@ use crate::shown::{show_refused, show_rows};
 use crate::store::{Store, part, whole};
 use crate::written::{normal, single};
 use ds_io::Steps;
-use ds_query::{Branch, Normal, Row, Window};
+use ds_query::{Branch, Normal, Place, Row, Window};
 use std::alloc::Global;
 use std::marker::Brand;
 use std::sync::ledger::{Blank, Ledger};
@@ -47,16 +47,27 @@ fn show_branch<L: Ledger>(
     requires { IsLawfulBranch branch.now }
 {
     match store.rows(alloc, at, branch, &whole(), steps) {
-        Ok(rows) => {
-            show_rows(alloc, branch, rows.as_slice(), onto)?;
-            match rows.get(0) {
-                Some(first) => show_pages(alloc, store, at, branch, first, steps, onto)?,
-                None => {}
-            }
-        }
-        Err(refused) => show_refused(alloc, &refused, onto)?,
+        Ok(rows) => show_found(alloc, store, at, branch, rows.as_slice(), steps, onto),
+        Err(refused) => Ok(show_refused(alloc, &refused, onto)?),
     }
-    Ok(())
+}
+
+fn show_found<L: Ledger>(
+    alloc: Global,
+    store: &Store,
+    at: u64,
+    branch: &Branch,
+    rows: &[Row],
+    steps: &mut Steps<L>,
+    onto: &mut String,
+) -> Result<(), Fail>
+    requires { IsLawfulBranch branch.now }
+{
+    show_rows(alloc, branch, rows, onto)?;
+    match rows.get(0) {
+        Some(first) => show_pages(alloc, store, at, branch, first, steps, onto),
+        None => Ok(()),
+    }
 }
 
 fn show_pages<L: Ledger>(
@@ -70,13 +81,20 @@ fn show_pages<L: Ledger>(
 ) -> Result<(), Fail>
     requires { IsLawfulBranch branch.now }
 {
-    let place = Some(&first.place);
-    let after = part(alloc, place, None, None)?;
-    show_part(alloc, store, at, branch, &after, steps, onto)?;
-    let up_to = part(alloc, None, place, None)?;
-    show_part(alloc, store, at, branch, &up_to, steps, onto)?;
-    let alone = part(alloc, None, None, Some(1))?;
-    show_part(alloc, store, at, branch, &alone, steps, onto)
+    for number in 0..3u8 {
+        let page = page(alloc, &first.place, number)?;
+        show_part(alloc, store, at, branch, &page, steps, onto)?;
+    }
+    Ok(())
+}
+
+/// What is after the place, what is up to it, and the first row alone.
+fn page(alloc: Global, place: &Place, number: u8) -> Result<Window, Fail> {
+    match number {
+        0 => part(alloc, Some(place), None, None),
+        1 => part(alloc, None, Some(place), None),
+        _ => part(alloc, None, None, Some(1)),
+    }
 }
 
 fn show_part<L: Ledger>(
@@ -306,6 +324,17 @@ fn answers_what_was_worked_out(rt: HostRuntime) -> Result<(), Fail> {
     Ok(())
 }
 
+fn shows<L: Ledger>(
+    alloc: Global,
+    store: &Store,
+    at: u64,
+    found: &str,
+    steps: &mut Steps<L>,
+) -> Result<bool, Fail> {
+    let text = shown(alloc, store, at, "\"kind\":\"T\"", steps)?;
+    Ok(text.as_str() == found)
+}
+
 /// An entry is seen from its stamp on, and counted once.
 fn is_seen_from_its_stamp<L: Ledger>(blank: Blank, alloc: Global) -> Result<bool, Fail>
     requires name { blank.name ≡ L.name }
@@ -314,14 +343,10 @@ fn is_seen_from_its_stamp<L: Ledger>(blank: Blank, alloc: Global) -> Result<bool
 {
     let mut steps = Steps::<L>::new(blank);
     let store = filled(alloc, "", "a {}")?;
-    let before = shown(alloc, &store, 0, "\"kind\":\"T\"", &mut steps)?;
-    let after = shown(alloc, &store, 1, "\"kind\":\"T\"", &mut steps)?;
-    Ok(
-        store.count() == 1
-            && store.last() == 1
-            && before.as_str() == ""
-            && after.as_str() == " a | | a | a",
-    )
+    if store.count() != 1 || store.last() != 1 || !shows(alloc, &store, 0, "", &mut steps)? {
+        return Ok(false);
+    }
+    shows(alloc, &store, 1, " a | | a | a", &mut steps)
 }
 
 #[test]

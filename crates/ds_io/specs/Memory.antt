@@ -1,5 +1,5 @@
 -- What is known of the forms in memory: their bytes, and which of their calls fail.
-use Rattle.std.specs.Prelude.{ℕ, Bool, false, cond, ◌==◌, nat_le, bytes_eq, List, length, Option, Some, None}
+use Rattle.std.specs.Prelude.{ℕ, Bool, false, cond, ◌&&◌, ◌||◌, not, ◌==◌, nat_le, bytes_eq, List, length, Option, Some, None}
 use Rattle.std.specs.Prelude.{position, slice_get, option_and_then}
 use Rattle.std.specs.List.{list_any}
 use Rattle.ds_base.specs.Limits.{most_file_bytes}
@@ -30,11 +30,16 @@ pub record SourceParts : Type 0 where
   pub most : ℕ
   pub schedule : ScheduleParts
 
--- A sink in memory: the bytes that it holds, and the most that one call takes.
+-- A sink in memory: the bytes that it holds, the most that one call takes, and whether the last write lacked memory.
 pub record SinkParts : Type 0 where
   pub held : List ℕ
   pub most : ℕ
+  pub lacks : Bool
   pub schedule : ScheduleParts
+
+-- the next call fails, or it may take nothing of a piece that has bytes
+abbrev pub must_fail : SinkParts → List ℕ → Bool
+must_fail s piece = is_due s.schedule || (s.most == 0 && not (length piece == 0))
 
 -- Files in memory: the name of each, and its content at the same place.
 pub record FilesParts : Type 0 where

@@ -11,7 +11,7 @@
 pub mod memory_files;
 pub mod memory_sink;
 pub mod memory_source;
-pub mod schedule;
+mod schedule;
 pub mod standard;
 pub mod steps;
 pub mod traits;
@@ -19,7 +19,6 @@ pub mod traits;
 pub use memory_files::MemoryFiles;
 pub use memory_sink::MemorySink;
 pub use memory_source::MemorySource;
-pub use schedule::Schedule;
 pub use standard::{StdFiles, StdSink, StdSource};
 pub use steps::Steps;
 pub use traits::{Failed, Files, Gate, LoadFault, NoGate, Sink, Source};

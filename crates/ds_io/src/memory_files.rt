@@ -1,5 +1,5 @@
 //! Files in memory.
-ghost use Rattle.std.specs.Prelude.{◌≡◌, ◌≢◌, ◌≤◌, length, IfOk, IsTrue, IsFalse, AllPairs, Err, Some, bytes_eq, option_copied, position};
+ghost use Rattle.std.specs.Prelude.{◌≡◌, ◌≢◌, ◌≤◌, ◌||◌, not, length, IfOk, AllPairs, Some, bytes_eq, option_copied, position};
 ghost use Rattle.ds_base.specs.Limits.{most_file_bytes};
 ghost use Rattle.ds_io.specs.Faults.{is_failed};
 ghost use Rattle.ds_io.specs.Memory.{after_call, fresh, is_due, content_at, content_of, is_loadable};
@@ -73,9 +73,7 @@ impl Files for MemoryFiles {
     fn load(&mut self, alloc: Global, name: &str) -> Result<ByteString, LoadFault>
         ensures gives_the_content { IfOk result (λ bytes. content_of self.old name.now ≡ Some bytes) }
         ensures within { IfOk result (λ bytes. length bytes ≤ most_file_bytes) }
-        ensures fails_when_due { IsTrue (is_due self.old.schedule) → result ≡ Err LoadFault.Failed }
-        ensures fails_without_a_file { IsFalse (is_loadable (content_of self.old name.now)) → result ≡ Err LoadFault.Failed }
-        ensures fails_else_never { IsFalse (is_due self.old.schedule) → IsTrue (is_loadable (content_of self.old name.now)) → result ≢ Err LoadFault.Failed }
+        ensures fails_exactly { is_failed result ≡ (is_due self.old.schedule || not (is_loadable (content_of self.old name.now))) }
 
         ensures names { self.new.names ≡ self.old.names }
         ensures contents { self.new.contents ≡ self.old.contents }

@@ -1,7 +1,7 @@
 //! A sink in memory.
-ghost use Rattle.std.specs.Prelude.{◌≡◌, ◌<◌, ◌≤◌, [], length, min, IfOk, IsOk, IsErr, IsTrue, is_err, Some, false};
+ghost use Rattle.std.specs.Prelude.{◌≡◌, ◌<◌, ◌≤◌, ◌||◌, [], length, min, IfOk, IsOk, is_err, Some, false};
 ghost use Rattle.std.specs.Io.KnownBytes.{WriteAppends};
-ghost use Rattle.ds_io.specs.Memory.{after_call, fresh, is_due};
+ghost use Rattle.ds_io.specs.Memory.{after_call, fresh, must_fail};
 
 use crate::schedule::Schedule;
 use crate::traits::{Failed, Sink};
@@ -14,6 +14,8 @@ use std::marker::Model;
 pub struct MemorySink {
     bytes: ByteString,
     most: usize,
+    // Whether the last write was refused for want of memory.
+    lacks: bool,
     schedule: Schedule,
 }
 
@@ -22,7 +24,7 @@ impl Model for MemorySink {
 
     ghost Value = { SinkParts };
 
-    ghost view = { λ s. record { held = s.bytes; most = s.most; schedule = s.schedule } };
+    ghost view = { λ s. record { held = s.bytes; most = s.most; lacks = s.lacks; schedule = s.schedule } };
 }
 
 impl MemorySink {
@@ -31,11 +33,13 @@ impl MemorySink {
     pub fn make(alloc: Global, most: usize, fails: Numbers) -> MemorySink
         ensures held { result.held ≡ [] }
         ensures most { result.most ≡ most }
+        ensures lacks { result.lacks ≡ false }
         ensures schedule { result.schedule ≡ fresh fails }
     {
         MemorySink {
             bytes: ByteString::new(alloc),
             most,
+            lacks: false,
             schedule: Schedule::new(fails),
         }
     }
@@ -49,20 +53,24 @@ impl MemorySink {
 
     /// `write`, before a failure is counted as a fault.
     fn take(&mut self, piece: &[u8]) -> Result<usize, Failed>
-        ensures fails_when_due { IsTrue (is_due self.old.schedule) → IsErr result }
+        ensures fails_exactly { is_err result ≡ (must_fail self.old piece.now || self.new.lacks) }
         ensures amount { IfOk result (λ n. n ≡ min self.old.most (length piece.now)) }
         ensures takes_some { IfOk result (λ n. 0 < length piece.now → 0 < n) }
         ensures bytes { WriteAppends (Some self.old.held) (Some self.new.held) result piece.now }
         ensures most { self.new.most ≡ self.old.most }
         ensures schedule { self.new.schedule ≡ after_call self.old.schedule false }
     {
-        let n = self.most.min(piece.len());
-        if self.schedule.begin() || (n == 0 && !piece.is_empty()) {
+        self.lacks = false;
+        if self.schedule.begin() || (self.most == 0 && !piece.is_empty()) {
             return Err(Failed);
         }
+        let n = self.most.min(piece.len());
         match self.bytes.append(&piece[..n]) {
             Ok(()) => Ok(n),
-            Err(_) => Err(Failed),
+            Err(_) => {
+                self.lacks = true;
+                Err(Failed)
+            }
         }
     }
 }
@@ -72,10 +80,11 @@ impl Sink for MemorySink {
 
     ghost faults = { λ s. s.schedule.faults };
 
-    /// Takes as many of the first bytes of `piece` as may be taken in one call. It fails where this call is one that
-    /// fails, where it may take nothing of a piece that has bytes, and for want of memory.
+    /// Takes as many of the first bytes of `piece` as may be taken in one call. It fails exactly where this call is one that
+    /// fails, where it may take nothing of a piece that has bytes, and where it lacks the memory for the bytes, which it
+    /// tells then.
     fn write(&mut self, piece: &[u8]) -> Result<usize, Failed>
-        ensures fails_when_due { IsTrue (is_due self.old.schedule) → IsErr result }
+        ensures fails_exactly { is_err result ≡ (must_fail self.old piece.now || self.new.lacks) }
         ensures amount { IfOk result (λ n. n ≡ min self.old.most (length piece.now)) }
         ensures takes_some { IfOk result (λ n. 0 < length piece.now → 0 < n) }
         ensures bytes { WriteAppends (Some self.old.held) (Some self.new.held) result piece.now }

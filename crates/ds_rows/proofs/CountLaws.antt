@@ -15,9 +15,10 @@ use Rattle.ds_base.specs.declared.index_value.IndexValue.TheVariants as class
 use Rattle.ds_base.specs.Keys.{KeyParts}
 use Rattle.ds_base.specs.Entities.{EntityParts, names_ascend}
 use Rattle.ds_indexdef.specs.declared.IndexDef.{IndexDef}
-use Rattle.ds_rows.specs.IndexedValues.{kind_in, is_key_name, property_values, indexed_values, column_values, each_way}
+use Rattle.ds_rows.specs.IndexedValues.{kind_in, property_values, indexed_values, column_values, each_way}
+use Rattle.ds_base.specs.KeyColumn.{is_key_name}
 use Rattle.ds_rows.specs.Counts.{product, column_count, composite_count, row_count}
-use Rattle.ds_rows.specs.Indexes.{Index, AllByKey, KindByKey, ByProperty, Composite, has_ancestor, value_columns, property_indexes}
+use Rattle.ds_rows.specs.Indexes.{RowIndex, AllByKey, KindByKey, ByProperty, Composite, has_ancestor, front_columns, property_indexes}
 use Rattle.ds_rows.specs.Indexes.{composite_indexes, indexes_of}
 use Rattle.ds_rows.specs.Rows.{IndexRow, ancestors, row_ancestors, index_lists, row_with, index_rows, index_row_bytes, rows_in, rows_of}
 use Rattle.ds_rows.specs.Ways.{ways_count}
@@ -38,7 +39,7 @@ length_rows k ways (a ∷ befores) =
       length_rows k ways befores,
     )
 
-rows_in_index : (e : EntityParts) (i : Index) → length (rows_in e i) ≡ length (row_ancestors i e.key) * ways_count (index_lists e i)
+rows_in_index : (e : EntityParts) (i : RowIndex) → length (rows_in e i) ≡ length (row_ancestors i e.key) * ways_count (index_lists e i)
 rows_in_index e i =
     length-map (index_rows e i) (index_row_bytes i)
     ∙ length_rows e.key (each_way (index_lists e i)) (row_ancestors i e.key)
@@ -61,7 +62,7 @@ in_properties e (p ∷ ps) own =
     let asc = in_property e p.name false ∙ here in
     let desc = in_property e p.name true ∙ here in
     let rest = in_properties e ps (λ k d below. own (suc k) d (omega arith)) in
-    let size : Index → ℕ = λ i. length (rows_in e i) in
+    let size : RowIndex → ℕ = λ i. length (rows_in e i) in
     sum_by-cons size (ByProperty p.name false) (ByProperty p.name true ∷ flat_map property_indexes ps)
     ∙ ap (λ n. size (ByProperty p.name false) + n) (sum_by-cons size (ByProperty p.name true) (flat_map property_indexes ps))
     ∙ (λ t. asc t + (desc t + rest t))
@@ -78,7 +79,7 @@ in_column e name = by (is_key_name name) where
   by true = refl
   by false = refl
 
-in_columns : (e : EntityParts) (cs : List Column) → ways_count (map (λ (c : Column). column_values e c.name) (value_columns cs))
+in_columns : (e : EntityParts) (cs : List Column) → ways_count (map (λ (c : Column). column_values e c.name) (front_columns cs))
     ≡ product (map (λ (c : Column). column_count e c.name) cs)
 in_columns e [] = refl
 in_columns e (c ∷ []) = by (is_key_name c.name) refl where
@@ -116,7 +117,7 @@ in_composites e n (d ∷ defs) =
           (filter (λ (placed : ℕ × IndexDef). kind_in placed.1.kind e.key) (enumerate_from (n + 1) defs))))
           ≡ cond b (composite_count e d) 0 + sum_by (λ d. cond (kind_in d.kind e.key) (composite_count e d) 0) defs
       by true rest =
-          sum_by-cons (λ (i : Index). length (rows_in e i)) (Composite n d) (map (λ (placed : ℕ × IndexDef). Composite placed.0 placed.1)
+          sum_by-cons (λ (i : RowIndex). length (rows_in e i)) (Composite n d) (map (λ (placed : ℕ × IndexDef). Composite placed.0 placed.1)
           (filter (λ (placed : ℕ × IndexDef). kind_in placed.1.kind e.key) (enumerate_from (n + 1) defs)))
           ∙ (λ t. in_composite e n d t + rest t)
       by false rest = rest ∙ none (sum_by (λ d. cond (kind_in d.kind e.key) (composite_count e d) 0) defs) where
@@ -129,8 +130,8 @@ in_composites e n (d ∷ defs) =
 pub all_counted : (defs : List IndexDef) (e : EntityParts) → IsTrue (names_ascend e.properties) → length (rows_of defs e)
     ≡ row_count defs e + 1
 all_counted defs e t =
-    let size : Index → ℕ = λ i. length (rows_in e i) in
-    let rest : List Index = flat_map property_indexes e.properties ++ composite_indexes defs e in
+    let size : RowIndex → ℕ = λ i. length (rows_in e i) in
+    let rest : List RowIndex = flat_map property_indexes e.properties ++ composite_indexes defs e in
     let properties = in_properties e e.properties
     (λ k d below. ap (λ (o : Option Property). option_map_or property_values o []) (found_at e.properties t k d
     (get_or e.properties k d).name below refl)) in

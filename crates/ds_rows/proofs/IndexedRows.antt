@@ -19,8 +19,9 @@ use Rattle.ds_indexdef.specs.declared.IndexDef.{IndexDef}
 use Rattle.ds_bytes.specs.Encoding.{key_bytes, key_encoding, ancestor_of}
 use Rattle.ds_bytes.specs.Rows.{columns_bytes}
 use Rattle.ds_rows.specs.declared.ways.ColumnValues.{ColumnValues}
-use Rattle.ds_rows.specs.IndexedValues.{kind_of, kind_in, is_key_name, property_values, each_way}
-use Rattle.ds_rows.specs.Indexes.{Index, Composite, directions, key_descends, has_ancestor, AllByKey, KindByKey, value_columns}
+use Rattle.ds_rows.specs.IndexedValues.{kind_of, kind_in, property_values, each_way}
+use Rattle.ds_base.specs.KeyColumn.{is_key_name}
+use Rattle.ds_rows.specs.Indexes.{RowIndex, Composite, directions, index_key_descends, has_ancestor, AllByKey, KindByKey, front_columns}
 use Rattle.ds_rows.specs.Indexes.{last_key_descends, property_indexes, composite_indexes}
 use Rattle.ds_rows.specs.Rows.{IndexRow, row_with, paths_to, ancestors, row_ancestors, index_lists, index_front, index_row_bytes, rows_in}
 use Rattle.ds_rows.specs.Rows.{rows_of}
@@ -35,9 +36,9 @@ plain_rows f g [] = refl
 plain_rows f g (w ∷ ways) = ap (λ rows. f (g w) ∷ rows) (plain_rows f g ways)
 
 -- without ancestors there is one row for each way
-pub rows_without : (e : EntityParts) (i : Index) (front key : List ℕ) (lists : List (List IndexValue)) (descends : List Bool)
+pub rows_without : (e : EntityParts) (i : RowIndex) (front key : List ℕ) (lists : List (List IndexValue)) (descends : List Bool)
     → has_ancestor i ≡ false
-    → front ≡ index_front i e.key.namespace (kind_of e.key) → key ≡ key_encoding (key_descends i) e.key → lists ≡ index_lists e i
+    → front ≡ index_front i e.key.namespace (kind_of e.key) → key ≡ key_encoding (index_key_descends i) e.key → lists ≡ index_lists e i
     → descends ≡ directions i → map (λ values. front ++ (columns_bytes descends values ++ key)) (each_way lists) ≡ rows_in e i
 rows_without e i front key lists descends none front_is key_is lists_are directions_are =
     (λ t. map (λ values. front_is t ++ (columns_bytes (directions_are t) values ++ key_is t)) (each_way (lists_are t)))
@@ -66,8 +67,8 @@ regrouped front columns key ways keys = λ t. flat_map (λ a. map (λ w. append_
     (directions_of columns) w ++ key) t) ways) keys
 
 -- with ancestors there is one row for each of them and each way
-pub rows_with : (e : EntityParts) (i : Index) (front key : List ℕ) (columns : List ColumnValues) → has_ancestor i ≡ true
-    → front ≡ index_front i e.key.namespace (kind_of e.key) → key ≡ key_encoding (key_descends i) e.key → lists_of columns ≡ index_lists e i
+pub rows_with : (e : EntityParts) (i : RowIndex) (front key : List ℕ) (columns : List ColumnValues) → has_ancestor i ≡ true
+    → front ≡ index_front i e.key.namespace (kind_of e.key) → key ≡ key_encoding (index_key_descends i) e.key → lists_of columns ≡ index_lists e i
     → directions_of columns ≡ directions i → flat_map (ancestor_rows front columns key) (ancestors e.key) ≡ rows_in e i
 rows_with e i front key columns some front_is key_is lists_are directions_are =
     regrouped front columns key (each_way (lists_of columns)) (ancestors e.key)
@@ -128,7 +129,7 @@ one_more_ancestor start front columns last k i begun before now w v below kept n
 
 -- the columns without a key at their end
 pub columns_before_key : (cs : List Column) (d : Column) → 0 < length cs → is_key_name (get_or cs (length cs - 1) d).name ≡ true
-    → take (length cs - 1) cs ≡ value_columns cs
+    → take (length cs - 1) cs ≡ front_columns cs
 columns_before_key [] d some named = absurd (omega arith)
 columns_before_key (c ∷ []) d some named = ap (λ (b : Bool). cond b [] (c ∷ [])) (sym named)
 columns_before_key (c ∷ b ∷ cs) d some named =
@@ -138,7 +139,7 @@ columns_before_key (c ∷ b ∷ cs) d some named =
     (ap (λ n. is_key_name (get_or (c ∷ b ∷ cs) n d).name) (sym last) ∙ named))
 
 pub columns_with_none : (cs : List Column) (d : Column) → (0 < length cs → is_key_name (get_or cs (length cs - 1) d).name ≡ false) → cs
-    ≡ value_columns cs
+    ≡ front_columns cs
 columns_with_none [] d other = refl
 columns_with_none (c ∷ []) d other = ap (λ (b : Bool). cond b [] (c ∷ [])) (sym (other (omega arith)))
 columns_with_none (c ∷ b ∷ cs) d other =
@@ -164,25 +165,11 @@ rows_from e n defs =
     (map (λ (placed : ℕ × IndexDef). Composite placed.0 placed.1) (filter (λ (placed : ℕ × IndexDef). kind_in placed.1.kind e.key)
     (enumerate_from n defs)))
 
-chosen : (b : Bool) (rows : List (List ℕ)) (i : Index) (more : List Index) (f : Index → List (List ℕ)) (g : Bool → List Index)
+chosen : (b : Bool) (rows : List (List ℕ)) (i : RowIndex) (more : List RowIndex) (f : RowIndex → List (List ℕ)) (g : Bool → List RowIndex)
     → g true ≡ i ∷ more → g false ≡ more → (rows ++ cond b (f i) []) ++ flat_map f more ≡ rows ++ flat_map f (g b)
-chosen true rows i more f g p q = append_assoc rows (f i) (flat_map f more) ∙ ap (λ (is : List Index). rows ++ flat_map f is) (sym p)
+chosen true rows i more f g p q = append_assoc rows (f i) (flat_map f more) ∙ ap (λ (is : List RowIndex). rows ++ flat_map f is) (sym p)
 chosen false rows i more f g p q = ap (λ (rs : List (List ℕ)). rs ++ flat_map f more) (append-nil rows)
-    ∙ ap (λ (is : List Index). rows ++ flat_map f is) (sym q)
-
--- one definition more
-pub definition_step : (e : EntityParts) (defs : List IndexDef) (n : ℕ) (d : IndexDef) (rows now whole : List (List ℕ)) → n < length defs
-    → d ≡ get_or defs n d → rows ++ rows_from e n (drop n defs) ≡ whole
-    → now ≡ rows ++ cond (kind_in d.kind e.key) (rows_in e (Composite n d)) [] → now ++ rows_from e (n + 1) (drop (n + 1) defs) ≡ whole
-definition_step e defs n d rows now whole below is so_far more =
-    let rest : drop n defs ≡ d ∷ drop (n + 1) defs = drop_more defs n d below ∙ ap (λ (x : IndexDef). x ∷ drop (n + 1) defs) (sym is) in
-    let later : List (ℕ × IndexDef) = filter (λ (placed : ℕ × IndexDef). kind_in placed.1.kind e.key) (enumerate_from (n + 1) (drop
-    (n + 1) defs)) in
-    let put : ℕ × IndexDef → Index = λ (placed : ℕ × IndexDef). Composite placed.0 placed.1 in
-    ap (λ (rs : List (List ℕ)). rs ++ rows_from e (n + 1) (drop (n + 1) defs)) more
-    ∙ chosen (kind_in d.kind e.key) rows (Composite n d) (map put later) (rows_in e) (λ b. map put (cond b
-    ((n, d) ∷ later) later)) refl refl
-    ∙ ap (λ (ds : List IndexDef). rows ++ rows_from e n ds) (sym rest) ∙ so_far
+    ∙ ap (λ (is : List RowIndex). rows ++ flat_map f is) (sym q)
 
 -- one property more
 pub property_step : {X Y Z : Type 0} (f : Y → List Z) (g : X → List Y) (xs : List X) (i : ℕ) (x : X) (before after whole : List Z)

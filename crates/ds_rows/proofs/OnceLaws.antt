@@ -26,8 +26,9 @@ use Rattle.ds_base.specs.Values.{index_of}
 use Rattle.ds_base.specs.Entities.{EntityParts, names_ascend}
 use Rattle.ds_indexdef.specs.declared.IndexDef.{IndexDef}
 use Rattle.ds_indexdef.specs.Definitions.{AreDefs}
-use Rattle.ds_rows.specs.IndexedValues.{kind_in, is_key_name, property_values, indexed_values, column_values, each_way}
-use Rattle.ds_rows.specs.Indexes.{Index, AllByKey, KindByKey, ByProperty, Composite, has_ancestor, value_columns, property_indexes}
+use Rattle.ds_rows.specs.IndexedValues.{kind_in, property_values, indexed_values, column_values, each_way}
+use Rattle.ds_base.specs.KeyColumn.{is_key_name}
+use Rattle.ds_rows.specs.Indexes.{RowIndex, AllByKey, KindByKey, ByProperty, Composite, has_ancestor, front_columns, property_indexes}
 use Rattle.ds_rows.specs.Indexes.{composite_indexes, indexes_of}
 use Rattle.ds_rows.specs.Indexable.{IsIndexable}
 use Rattle.ds_rows.specs.Rows.{IndexRow, paths_to, ancestors, row_ancestors, index_lists, row_with, index_rows, index_row_bytes, rows_in}
@@ -127,14 +128,14 @@ column_once e name = by (is_key_name name) where
   by true = (All-nil (λ y. class.Key e.key ≢ y), tt)
   by false = named_once (find (λ p. bytes_eq p.name name) e.properties)
 
-lists_once : (e : EntityParts) (i : Index) → All IsOnce (index_lists e i)
+lists_once : (e : EntityParts) (i : RowIndex) → All IsOnce (index_lists e i)
 lists_once e AllByKey = All-nil IsOnce
 lists_once e KindByKey = All-nil IsOnce
 lists_once e (ByProperty name descending) =
     All-cons IsOnce (indexed_values e name) [] (named_once (find (λ p. bytes_eq p.name name) e.properties)) (All-nil IsOnce)
 lists_once e (Composite n d) =
-    each_map IsOnce (λ (c : Column). column_values e c.name) (value_columns d.columns) (λ k c below. column_once e (get_or
-    (value_columns d.columns) k c).name)
+    each_map IsOnce (λ (c : Column). column_values e c.name) (front_columns d.columns) (λ k c below. column_once e (get_or
+    (front_columns d.columns) k c).name)
 
 -- ---- ways
 
@@ -188,14 +189,14 @@ ancestors_once k =
 some_of : (a b : KeyParts) → Some a ≡ Some b → a ≡ b
 some_of a b same = cc
 
-row_ancestors_once : (i : Index) (k : KeyParts) → IsOnce (row_ancestors i k)
+row_ancestors_once : (i : RowIndex) (k : KeyParts) → IsOnce (row_ancestors i k)
 row_ancestors_once i k = by (has_ancestor i) where
   by : (b : Bool) → IsOnce (cond b (map (λ a. Some a) (ancestors k)) (None ∷ []))
   by true = once_map (λ a. Unit {0}) (λ (a : KeyParts). Some a) (λ a b p q same. some_of a b same) (ancestors k) (λ n d below. tt)
       (ancestors_once k)
   by false = (All-nil (λ y. None ≢ y), tt)
 
-index_rows_once : (e : EntityParts) (i : Index) → IsOnce (index_rows e i)
+index_rows_once : (e : EntityParts) (i : RowIndex) → IsOnce (index_rows e i)
 index_rows_once e i =
     let W : List (List IndexValue) = each_way (index_lists e i) in
     once_flat (λ a. Unit {0}) (λ a r. r.ancestor ≡ a) (λ a. map (row_with e.key a) W) (λ a b r p q s t. sym s ∙ t)
@@ -206,13 +207,13 @@ index_rows_once e i =
 
 -- ---- indexes
 
-abbrev kind_number : Index → ℕ
+abbrev kind_number : RowIndex → ℕ
 kind_number AllByKey = 0
 kind_number KindByKey = 1
 kind_number (ByProperty name descending) = 2
 kind_number (Composite n d) = 3
 
-apart_kinds : (i j : Index) → kind_number i < kind_number j → i ≢ j
+apart_kinds : (i j : RowIndex) → kind_number i < kind_number j → i ≢ j
 apart_kinds i j less same = by (ap kind_number same) where
   by : kind_number i ≡ kind_number j → ⊥
   by e = absurd (omega arith)
@@ -231,17 +232,17 @@ two_directions name e = apart (same_direction name name false true e) where
 other_names : (p : Property) (c : Bool) (ps : List Property) → IsTrue (names_ascend (p ∷ ps))
     → All (λ i. ByProperty p.name c ≢ i) (flat_map property_indexes ps)
 other_names p c ps t =
-    each_flat (λ (i : Index). ByProperty p.name c ≢ i) property_indexes ps
-    (λ k d below. All-cons (λ (i : Index). ByProperty p.name c ≢ i) (ByProperty _ false) (ByProperty _ true ∷ [])
+    each_flat (λ (i : RowIndex). ByProperty p.name c ≢ i) property_indexes ps
+    (λ k d below. All-cons (λ (i : RowIndex). ByProperty p.name c ≢ i) (ByProperty _ false) (ByProperty _ true ∷ [])
     (λ same. names_differ p ps t k d below (same_name p.name _ c false same))
-    (All-cons (λ (i : Index). ByProperty p.name c ≢ i) (ByProperty _ true) [] (λ same. names_differ p ps t k d below
+    (All-cons (λ (i : RowIndex). ByProperty p.name c ≢ i) (ByProperty _ true) [] (λ same. names_differ p ps t k d below
     (same_name p.name _ c true same))
-    (All-nil (λ (i : Index). ByProperty p.name c ≢ i))))
+    (All-nil (λ (i : RowIndex). ByProperty p.name c ≢ i))))
 
 properties_once : (ps : List Property) → IsTrue (names_ascend ps) → IsOnce (flat_map property_indexes ps)
 properties_once [] t = tt
 properties_once (p ∷ ps) t = (
-  All-cons (λ (i : Index). ByProperty p.name false ≢ i) (ByProperty p.name true) (flat_map property_indexes ps) (two_directions p.name)
+  All-cons (λ (i : RowIndex). ByProperty p.name false ≢ i) (ByProperty p.name true) (flat_map property_indexes ps) (two_directions p.name)
       (other_names p false ps t),
   (other_names p true ps t, properties_once ps (tail_ascends p ps t)),
 )
@@ -285,8 +286,8 @@ indexes_once defs e t =
     each_flat (λ i. kind_number i ≡ 2) property_indexes e.properties
     (λ k d below. All-cons (λ i. kind_number i ≡ 2) (ByProperty _ false) (ByProperty _ true ∷ []) refl
     (All-cons (λ i. kind_number i ≡ 2) (ByProperty _ true) [] refl (All-nil (λ i. kind_number i ≡ 2)))) in
-    let rest : List Index = flat_map property_indexes e.properties ++ composite_indexes defs e in
-    let higher : (i : Index) → kind_number i < 2 → All (λ j. i ≢ j) rest =
+    let rest : List RowIndex = flat_map property_indexes e.properties ++ composite_indexes defs e in
+    let higher : (i : RowIndex) → kind_number i < 2 → All (λ j. i ≢ j) rest =
     λ i low. All-append (λ j. i ≢ j) (flat_map property_indexes e.properties) (composite_indexes defs e)
     (λ k d below. apart_kinds i _ (above i _ 2 low (property k d below) (omega arith)))
     (λ k d below. apart_kinds i _ (above i _ 3 low (composite k d below) (omega arith))) in (
@@ -298,15 +299,15 @@ indexes_once defs e t =
             (λ k d below n j inside. apart_kinds _ _ (between_kinds _ _ (property k d below) (composite n j inside))),
       ),
     ) where
-      above : (i j : Index) (n : ℕ) → kind_number i < 2 → kind_number j ≡ n → 2 ≤ n → kind_number i < kind_number j
+      above : (i j : RowIndex) (n : ℕ) → kind_number i < 2 → kind_number j ≡ n → 2 ≤ n → kind_number i < kind_number j
       above i j n low is high = subst (λ m. kind_number i < m) (sym is) (omega arith)
 
-      between_kinds : (i j : Index) → kind_number i ≡ 2 → kind_number j ≡ 3 → kind_number i < kind_number j
+      between_kinds : (i j : RowIndex) → kind_number i ≡ 2 → kind_number j ≡ 3 → kind_number i < kind_number j
       between_kinds i j p q = subst (λ m. m < kind_number j) (sym p) (subst (λ m. 2 < m) (sym q) (omega arith))
 
 -- ---- rows
 
-abbrev IsRowIn : List IndexDef → Index → List ℕ → Type 0
+abbrev IsRowIn : List IndexDef → RowIndex → List ℕ → Type 0
 IsRowIn defs i row = (r : IndexRow) × (IsRowOf defs i r × (row ≡ index_row_bytes i r))
 
 -- No row of an entity stands twice.

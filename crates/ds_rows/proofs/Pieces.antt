@@ -10,9 +10,6 @@ use Rattle.ds_rows.specs.Spans.{piece, pieces, IsWithin, Written}
 pub within_stays : (bytes more : List ℕ) (s : Span) → IsWithin bytes s → IsWithin (bytes ++ more) s
 within_stays bytes more s within = record { rises = within.rises; ends = omega (arith, within.ends, length-append bytes more) }
 
-pub all_stay : (bytes more : List ℕ) (spans : List Span) → All (IsWithin bytes) spans → All (IsWithin (bytes ++ more)) spans
-all_stay bytes more spans all = λ k d below. within_stays bytes more _ (all k d below)
-
 pub piece_stays : (bytes more : List ℕ) (s : Span) → IsWithin bytes s → piece (bytes ++ more) s ≡ piece bytes s
 piece_stays bytes more s within =
     let rises : s.from ≤ s.to = within.rises in
@@ -27,13 +24,6 @@ pieces_stay bytes more (s ∷ spans) all =
     let first = piece_stays bytes more s (All-head (IsWithin bytes) s spans all) in
     let rest = pieces_stay bytes more spans (All-tail (IsWithin bytes) s spans all) in
     λ i. first i ∷ rest i
-
--- the row that is begun, once it is whole
-pub pieces_push : (bytes : List ℕ) (spans : List Span) (s : Span) → s.to ≡ length bytes
-    → pieces bytes (spans ++ s ∷ []) ≡ pieces bytes spans ++ drop s.from bytes ∷ []
-pieces_push bytes spans s ends =
-    map_push (piece bytes) spans s
-    ∙ ap (λ (row : List ℕ). pieces bytes spans ++ row ∷ []) (ap (λ n. take (n - s.from) (drop s.from bytes)) ends ∙ take_rest bytes s.from)
 
 -- ---- a row that is being written
 

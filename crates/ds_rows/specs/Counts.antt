@@ -5,7 +5,8 @@ use Rattle.ds_base.specs.Entities.{EntityParts}
 use Rattle.ds_indexdef.specs.declared.IndexDef.{IndexDef}
 use Rattle.ds_rows.specs.declared.refused.RowsRefused.{RowsRefused}
 use Rattle.ds_rows.specs.declared.refused.RowsRefused.TheVariants.{TooManyRows, NoMemory}
-use Rattle.ds_rows.specs.IndexedValues.{kind_in, property_values, indexed_values, is_key_name}
+use Rattle.ds_rows.specs.IndexedValues.{kind_in, property_values, indexed_values}
+use Rattle.ds_base.specs.KeyColumn.{is_key_name}
 
 -- the product of the numbers, and 1 where there are none
 abbrev pub product : List ℕ → ℕ

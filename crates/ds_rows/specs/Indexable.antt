@@ -1,7 +1,8 @@
 -- What is known of the bytes, numbers and names of each entity whose rows are made.
 use Rattle.std.specs.Prelude.{All, IsTrue}
 use Rattle.ds_base.specs.Entities.{EntityParts, names_ascend}
-use Rattle.ds_bytes.specs.Lawful.{AreBytes, IsLawfulKey, IsLawfulValue}
+use Rattle.ds_bytes.specs.Lawful.{IsLawfulKey, IsLawfulValue}
+use Rattle.ds_base.specs.Bytes.{AreBytes}
 use Rattle.ds_rows.specs.IndexedValues.{property_values}
 
 -- the key and the indexed values are such as have an encoding, and the names of its properties are bytes and ascend

@@ -9,6 +9,7 @@ use Rattle.ds_base.specs.declared.index_value.IndexValue.TheVariants as class
 use Rattle.ds_base.specs.Keys.{KeyParts}
 use Rattle.ds_base.specs.Entities.{EntityParts}
 use Rattle.ds_base.specs.IndexOrder.{index_value_cmp}
+use Rattle.ds_base.specs.KeyColumn.{is_key_name}
 use Rattle.ds_base.specs.Values.{index_of}
 
 -- ---- kinds
@@ -39,13 +40,6 @@ abbrev pub indexed_values : EntityParts → List ℕ → List IndexValue
 indexed_values e name = option_map_or property_values (find (λ p. bytes_eq p.name name) e.properties) []
 
 -- ---- columns
-
--- `__key__`, the name of the column that holds the entity's key
-abbrev pub key_name : List ℕ
-key_name = codes "__key__"
-
-abbrev pub is_key_name : List ℕ → Bool
-is_key_name name = bytes_eq name key_name
 
 -- what an entity has in the column of this name: its key alone in the column of keys, in each other the indexed values of the
 -- property

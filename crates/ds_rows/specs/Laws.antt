@@ -12,7 +12,7 @@ use Rattle.ds_indexdef.specs.Definitions.{AreDefs}
 use Rattle.ds_bytes.specs.Lawful.{IsKeyOfBytes}
 use Rattle.ds_bytes.specs.Rows.{row_cmp, IsRow}
 use Rattle.ds_rows.specs.IndexedValues.{kind_of}
-use Rattle.ds_rows.specs.Indexes.{Index, KindByKey, ByProperty, Composite, directions, key_descends, has_ancestor, indexes_of}
+use Rattle.ds_rows.specs.Indexes.{RowIndex, KindByKey, ByProperty, Composite, directions, index_key_descends, has_ancestor, indexes_of}
 use Rattle.ds_rows.specs.Counts.{row_count}
 use Rattle.ds_rows.specs.Indexable.{IsIndexable}
 use Rattle.ds_rows.specs.Rows.{IndexRow, index_front, index_rows, index_row_bytes, rows_of}
@@ -20,7 +20,7 @@ use Rattle.ds_rows.specs.Rows.{IndexRow, index_front, index_rows, index_row_byte
 -- ---- rows
 
 -- the index of a definition stands at the definition's place
-abbrev pub IsIndexOf : List IndexDef → Index → Type 0
+abbrev pub IsIndexOf : List IndexDef → RowIndex → Type 0
 IsIndexOf defs (Composite n d) = (n < length defs) × (get_or defs n d ≡ d)
 IsIndexOf defs _ = Unit {0}
 
@@ -32,7 +32,7 @@ SuitsAncestor false (Some a) = ⊥
 SuitsAncestor false None = Unit {0}
 
 -- a row of an index, of whatever entity
-pub record IsRowOf (defs : List IndexDef) (i : Index) (r : IndexRow) : Type 0 where
+pub record IsRowOf (defs : List IndexDef) (i : RowIndex) (r : IndexRow) : Type 0 where
   pub index : IsIndexOf defs i
   pub ancestor : SuitsAncestor (has_ancestor i) r.ancestor
   pub parts : IsRow (directions i) r.parts
@@ -47,18 +47,18 @@ ancestor_cmp (Some a) None = Greater
 ancestor_cmp (Some a) (Some b) = key_cmp a b
 
 -- by ancestor, then column by column, each in its direction, and then by key
-abbrev pub index_row_cmp : Index → IndexRow → IndexRow → Ordering
-index_row_cmp i r s = ordering_then (ancestor_cmp r.ancestor s.ancestor) (row_cmp (directions i) (key_descends i) r.parts s.parts)
+abbrev pub index_row_cmp : RowIndex → IndexRow → IndexRow → Ordering
+index_row_cmp i r s = ordering_then (ancestor_cmp r.ancestor s.ancestor) (row_cmp (directions i) (index_key_descends i) r.parts s.parts)
 
 -- ---- fronts
 
 -- the front of an index by kind or property holds the kind
-abbrev pub HoldsKind : Index → List ℕ → List ℕ → Type 0
+abbrev pub HoldsKind : RowIndex → List ℕ → List ℕ → Type 0
 HoldsKind KindByKey kind kind' = kind ≡ kind'
 HoldsKind (ByProperty name descending) kind kind' = kind ≡ kind'
 HoldsKind _ kind kind' = Unit {0}
 
-pub record IsSameIndex (i j : Index) (n k n' k' a b : List ℕ) : Type 0 where
+pub record IsSameIndex (i j : RowIndex) (n k n' k' a b : List ℕ) : Type 0 where
   pub index : i ≡ j
   pub namespace : n ≡ n'
   pub kind : HoldsKind i k k'
@@ -83,20 +83,20 @@ RowsAreItsOwn =
 -- different keys share no row.
 abbrev pub RowsAreApart : Type 0
 RowsAreApart =
-    (defs : List IndexDef) → AreDefs defs → (i j : Index) (r s : IndexRow) → IsRowOf defs i r → IsRowOf defs j s
+    (defs : List IndexDef) → AreDefs defs → (i j : RowIndex) (r s : IndexRow) → IsRowOf defs i r → IsRowOf defs j s
     → index_row_bytes i r ≡ index_row_bytes j s → (i ≡ j) × (r ≡ s)
 
 -- Within one index, namespace and kind the order of bytes is that of the ancestor, the columns and the key.
 abbrev pub RowsAreOrdered : Type 0
 RowsAreOrdered =
-    (defs : List IndexDef) (i : Index) (r s : IndexRow) → IsRowOf defs i r → IsRowOf defs i s
+    (defs : List IndexDef) (i : RowIndex) (r s : IndexRow) → IsRowOf defs i r → IsRowOf defs i s
     → r.parts.key.namespace ≡ s.parts.key.namespace → kind_of r.parts.key ≡ kind_of s.parts.key
     → bytes_cmp (index_row_bytes i r) (index_row_bytes i s) ≡ index_row_cmp i r s
 
 -- A row that begins as those of an index in a namespace and a kind do is one of them; and what stands between two that
 -- begin so begins so too.
 pub record RowsStandTogether : Type 0 where
-  pub only : (defs : List IndexDef) → AreDefs defs → (i j : Index) (namespace kind more : List ℕ) (r : IndexRow)
+  pub only : (defs : List IndexDef) → AreDefs defs → (i j : RowIndex) (namespace kind more : List ℕ) (r : IndexRow)
       → IsIndexOf defs i → IsRowOf defs j r → index_row_bytes j r ≡ index_front i namespace kind ++ more
       → (j ≡ i) × (r.parts.key.namespace ≡ namespace) × HoldsKind j (kind_of r.parts.key) kind
   pub between : (front a b x : List ℕ) → (bytes_cmp (front ++ a) x ≡ Greater → ⊥) → (bytes_cmp x (front ++ b) ≡ Greater → ⊥)

@@ -17,8 +17,9 @@ use Rattle.ds_indexdef.specs.declared.IndexDef.{IndexDef}
 use Rattle.ds_bytes.specs.Lawful.{IsElemOfBytes, IsKeyOfBytes, IsValueOfBytes, IsLawfulValue}
 use Rattle.ds_bytes.specs.LawfulLaws.{key_of_bytes, value_of_bytes}
 use Rattle.ds_bytes.specs.Rows.{IsRow}
-use Rattle.ds_rows.specs.IndexedValues.{kind_in, is_key_name, property_values, indexed_values, column_values, each_way}
-use Rattle.ds_rows.specs.Indexes.{Index, AllByKey, KindByKey, ByProperty, Composite, directions, has_ancestor, value_columns}
+use Rattle.ds_rows.specs.IndexedValues.{kind_in, property_values, indexed_values, column_values, each_way}
+use Rattle.ds_base.specs.KeyColumn.{is_key_name}
+use Rattle.ds_rows.specs.Indexes.{RowIndex, AllByKey, KindByKey, ByProperty, Composite, directions, has_ancestor, front_columns}
 use Rattle.ds_rows.specs.Indexes.{property_indexes, composite_indexes, indexes_of}
 use Rattle.ds_rows.specs.Indexable.{IsIndexable}
 use Rattle.ds_rows.specs.Rows.{IndexRow, paths_to, ancestors, row_ancestors, index_lists, row_with, index_rows}
@@ -67,22 +68,22 @@ column_lawful e name p = by (is_key_name name) where
   by true = All-cons IsValueOfBytes (class.Key e.key) [] (key_of_bytes e.key p.key) (All-nil IsValueOfBytes)
   by false = named_lawful e.properties name p.values
 
-lists_lawful : (e : EntityParts) (i : Index) → IsIndexable e → All (All IsValueOfBytes) (index_lists e i)
+lists_lawful : (e : EntityParts) (i : RowIndex) → IsIndexable e → All (All IsValueOfBytes) (index_lists e i)
 lists_lawful e AllByKey p = All-nil (All IsValueOfBytes)
 lists_lawful e KindByKey p = All-nil (All IsValueOfBytes)
 lists_lawful e (ByProperty name descending) p =
     All-cons (All IsValueOfBytes) (indexed_values e name) [] (named_lawful e.properties name p.values) (All-nil (All IsValueOfBytes))
 lists_lawful e (Composite n d) p =
-    each_map (All IsValueOfBytes) (λ (c : Column). column_values e c.name) (value_columns d.columns)
-    (each_of (λ (c : Column). All IsValueOfBytes (column_values e c.name)) (λ c. column_lawful e c.name p) (value_columns d.columns))
+    each_map (All IsValueOfBytes) (λ (c : Column). column_values e c.name) (front_columns d.columns)
+    (each_of (λ (c : Column). All IsValueOfBytes (column_values e c.name)) (λ c. column_lawful e c.name p) (front_columns d.columns))
 
-as_many : (e : EntityParts) (i : Index) → length (index_lists e i) ≡ length (directions i)
+as_many : (e : EntityParts) (i : RowIndex) → length (index_lists e i) ≡ length (directions i)
 as_many e AllByKey = refl
 as_many e KindByKey = refl
 as_many e (ByProperty name descending) = refl
 as_many e (Composite n d) =
-    length-map (value_columns d.columns) (λ (c : Column). column_values e c.name)
-    ∙ sym (length-map (value_columns d.columns) (λ (c : Column). c.descending))
+    length-map (front_columns d.columns) (λ (c : Column). column_values e c.name)
+    ∙ sym (length-map (front_columns d.columns) (λ (c : Column). c.descending))
 
 -- a way has a value of each list
 pub record IsWayOf (lists : List (List IndexValue)) (way : List IndexValue) : Type 0 where
@@ -123,7 +124,7 @@ ancestors_lawful k p =
     each_map IsKeyOfBytes (λ (path : List Elem). record { namespace = k.namespace; elems = path }) (paths_to k.elems)
     (λ n d below. record { namespace = p.namespace; elems = paths n d below })
 
-ancestors_suit : (i : Index) (k : KeyParts) → IsKeyOfBytes k → All (SuitsAncestor (has_ancestor i)) (row_ancestors i k)
+ancestors_suit : (i : RowIndex) (k : KeyParts) → IsKeyOfBytes k → All (SuitsAncestor (has_ancestor i)) (row_ancestors i k)
 ancestors_suit i k p = by (has_ancestor i) where
   by : (b : Bool) → All (SuitsAncestor b) (cond b (map (λ a. Some a) (ancestors k)) (None ∷ []))
   by true = each_map (SuitsAncestor true) (λ (a : KeyParts). Some a) (ancestors k) (ancestors_lawful k p)
@@ -131,10 +132,10 @@ ancestors_suit i k p = by (has_ancestor i) where
 
 -- ---- rows
 
-abbrev pub IsOwn : List IndexDef → EntityParts → Index → IndexRow → Type 0
+abbrev pub IsOwn : List IndexDef → EntityParts → RowIndex → IndexRow → Type 0
 IsOwn defs e i r = IsRowOf defs i r × (r.parts.key ≡ e.key)
 
-pub own_rows : (defs : List IndexDef) (e : EntityParts) (i : Index) → IsIndexable e → IsIndexOf defs i
+pub own_rows : (defs : List IndexDef) (e : EntityParts) (i : RowIndex) → IsIndexable e → IsIndexOf defs i
     → All (IsOwn defs e i) (index_rows e i)
 own_rows defs e i p index =
     let key : IsKeyOfBytes e.key = key_of_bytes e.key p.key in

@@ -23,7 +23,7 @@ use Rattle.ds_bytes.specs.AncestorLaws.{escaped-reads_once}
 use Rattle.ds_bytes.specs.Rows.{RowParts, row_bytes, row_cmp, IsRow}
 use Rattle.ds_bytes.specs.RowLaws.{row_bytes-ordered, row_bytes-reads_once}
 use Rattle.ds_rows.specs.IndexedValues.{kind_of}
-use Rattle.ds_rows.specs.Indexes.{Index, AllByKey, KindByKey, ByProperty, Composite, directions, key_descends, has_ancestor}
+use Rattle.ds_rows.specs.Indexes.{RowIndex, AllByKey, KindByKey, ByProperty, Composite, directions, index_key_descends, has_ancestor}
 use Rattle.ds_rows.specs.Rows.{IndexRow, four_bytes, index_front, ancestor_bytes, row_rest, index_row_bytes}
 use Rattle.ds_rows.specs.Laws.{IsIndexOf, SuitsAncestor, IsRowOf, HoldsKind, IsSameIndex, ancestor_cmp, index_row_cmp}
 
@@ -77,7 +77,7 @@ texts_three s t u s' t' u' a b e =
     (first.0, others.0, others.1, others.2)
 
 -- What stands in front tells the index, the namespace, and where the index is of a kind, the kind.
-pub fronts_apart : (defs : List IndexDef) → length defs < 2 ^ 32 → (i j : Index) (ns kind ns' kind' a b : List ℕ) → IsIndexOf defs i
+pub fronts_apart : (defs : List IndexDef) → length defs < 2 ^ 32 → (i j : RowIndex) (ns kind ns' kind' a b : List ℕ) → IsIndexOf defs i
     → IsIndexOf defs j
     → index_front i ns kind ++ a ≡ index_front j ns' kind' ++ b → IsSameIndex i j ns kind ns' kind' a b
 fronts_apart defs few AllByKey AllByKey ns kind ns' kind' a b p q e =
@@ -176,26 +176,26 @@ ancestors_apart false (Some x) y a b p q e = absurd p
 ancestors_apart false None (Some y) a b p q e = absurd q
 ancestors_apart false None None a b p q e = (refl, e)
 
-rests_apart : (defs : List IndexDef) (i : Index) (r s : IndexRow) → IsRowOf defs i r → IsRowOf defs i s → row_rest i r ≡ row_rest i s → r
+rests_apart : (defs : List IndexDef) (i : RowIndex) (r s : IndexRow) → IsRowOf defs i r → IsRowOf defs i s → row_rest i r ≡ row_rest i s → r
     ≡ s
 rests_apart defs i r s p q e =
-    let first = ancestors_apart (has_ancestor i) r.ancestor s.ancestor (row_bytes (directions i) (key_descends i) r.parts)
-    (row_bytes (directions i) (key_descends i) s.parts) p.ancestor q.ancestor e in
-    let parts = row_bytes-reads_once (directions i) (key_descends i) r.parts s.parts [] [] p.parts q.parts
-    (append-nil (row_bytes (directions i) (key_descends i) r.parts) ∙ first.1
-    ∙ sym (append-nil (row_bytes (directions i) (key_descends i) s.parts))) in
+    let first = ancestors_apart (has_ancestor i) r.ancestor s.ancestor (row_bytes (directions i) (index_key_descends i) r.parts)
+    (row_bytes (directions i) (index_key_descends i) s.parts) p.ancestor q.ancestor e in
+    let parts = row_bytes-reads_once (directions i) (index_key_descends i) r.parts s.parts [] [] p.parts q.parts
+    (append-nil (row_bytes (directions i) (index_key_descends i) r.parts) ∙ first.1
+    ∙ sym (append-nil (row_bytes (directions i) (index_key_descends i) s.parts))) in
     λ t. record { ancestor = first.0 t; parts = parts.0 t }
 
 -- Rows of different indexes differ, and in one index different rows do: so entities with different keys share none.
-pub rows_apart : (defs : List IndexDef) → AreDefs defs → (i j : Index) (r s : IndexRow) → IsRowOf defs i r → IsRowOf defs j s
+pub rows_apart : (defs : List IndexDef) → AreDefs defs → (i j : RowIndex) (r s : IndexRow) → IsRowOf defs i r → IsRowOf defs j s
     → index_row_bytes i r ≡ index_row_bytes j s → (i ≡ j) × (r ≡ s)
 rows_apart defs kept i j r s p q e =
     let front = fronts_apart defs kept.few i j r.parts.key.namespace (kind_of r.parts.key) s.parts.key.namespace (kind_of s.parts.key)
     (row_rest i r)
     (row_rest j s) p.index q.index e in (
       front.index,
-      rests_apart defs i r s p (subst (λ (k : Index). IsRowOf defs k s) (sym front.index) q)
-          (front.behind ∙ ap (λ (k : Index). row_rest k s) (sym front.index)),
+      rests_apart defs i r s p (subst (λ (k : RowIndex). IsRowOf defs k s) (sym front.index) q)
+          (front.behind ∙ ap (λ (k : RowIndex). row_rest k s) (sym front.index)),
     )
 
 -- ---- order
@@ -210,22 +210,22 @@ ancestors_ordered false None (Some y) a b p q = absurd q
 ancestors_ordered false None None a b p q = refl
 
 -- The rows of an index in one namespace, of one kind, compare by ancestor, then column by column, and then by key.
-pub rows_ordered : (defs : List IndexDef) (i : Index) (r s : IndexRow) → IsRowOf defs i r → IsRowOf defs i s
+pub rows_ordered : (defs : List IndexDef) (i : RowIndex) (r s : IndexRow) → IsRowOf defs i r → IsRowOf defs i s
     → r.parts.key.namespace ≡ s.parts.key.namespace → kind_of r.parts.key ≡ kind_of s.parts.key
     → bytes_cmp (index_row_bytes i r) (index_row_bytes i s) ≡ index_row_cmp i r s
 rows_ordered defs i r s p q namespaces kinds =
     ap (λ (front : List ℕ). bytes_cmp (index_row_bytes i r) (front ++ row_rest i s))
     (λ t. index_front i (sym namespaces t) (sym kinds t))
     ∙ bytes_cmp-front (index_front i r.parts.key.namespace (kind_of r.parts.key)) (row_rest i r) (row_rest i s)
-    ∙ ancestors_ordered (has_ancestor i) r.ancestor s.ancestor (row_bytes (directions i) (key_descends i) r.parts)
-    (row_bytes (directions i) (key_descends i) s.parts) p.ancestor q.ancestor
+    ∙ ancestors_ordered (has_ancestor i) r.ancestor s.ancestor (row_bytes (directions i) (index_key_descends i) r.parts)
+    (row_bytes (directions i) (index_key_descends i) s.parts) p.ancestor q.ancestor
     ∙ ap (λ (o : Ordering). ordering_then (ancestor_cmp r.ancestor s.ancestor) o)
-    (orders (row_bytes-ordered (directions i) (key_descends i)) r.parts s.parts p.parts q.parts)
+    (orders (row_bytes-ordered (directions i) (index_key_descends i)) r.parts s.parts p.parts q.parts)
 
 -- ---- rows that stand together
 
 -- a row that begins as those of an index do is one of them
-pub front_tells : (defs : List IndexDef) → AreDefs defs → (i j : Index) (namespace kind more : List ℕ) (r : IndexRow) → IsIndexOf defs i
+pub front_tells : (defs : List IndexDef) → AreDefs defs → (i j : RowIndex) (namespace kind more : List ℕ) (r : IndexRow) → IsIndexOf defs i
     → IsRowOf defs j r
     → index_row_bytes j r ≡ index_front i namespace kind ++ more
     → (j ≡ i) × (r.parts.key.namespace ≡ namespace) × HoldsKind j (kind_of r.parts.key) kind

@@ -2,8 +2,8 @@
 ghost use Rattle.std.specs.Prelude.{◌≡◌, [], ◌∷◌, ◌++◌, cond, flat_map, map, IfOk, OnOk};
 ghost use Rattle.ds_base.specs.declared.index_value.IndexValue.TheVariants as class;
 ghost use Rattle.ds_rows.specs.IndexedValues.{kind_of, kind_in, property_values, column_values};
-ghost use Rattle.ds_rows.specs.Indexes.{Index, Composite, composite_indexes, value_columns, last_key_descends};
-ghost use Rattle.ds_rows.specs.Indexes.{has_ancestor, directions, key_descends};
+ghost use Rattle.ds_rows.specs.Indexes.{RowIndex, Composite, composite_indexes, front_columns, last_key_descends};
+ghost use Rattle.ds_rows.specs.Indexes.{has_ancestor, directions, index_key_descends};
 ghost use Rattle.ds_rows.specs.Rows.{rows_in, ancestors, index_front, index_lists};
 ghost use Rattle.ds_bytes.specs.Encoding.{key_encoding};
 ghost use Rattle.ds_base.specs.Entities.{EntityParts};
@@ -11,10 +11,12 @@ ghost use Rattle.ds_indexdef.specs.Definitions.{AreDefs};
 ghost use Rattle.ds_rows.specs.Ways.{lists_of, directions_of, ancestor_rows};
 
 use crate::fronts::put_composite_front;
-use crate::indexed::{is_key_name, kind_of, values_named};
+use crate::indexed::{kind_of, values_named};
 use crate::row_set::RowWriter;
 use crate::ways::{ColumnValues, put_rows};
-use ds_base::{Buffer, Column, Entity, IndexValue, IndexValues, Key, NoMemory, TryCopy};
+use ds_base::{
+    Buffer, Column, Entity, IndexValue, IndexValues, Key, NoMemory, TryCopy, is_key_name,
+};
 use ds_bytes::{encode_ancestor, encode_key};
 use ds_indexdef::{Defs, IndexDef};
 use std::alloc::Global;
@@ -84,7 +86,7 @@ fn put_composite(
     let own_key = own_key(alloc, entity.key())?;
     let values = values_in(
         alloc,
-        value_columns(def.columns.as_slice()),
+        front_columns(def.columns.as_slice()),
         entity,
         lists,
         own_key.as_slice(),
@@ -116,8 +118,8 @@ fn put_for_index(
     rows: &mut RowWriter,
 ) -> Result<(), NoMemory>
     requires { rows.old.begun ≡ [] }
-    ensures { (e : EntityParts) (i : Index) → e.key ≡ key.now → has_ancestor i ≡ ancestor
-        → front.old.bytes ≡ index_front i e.key.namespace (kind_of e.key) → last.now ≡ key_encoding (key_descends i) e.key
+    ensures { (e : EntityParts) (i : RowIndex) → e.key ≡ key.now → has_ancestor i ≡ ancestor
+        → front.old.bytes ≡ index_front i e.key.namespace (kind_of e.key) → last.now ≡ key_encoding (index_key_descends i) e.key
         → lists_of columns.now ≡ index_lists e i → directions_of columns.now ≡ directions i
         → OnOk result (rows.new ≡ record { rows = rows.old.rows ++ rows_in e i; begun = [] }) }
 {
@@ -204,8 +206,8 @@ fn in_column<'a>(
 }
 
 /// The columns without a `__key__` at their end.
-fn value_columns(columns: &[Column]) -> &[Column]
-    ensures { result.now ≡ value_columns columns.now }
+fn front_columns(columns: &[Column]) -> &[Column]
+    ensures { result.now ≡ front_columns columns.now }
 {
     match columns.last() {
         Some(last) if is_key_name(&last.name) => &columns[..columns.len() - 1],

@@ -1,7 +1,7 @@
 //! What the rows of an index begin with.
 ghost use Rattle.std.specs.Prelude.{◌≡◌, ◌∷◌, ◌++◌, if◌then◌else◌, OnOk};
 ghost use Rattle.ds_bytes.specs.Encoding.{escaped};
-ghost use Rattle.ds_bytes.specs.Lawful.{AreBytes};
+ghost use Rattle.ds_base.specs.Bytes.{AreBytes};
 ghost use Rattle.ds_indexdef.specs.declared.IndexDef.{IndexDef};
 ghost use Rattle.ds_rows.specs.IndexedValues.{kind_of};
 ghost use Rattle.ds_rows.specs.Indexes.{AllByKey, KindByKey, ByProperty, Composite};

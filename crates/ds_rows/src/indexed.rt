@@ -4,7 +4,7 @@ ghost use Rattle.ds_base.specs.Entities.{EntityParts, names_ascend};
 ghost use Rattle.ds_base.specs.IndexOrder.{index_value_cmp};
 ghost use Rattle.ds_base.specs.Values.{index_of};
 ghost use Rattle.std.specs.BTreeSet.{insert_key};
-ghost use Rattle.ds_rows.specs.IndexedValues.{kind_of, property_values, indexed_values, is_key_name};
+ghost use Rattle.ds_rows.specs.IndexedValues.{kind_of, property_values, indexed_values};
 
 use ds_base::{Entity, IndexValue, IndexValues, Key, NoMemory, Property, TextString, Value};
 use std::alloc::Global;
@@ -18,13 +18,6 @@ pub fn kind_of(key: &Key) -> &[u8]
         Some(elem) => elem.kind.bytes(),
         None => &[],
     }
-}
-
-/// Whether the name is that of the column of keys.
-pub(crate) fn is_key_name(name: &TextString) -> bool
-    ensures { result ≡ is_key_name name.now }
-{
-    name.text() == "__key__"
 }
 
 /// The values of each property that its indexes hold, each once, ascending, in the order of the properties.

@@ -1,7 +1,8 @@
 //! The rows of an entity.
 ghost use Rattle.std.specs.Prelude.{◌≡◌, [], ◌++◌, flat_map, map, All, IfOk, OnOk};
 ghost use Rattle.ds_bytes.specs.Encoding.{key_bytes};
-ghost use Rattle.ds_bytes.specs.Lawful.{AreBytes, IsLawfulValue};
+ghost use Rattle.ds_bytes.specs.Lawful.{IsLawfulValue};
+ghost use Rattle.ds_base.specs.Bytes.{AreBytes};
 ghost use Rattle.ds_rows.specs.IndexedValues.{property_values, indexed_values};
 ghost use Rattle.ds_rows.specs.Indexes.{AllByKey, KindByKey, ByProperty, property_indexes};
 ghost use Rattle.ds_rows.specs.Rows.{rows_in, rows_of};

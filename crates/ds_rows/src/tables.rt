@@ -30,8 +30,8 @@ pub trait Tables {
     ghost versions: { Self → List Version };
 
     /// The first row, by bytes, that is seen at the stamp `at`, isn't below `at_least`, and is below `below` where that is
-    /// given; `None` exactly where there is none. It takes one step at most, and one more for each row in that range, up to the
-    /// one that it gives, of a version that isn't seen at the stamp. It takes no memory.
+    /// given; `None` exactly where there is none. It takes a step, and at most one more for each row in that range, up to the one
+    /// that it gives, of a version that isn't seen at the stamp. It takes no memory.
     ///
     /// Whoever implements it shows too that its definitions are distinct, that its entities have an encoding, and that at
     /// the stamp there is one entity of each key.
@@ -49,7 +49,7 @@ pub trait Tables {
         ensures steps_bounded { steps.new ≤ steps.old + 1
             + rows_passed at_least.now (option_copied below.entry) (option_copied result)
             (unseen_rows (definitions self.now) at (versions self.now)) }
-        ensures steps_stay_counted { steps.old ≤ steps.new }
+        ensures takes_a_step { steps.old + 1 ≤ steps.new }
         ensures stands { AreTables (definitions self.now) at (versions self.now) };
 
     /// The same call with a place near which to look first, at first 0; it leaves there where it ended. Every place gives the
@@ -69,7 +69,7 @@ pub trait Tables {
         ensures steps_bounded { steps.new ≤ steps.old + 1
             + rows_passed at_least.now (option_copied below.entry) (option_copied result)
             (unseen_rows (definitions self.now) at (versions self.now)) }
-        ensures steps_stay_counted { steps.old ≤ steps.new }
+        ensures takes_a_step { steps.old + 1 ≤ steps.new }
         ensures stands { AreTables (definitions self.now) at (versions self.now) }
     {
         let _near = near;
@@ -82,12 +82,11 @@ pub trait Tables {
         requires kept { IsTrue (keeps self.now at) }
         ensures { AreTables (definitions self.now) at (versions self.now) };
 
-    /// The entity of this key that is seen at the stamp `at`; `None` exactly where there is none. It takes one step at most,
-    /// and no memory.
+    /// The entity of this key that is seen at the stamp `at`; `None` exactly where there is none. It takes one step, and no
+    /// memory.
     fn entity<L: Ledger>(&self, at: u64, key: &Key, steps: &mut Steps<L>) -> Option<&Entity>
         requires its_ledger { L.name ≡ ledger }
         requires kept { IsTrue (keeps self.now at) }
         ensures finds { option_copied result ≡ find (λ e. same_key e.key key.now) (entities_at at (versions self.now)) }
-        ensures steps_bounded { steps.new ≤ steps.old + 1 }
-        ensures steps_stay_counted { steps.old ≤ steps.new };
+        ensures steps { steps.new ≡ steps.old + 1 };
 }

@@ -9,8 +9,33 @@ use std::test::Fail;
 /// The names of the properties, ascending.
 const NAMES: [&str; 5] = ["a", "b", "c", "d", "e"];
 
-/// A definition over the first properties, so many.
+/// How many numbers the two properties have, the width of the definition over the first of them, or 0 for none, and the rows.
+type Case = (i64, i64, usize, u64);
+
+/// The entity of a hundred and two hundred numbers: 1 + 600 + 20,000 rows, and with the definition gone 601. With 81 and 239
+/// numbers it has 1 + 640 + 19,359, which is the limit, and with 10 and 1,665 one more.
+const UP_TO_THE_LIMIT: [Case; 4] = [
+    (100, 200, 2, 20_601),
+    (100, 200, 0, 601),
+    (81, 239, 2, 20_000),
+    (10, 1_665, 2, 20_001),
+];
+
+/// How many numbers each of five properties has, the width of the definition, and the rows.
+type Wide = (i64, usize, u64);
+
+/// Five columns of three numbers have 243 combinations; of 10,000 numbers there are more than 64 bits tell.
+const FAR_BEYOND: [Wide; 3] = [
+    (3, 5, 1 + 30 + 243),
+    (100, 3, 1 + 1_000 + 1_000_000),
+    (10_000, 5, 9_223_372_036_854_775_807),
+];
+
+/// A definition over the first properties, so many; none over no property.
 fn composite(alloc: Global, ancestor: bool, width: usize) -> Result<Defs, Fail> {
+    if width == 0 {
+        return Ok(Defs::new(alloc));
+    }
     let mut columns = Vec::new(alloc);
     for name in NAMES.iter().take(width) {
         columns.push(column(alloc, name, false)?)?;
@@ -53,34 +78,34 @@ fn has_rows(alloc: Global, defs: &Defs, entity: &Entity, rows: u64) -> bool {
     }
 }
 
-/// The entity of a hundred and two hundred numbers: 1 + 600 + 20,000 rows, and with the definition gone 601. With 81 and 239
-/// numbers it has 1 + 640 + 19,359, which is the limit, and with 10 and 1,665 one more.
-fn counts_up_to_the_limit(alloc: Global) -> Result<bool, Fail> {
-    let defs = composite(alloc, false, 2)?;
-    let none = Defs::new(alloc);
-    let many = two_of(alloc, 100, 200)?;
-    let most = two_of(alloc, 81, 239)?;
-    let over = two_of(alloc, 10, 1_665)?;
-    Ok(
-        has_rows(alloc, &defs, &many, 20_601)
-            && has_rows(alloc, &none, &many, 601)
-            && has_rows(alloc, &defs, &most, 20_000)
-            && has_rows(alloc, &defs, &over, 20_001),
-    )
+fn is_counted(alloc: Global, case: &Case) -> Result<bool, Fail> {
+    let entity = two_of(alloc, case.0, case.1)?;
+    let defs = composite(alloc, false, case.2)?;
+    Ok(has_rows(alloc, &defs, &entity, case.3))
 }
 
-/// Five columns of three numbers have 243 combinations; of 10,000 numbers there are more than 64 bits tell.
+fn is_wide_counted(alloc: Global, case: &Wide) -> Result<bool, Fail> {
+    let entity = five_of(alloc, case.0)?;
+    let defs = composite(alloc, false, case.1)?;
+    Ok(has_rows(alloc, &defs, &entity, case.2))
+}
+
+fn counts_up_to_the_limit(alloc: Global) -> Result<bool, Fail> {
+    for case in &UP_TO_THE_LIMIT {
+        if !is_counted(alloc, case)? {
+            return Ok(false);
+        }
+    }
+    Ok(true)
+}
+
 fn counts_far_beyond(alloc: Global) -> Result<bool, Fail> {
-    let defs = composite(alloc, false, 5)?;
-    let three = composite(alloc, false, 3)?;
-    let few = five_of(alloc, 3)?;
-    let hundred = five_of(alloc, 100)?;
-    let many = five_of(alloc, 10_000)?;
-    Ok(
-        has_rows(alloc, &defs, &few, 1 + 30 + 243)
-            && has_rows(alloc, &three, &hundred, 1 + 1_000 + 1_000_000)
-            && has_rows(alloc, &defs, &many, 9_223_372_036_854_775_807),
-    )
+    for case in &FAR_BEYOND {
+        if !is_wide_counted(alloc, case)? {
+            return Ok(false);
+        }
+    }
+    Ok(true)
 }
 
 /// A definition with a property that the entity hasn't gives no row.

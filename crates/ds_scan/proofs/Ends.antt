@@ -1,5 +1,6 @@
 -- The end of the rows that begin with a prefix.
-use Rattle.std.proofs.Common.{◌≡◌, ℕ, zero, suc, ◌+◌, ◌<◌, ◌≤◌, Bool, true, false, List, [], ◌∷◌, ◌++◌, length, take, get_or, refl, sym, ◌∙◌, ap, arith}
+use Rattle.std.proofs.Common.{◌≡◌, ℕ, zero, suc, ◌+◌, ◌<◌, ◌≤◌, Bool, true, false, List, [], ◌∷◌, ◌++◌, length, take, get_or, refl, sym}
+use Rattle.std.proofs.Common.{◌∙◌, ap, arith}
 use Rattle.std.specs.Prelude.{◌&&◌, ◌==◌, not, nat_lt, if◌then◌else◌, Option, Some, None}
 use Rattle.std.specs.declared.cmp.Ordering.{Ordering}
 use Rattle.std.specs.declared.cmp.Ordering.TheVariants.{Less, Equal, Greater}
@@ -10,7 +11,8 @@ use Rattle.std.proofs.lemmas.Bool.Decides.{nat_tests}
 use Rattle.std.proofs.lemmas.Cmp.{ranked}
 use Rattle.std.proofs.lemmas.List.Elements.{All-head, All-tail}
 use Rattle.ds_base.specs.KeyOrder.{bytes_cmp}
-use Rattle.ds_table.specs.Versions.{AreBytes, is_below, is_before, in_range}
+use Rattle.ds_table.specs.Versions.{is_below, is_before, in_range}
+use Rattle.ds_base.specs.Bytes.{AreBytes}
 use Rattle.ds_scan.specs.Ranges.{begins_with, prefix_end, end_behind}
 use Rattle.ds_scan.specs.RangeLaws.{begins-is}
 use Rattle.ds_scan.proofs.Order.{first_true, second_true, both_true, was_false, not_false, equal_byte, byte_equal, cmp-behind}

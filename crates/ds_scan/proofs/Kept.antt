@@ -1,9 +1,11 @@
 -- What a scan of a range keeps, and what a seek of its rows tells from it.
-use Rattle.std.proofs.Common.{◌≡◌, ℕ, ◌<◌, ◌≤◌, Bool, true, false, cond, List, [], ◌∷◌, ◌++◌, length, take, drop, get_or, refl, sym, ◌∙◌, ap, subst, arith, Bor}
+use Rattle.std.proofs.Common.{◌≡◌, ℕ, ◌<◌, ◌≤◌, Bool, true, false, cond, List, [], ◌∷◌, ◌++◌, length, take, drop, get_or, refl, sym, ◌∙◌}
+use Rattle.std.proofs.Common.{ap, subst, arith, Bor}
 use Rattle.std.specs.Prelude.{All, Option, Some, None, option_map, option_copied, IfSome, find}
 use Rattle.std.proofs.lemmas.List.{get_or_default, length-take-le}
 use Rattle.ds_zigzag.specs.Spans.{is_from, count_from}
-use Rattle.ds_table.specs.Versions.{AreBytes, in_range}
+use Rattle.ds_table.specs.Versions.{in_range}
+use Rattle.ds_base.specs.Bytes.{AreBytes}
 use Rattle.ds_scan.specs.Ranges.{begins_with, rest, is_in, rests, rows_passed, end_of_range, later}
 use Rattle.ds_scan.specs.Kept.{high_of, range_of, IsKept}
 use Rattle.ds_scan.specs.RangeLaws.{begins-is}

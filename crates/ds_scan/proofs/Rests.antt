@@ -11,7 +11,8 @@ use Rattle.std.proofs.lemmas.List.Elements.{All-head, All-tail}
 use Rattle.ds_base.specs.KeyOrder.{bytes_cmp}
 use Rattle.ds_base.specs.SortingLaws.{Ascends, Ascends-from_IsSorted, IsSorted-from_Ascends}
 use Rattle.ds_zigzag.specs.Spans.{is_from, is_within, count_from}
-use Rattle.ds_table.specs.Versions.{AreBytes, is_below, is_before, in_range}
+use Rattle.ds_table.specs.Versions.{is_below, is_before, in_range}
+use Rattle.ds_base.specs.Bytes.{AreBytes}
 use Rattle.ds_scan.specs.Ranges.{Range, begins_with, rest, is_in, rests, rows_passed, end_of_range, later}
 use Rattle.ds_scan.specs.RangeLaws.{begins-is}
 use Rattle.ds_scan.proofs.Order.{first_true, second_true, both_true, was_false, not_false, from_later, to_later, cmp-behind, between}

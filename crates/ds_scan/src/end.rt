@@ -1,6 +1,7 @@
 //! Where the rows that begin with a prefix end.
 ghost use Rattle.std.specs.Prelude.{◌≡◌, ℕ, ◌+◌, ◌<◌, ◌≤◌, List, length, take, IfOk, slice_index};
-ghost use Rattle.ds_table.specs.Versions.{AreBytes, in_range};
+ghost use Rattle.ds_table.specs.Versions.{in_range};
+ghost use Rattle.ds_base.specs.Bytes.{AreBytes};
 ghost use Rattle.ds_scan.specs.Ranges.{begins_with, prefix_end};
 
 use ds_base::ByteString;

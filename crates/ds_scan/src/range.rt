@@ -1,6 +1,6 @@
 //! The rows of a range as a scan of what follows their prefix.
 ghost use Rattle.std.specs.Prelude.{◌≡◌, ℕ, ◌+◌, ◌≤◌, ◌++◌, List, length, take, drop, option_copied, option_map, IfOk, IfSome, OnOk};
-ghost use Rattle.ds_table.specs.Versions.{AreBytes};
+ghost use Rattle.ds_base.specs.Bytes.{AreBytes};
 ghost use Rattle.ds_scan.specs.Ranges.{later, end_of_range};
 
 use crate::end::end_of_prefix;
@@ -56,7 +56,15 @@ impl<R: Drop> RangeScan<R> {
         low: &[u8],
         high: Option<&[u8]>,
     ) -> Result<RangeScan<R>, AllocError>
-        ensures { IfOk result (λ scan. scan ≡ record { rows = rows; range = record { prefix = prefix.now; low = low.now; high = option_copied high.entry } }) }
+        ensures { IfOk result (λ scan. scan ≡ record {
+          rows = rows;
+          range = record {
+            prefix = prefix.now;
+            low = low.now;
+            high =
+                option_copied high.entry;
+          };
+        }) }
     {
         let sought = Vec::from_slice(alloc, prefix)?;
         let low = ByteString::of(alloc, low)?;

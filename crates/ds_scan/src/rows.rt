@@ -2,7 +2,8 @@
 ghost use Rattle.std.specs.Prelude.{◌≡◌, ℕ, ◌+◌, ◌≤◌, List, All, find, option_copied};
 ghost use Rattle.std.specs.List.Sorted.{IsSorted, IsStrictlySortedBy};
 ghost use Rattle.ds_base.specs.KeyOrder.{bytes_cmp};
-ghost use Rattle.ds_table.specs.Versions.{AreBytes, in_range};
+ghost use Rattle.ds_table.specs.Versions.{in_range};
+ghost use Rattle.ds_base.specs.Bytes.{AreBytes};
 ghost use Rattle.ds_scan.specs.Ranges.{rows_passed};
 
 use ds_io::Steps;
@@ -22,8 +23,8 @@ pub trait Rows {
     ghost unseen: { Self → List (List ℕ) };
 
     /// The least row that is seen, isn't below `at_least` and, where it is given, is below `below`; `None` exactly where there
-    /// is none. It takes no memory. It takes one step at most, and one more for each unseen row of that range that isn't above
-    /// the row given, or that is in the range where none is given.
+    /// is none. It takes no memory. It takes a step, and at most one more for each unseen row of that range that isn't
+    /// above the row given, or that is in the range where none is given.
     ///
     /// Whoever implements it shows too that the rows seen ascend, each above the one before it, and that the unseen ones don't
     /// fall and are bytes.
@@ -37,7 +38,7 @@ pub trait Rows {
         ensures finds_the_first { option_copied result ≡ find (in_range at_least.now (option_copied below.entry)) (seen self.now) }
         ensures steps_bounded { steps.new ≤ steps.old + 1
             + rows_passed at_least.now (option_copied below.entry) (option_copied result) (unseen self.now) }
-        ensures steps_stay_counted { steps.old ≤ steps.new }
+        ensures takes_a_step { steps.old + 1 ≤ steps.new }
         ensures rows_ascend { IsStrictlySortedBy bytes_cmp (seen self.now) }
         ensures passed_do_not_fall { IsSorted bytes_cmp (unseen self.now) }
         ensures passed_are_bytes { All AreBytes (unseen self.now) };
@@ -55,7 +56,7 @@ pub trait Rows {
         ensures finds_the_first { option_copied result ≡ find (in_range at_least.now (option_copied below.entry)) (seen self.now) }
         ensures steps_bounded { steps.new ≤ steps.old + 1
             + rows_passed at_least.now (option_copied below.entry) (option_copied result) (unseen self.now) }
-        ensures steps_stay_counted { steps.old ≤ steps.new }
+        ensures takes_a_step { steps.old + 1 ≤ steps.new }
         ensures rows_ascend { IsStrictlySortedBy bytes_cmp (seen self.now) }
         ensures passed_do_not_fall { IsSorted bytes_cmp (unseen self.now) }
         ensures passed_are_bytes { All AreBytes (unseen self.now) }

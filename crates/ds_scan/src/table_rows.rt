@@ -50,7 +50,8 @@ impl<'a, L: Ledger> Rows for TableRows<'a, L> {
         below: Option<&[u8]>,
         steps: &mut Steps<M>,
     ) -> Option<&[u8]> {
-        self.view.seek(at_least, below, steps)
+        let mut near = 0;
+        self.seek_near(at_least, below, &mut near, steps)
     }
 
     fn seek_near<M: Ledger>(

@@ -1,5 +1,6 @@
 -- An entity that begins has its rows added.
-use Rattle.std.proofs.Common.{◌≡◌, ℕ, ◌+◌, ◌<◌, Bool, true, false, cond, List, [], ◌∷◌, ◌++◌, map, Option, Some, None, refl, sym, ap, ◌∙◌, subst, arith}
+use Rattle.std.proofs.Common.{◌≡◌, ℕ, ◌+◌, ◌<◌, Bool, true, false, cond, List, [], ◌∷◌, ◌++◌, map, Option, Some, None, refl, sym, ap, ◌∙◌}
+use Rattle.std.proofs.Common.{subst, arith}
 use Rattle.std.specs.Prelude.{◌||◌, ◌==◌, find, option_map, bytes_eq}
 use Rattle.std.specs.List.{list_any}
 use Rattle.std.specs.Ordering.{is_lt}
@@ -10,7 +11,8 @@ use Rattle.ds_indexdef.specs.declared.IndexDef.{IndexDef}
 use Rattle.ds_rows.specs.Rows.{rows_of}
 use Rattle.ds_rows.specs.Versions.{Version}
 use Rattle.ds_table.specs.Versions as table
-use Rattle.ds_shard.specs.Histories.{Each, EndsBy, is_open, is_current, with_version, outlives, trimmed}
+use Rattle.ds_shard.specs.Histories.{EndsBy, is_open, is_current, with_version, outlives, trimmed}
+use Rattle.std.specs.List.{AllByRecursion as Each}
 use Rattle.ds_shard.specs.Rows.{end_in_table, row_of, rows_of_version, rows_of_versions, all_added}
 use Rattle.ds_shard.specs.Contents.{counted}
 use Rattle.ds_shard.proofs.Currents.{and_false}
@@ -21,7 +23,7 @@ use Rattle.ds_shard.proofs.Closing.{not_never}
 
 -- ---- counts
 
-counted-one : (p : table.Version → Bool) (v : table.Version) (vs : List table.Version)
+counted-one : (p : table.RowVersion → Bool) (v : table.RowVersion) (vs : List table.RowVersion)
     → counted p (table.with_version v vs) ≡ cond (p v) 1 0 + counted p vs
 counted-one p v [] = refl
 counted-one p v (w ∷ ws) = by (table.is_below v.row w.row) (counted-one p v ws) where
@@ -31,10 +33,10 @@ counted-one p v (w ∷ ws) = by (table.is_below v.row w.row) (counted-one p v ws
   by false i = omega (arith, i)
 
 -- a new version of each row
-abbrev pub new_rows : ℕ → List (List ℕ) → List table.Version
+abbrev pub new_rows : ℕ → List (List ℕ) → List table.RowVersion
 new_rows stamp = map (λ x. record { row = x; from = stamp; to = table.never })
 
-pub counted-added : (p : table.Version → Bool) (stamp : ℕ) (rows : List (List ℕ)) (vs : List table.Version)
+pub counted-added : (p : table.RowVersion → Bool) (stamp : ℕ) (rows : List (List ℕ)) (vs : List table.RowVersion)
     → counted p (all_added stamp vs rows) ≡ counted p (new_rows stamp rows) + counted p vs
 counted-added p stamp [] vs = omega arith
 counted-added p stamp (x ∷ rows) vs =
@@ -42,7 +44,7 @@ counted-added p stamp (x ∷ rows) vs =
     let one = counted-one p (record { row = x; from = stamp; to = table.never }) vs in
     omega (arith, i, one)
 
-module _ (defs : List IndexDef) (floor : ℕ) (p : table.Version → Bool) where
+module _ (defs : List IndexDef) (floor : ℕ) (p : table.RowVersion → Bool) where
   abbrev count : List Version → ℕ
   count vs = counted p (rows_of_versions defs (trimmed floor vs))
 

@@ -1,5 +1,6 @@
 -- The versions of all keys, where the versions of one key are read or changed.
-use Rattle.std.proofs.Common.{◌≡◌, ℕ, Bool, true, false, cond, List, [], ◌∷◌, ◌++◌, Option, Some, None, refl, sym, ap, ◌∙◌, subst, append_assoc}
+use Rattle.std.proofs.Common.{◌≡◌, ℕ, Bool, true, false, cond, List, [], ◌∷◌, ◌++◌, Option, Some, None, refl, sym, ap, ◌∙◌, subst}
+use Rattle.std.proofs.Common.{append_assoc}
 use Rattle.std.specs.Prelude.{◌&&◌, find, filter, option_map, if◌then◌else◌}
 use Rattle.std.specs.List.{filter_map, AllByRecursion, cons_option}
 use Rattle.std.specs.List.Sorted.{IsStrictlySortedBy}
@@ -15,7 +16,9 @@ use Rattle.ds_base.specs.KeyOrder.{key_cmp, same_key}
 use Rattle.ds_base.specs.KeyOrderLaws.{key_cmp-total, key_cmp-same, key_cmp-Equal}
 use Rattle.ds_base.specs.Entities.{EntityParts}
 use Rattle.ds_rows.specs.Versions.{Version, is_seen, entities_at}
-use Rattle.ds_shard.specs.Histories.{Each, IsHistory, IsOver, IsOverAt, is_open, until_stamp, ended, trimmed_at, outlives, with_version, joined, AreOwn}
+use Rattle.ds_shard.specs.Histories.{IsHistory, IsOver, IsOverAt, is_open, until_stamp, ended, trimmed_at, outlives, with_version, joined}
+use Rattle.ds_shard.specs.Histories.{AreOwn}
+use Rattle.std.specs.List.{AllByRecursion as Each}
 use Rattle.ds_shard.proofs.HistoryLaws.{end_open}
 
 abbrev pub Entry : Type 0

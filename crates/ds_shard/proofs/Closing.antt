@@ -1,5 +1,6 @@
 -- An entity that ends has its rows closed.
-use Rattle.std.proofs.Common.{◌≡◌, ℕ, ◌<◌, ◌≤◌, Bool, true, false, cond, List, [], ◌∷◌, ◌++◌, map, Option, Some, None, refl, sym, ap, ◌∙◌, subst, arith}
+use Rattle.std.proofs.Common.{◌≡◌, ℕ, ◌<◌, ◌≤◌, Bool, true, false, cond, List, [], ◌∷◌, ◌++◌, map, Option, Some, None, refl, sym, ap, ◌∙◌}
+use Rattle.std.proofs.Common.{subst, arith}
 use Rattle.std.specs.Prelude.{◌&&◌, ◌==◌, if◌then◌else◌, bytes_eq}
 use Rattle.std.specs.List.{list_any}
 use Rattle.std.proofs.lemmas.Bool.Decides.{nat_tests}
@@ -11,7 +12,8 @@ use Rattle.ds_indexdef.specs.declared.IndexDef.{IndexDef}
 use Rattle.ds_rows.specs.Rows.{rows_of}
 use Rattle.ds_rows.specs.Versions.{Version}
 use Rattle.ds_table.specs.Versions as table
-use Rattle.ds_shard.specs.Histories.{Each, EndsWithin, is_open, is_current, until_stamp, ended, outlives, trimmed}
+use Rattle.ds_shard.specs.Histories.{EndsWithin, is_open, is_current, until_stamp, ended, outlives, trimmed}
+use Rattle.std.specs.List.{AllByRecursion as Each}
 use Rattle.ds_shard.specs.Rows.{end_in_table, row_of, rows_of_version, rows_of_versions, all_closed}
 use Rattle.ds_shard.proofs.Currents.{and_false}
 use Rattle.ds_shard.proofs.Trimming.{outlives-after}
@@ -20,11 +22,11 @@ use Rattle.ds_shard.proofs.RowsApart.{NotAmong, each_more, none_among, among_its
 -- ---- many rows at once
 
 -- the version is a life, which isn't closed, of one of these rows
-abbrev pub alive_in : List (List ℕ) → table.Version → Bool
+abbrev pub alive_in : List (List ℕ) → table.RowVersion → Bool
 alive_in rows v = list_any (bytes_eq v.row) rows && v.to == table.never
 
 -- the version with its life closed, if it is so
-abbrev pub closed_in : ℕ → List (List ℕ) → table.Version → table.Version
+abbrev pub closed_in : ℕ → List (List ℕ) → table.RowVersion → table.RowVersion
 closed_in stamp rows v = if alive_in rows v then table.ended_at stamp v else v
 
 pub not_never : (n : ℕ) → n < table.never → (n == table.never) ≡ false
@@ -37,7 +39,7 @@ map_itself : {X : Type 0} (xs : List X) → xs ≡ map (λ x. x) xs
 map_itself [] = refl
 map_itself (x ∷ xs) = ap (λ ys. x ∷ ys) (map_itself xs)
 
-one_more : (stamp : ℕ) → stamp < table.never → (r : List ℕ) (rs : List (List ℕ)) (v : table.Version)
+one_more : (stamp : ℕ) → stamp < table.never → (r : List ℕ) (rs : List (List ℕ)) (v : table.RowVersion)
     → closed_in stamp rs (if table.is_alive r v then table.ended_at stamp v else v) ≡ closed_in stamp (r ∷ rs) v
 one_more stamp h r rs v = by (bytes_eq v.row r) (v.to == table.never) refl refl where
   by : (b c : Bool) → bytes_eq v.row r ≡ b → (v.to == table.never) ≡ c
@@ -51,7 +53,7 @@ one_more stamp h r rs v = by (bytes_eq v.row r) (v.to == table.never) refl refl 
       ∙ sym (ap (λ a. cond a (table.ended_at stamp v) v) (and_false (list_any (bytes_eq v.row) (r ∷ rs)) (v.to == table.never) f))
   by false c e f = rw e refl
 
-many_closed : (stamp : ℕ) → stamp < table.never → (r : List ℕ) (rs : List (List ℕ)) (vs : List table.Version)
+many_closed : (stamp : ℕ) → stamp < table.never → (r : List ℕ) (rs : List (List ℕ)) (vs : List table.RowVersion)
     → map (closed_in stamp rs) (table.closed r stamp vs) ≡ map (closed_in stamp (r ∷ rs)) vs
 many_closed stamp h r rs [] = refl
 many_closed stamp h r rs (v ∷ vs) =
@@ -59,7 +61,7 @@ many_closed stamp h r rs (v ∷ vs) =
     let rest = many_closed stamp h r rs vs in
     λ t. first t ∷ rest t
 
-pub all_closed_map : (stamp : ℕ) → stamp < table.never → (rows : List (List ℕ)) (vs : List table.Version)
+pub all_closed_map : (stamp : ℕ) → stamp < table.never → (rows : List (List ℕ)) (vs : List table.RowVersion)
     → all_closed stamp vs rows ≡ map (closed_in stamp rows) vs
 all_closed_map stamp h [] vs = map_itself vs
 all_closed_map stamp h (r ∷ rs) vs = all_closed_map stamp h rs (table.closed r stamp vs) ∙ many_closed stamp h r rs vs

@@ -17,9 +17,10 @@ use Rattle.ds_log.specs.declared.Write.TheVariants.{Put, Delete}
 use Rattle.ds_log.specs.Logs.{key_of}
 use Rattle.ds_log.specs.After.{apply_write, without}
 use Rattle.ds_rows.specs.Versions.{Version, is_before, is_seen, entities_at}
-use Rattle.ds_shard.specs.Histories.{Each, EndsWithin, is_open, is_current, ended, with_version, written}
+use Rattle.ds_shard.specs.Histories.{EndsWithin, is_open, is_current, ended, with_version, written}
+use Rattle.std.specs.List.{AllByRecursion as Each}
 use Rattle.ds_shard.specs.Contents.{IsGiven, version_cmp}
-use Rattle.ds_shard.specs.Shards.{entity_cmp, by_key}
+use Rattle.ds_base.specs.EntityOrder.{entity_cmp, sorted_by_key}
 
 -- the entities of the open versions
 abbrev pub currents : List Version → List EntityParts
@@ -132,7 +133,7 @@ currents-with v (w ∷ ws) o a none = by (key_cmp v.entity.key w.entity.key) (is
 
 -- what a write leaves open is what it leaves
 pub currents-written : (n : ℕ) (vs : List Version) (w : Write) (es : List EntityParts) → Ascends version_cmp (ended n (key_of w) vs)
-    → currents vs ≡ by_key es → currents (written n vs w) ≡ by_key (apply_write es w)
+    → currents vs ≡ sorted_by_key es → currents (written n vs w) ≡ sorted_by_key (apply_write es w)
 currents-written n vs (Delete k) es a is = currents-ended n k vs ∙ ap (without k) is ∙ sym (sorted_by-filter entities_total (λ e. not (same_key e.key k)) es)
 currents-written n vs (Put e) es a is =
     currents-with (record { entity = e; from = n; until = None }) (ended n e.key vs) refl a (none-ended n e.key vs)

@@ -1,12 +1,15 @@
 -- The versions of one key stay a history as one is added, ended, taken back or taken out.
-use Rattle.std.proofs.Common.{◌≡◌, ℕ, ◌<◌, ◌≤◌, Bool, true, false, cond, List, [], ◌∷◌, ◌++◌, map, Option, Some, None, refl, sym, ap, subst, arith}
+use Rattle.std.proofs.Common.{◌≡◌, ℕ, ◌<◌, ◌≤◌, Bool, true, false, cond, List, [], ◌∷◌, ◌++◌, map, Option, Some, None, refl, sym, ap, subst}
+use Rattle.std.proofs.Common.{arith}
 use Rattle.std.specs.Prelude.{filter, nat_eq, if◌then◌else◌}
 use Rattle.std.specs.List.{filter_map}
 use Rattle.std.proofs.lemmas.List.{map-append}
 use Rattle.std.proofs.lemmas.Bool.Decides.{nat_tests}
 use Rattle.ds_rows.specs.Versions.{Version, is_before}
 use Rattle.ds_shard.specs.declared.version_list.Kept.{Kept}
-use Rattle.ds_shard.specs.Histories.{Each, BeginsBy, EndsBy, EndsFrom, IsOver, Precedes, IsHistory, is_open, until_stamp, before_stamp, ends_at, version_of, outlives, trimmed, first_is_over}
+use Rattle.ds_shard.specs.Histories.{BeginsBy, EndsBy, EndsFrom, IsOver, Precedes, IsHistory, is_open, until_stamp, before_stamp, ends_at}
+use Rattle.ds_shard.specs.Histories.{version_of, outlives, trimmed, first_is_over}
+use Rattle.std.specs.List.{AllByRecursion as Each}
 
 pub closed : (u : Option ℕ) (stamp : ℕ) → EndsBy stamp u → is_open u ≡ false
 closed None stamp h = absurd h

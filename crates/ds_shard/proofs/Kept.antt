@@ -13,7 +13,8 @@ use Rattle.ds_base.specs.SortingLaws.{NoneBefore, Ascends}
 use Rattle.ds_log.specs.declared.Write.{Write}
 use Rattle.ds_log.specs.declared.Write.TheVariants.{Put, Delete}
 use Rattle.ds_rows.specs.Versions.{Version, is_before, is_seen, entities_at}
-use Rattle.ds_shard.specs.Histories.{Each, EndsWithin, is_open, is_current, ended, with_version, written, outlives, trimmed}
+use Rattle.ds_shard.specs.Histories.{EndsWithin, is_open, is_current, ended, with_version, written, outlives, trimmed}
+use Rattle.std.specs.List.{AllByRecursion as Each}
 use Rattle.ds_shard.specs.Contents.{IsGiven, version_cmp}
 use Rattle.ds_shard.proofs.Currents.{and_false, le_false, lt_true}
 

@@ -1,5 +1,6 @@
 -- What a call that reads or changes the versions of one key leaves of all.
-use Rattle.std.proofs.Common.{◌≡◌, ℕ, Bool, true, false, List, [], ◌∷◌, ◌++◌, Option, Some, None, Result, Ok, Err, refl, sym, ap, ◌∙◌, subst}
+use Rattle.std.proofs.Common.{◌≡◌, ℕ, Bool, true, false, List, [], ◌∷◌, ◌++◌, Option, Some, None, Result, Ok, Err, refl, sym, ap, ◌∙◌}
+use Rattle.std.proofs.Common.{subst}
 use Rattle.std.specs.Prelude.{find, option_map, OnOk, OnErr, nat_eq}
 use Rattle.std.specs.List.{filter_map}
 use Rattle.std.specs.Map.{set_value, remove_entry}
@@ -11,10 +12,15 @@ use Rattle.ds_base.specs.Keys.{KeyParts}
 use Rattle.ds_base.specs.KeyOrder.{key_cmp, same_key}
 use Rattle.ds_base.specs.Entities.{EntityParts}
 use Rattle.ds_rows.specs.Versions.{Version, is_seen, entities_at}
-use Rattle.ds_shard.specs.Histories.{Each, EndsFrom, IsHistory, IsOver, IsOverAt, is_open, is_current, until_stamp, before_stamp, ends_at, outlives, with_version, joined, AreOwn, AreByKey, AreByKeyBut, IsFilled, AreFilled, AreFilledBut}
+use Rattle.ds_shard.specs.Histories.{EndsFrom, IsHistory, IsOver, IsOverAt, is_open, is_current, until_stamp, before_stamp, ends_at}
+use Rattle.ds_shard.specs.Histories.{outlives, with_version, joined, AreOwn, AreByKey, AreByKeyBut, IsFilled, AreFilled, AreFilledBut}
+use Rattle.std.specs.List.{AllByRecursion as Each}
 use Rattle.ds_shard.proofs.HistoryLaws.{end_open}
-use Rattle.ds_shard.proofs.ByKey.{Entry, Own, Ascend, Keeps, at_key, listed, local, local_none, local_some, own_set, own_found, found_own, over_found, begun_joined, own_begun, begun_new, own_insert, own_remove, find_joined, seen_joined, outliving}
-use Rattle.ds_shard.proofs.FilledKeys.{filled_set, filled_but_set, filled_but, filled_found, filled_insert, filled_remove, filled_kept, filled-push}
+use Rattle.ds_shard.proofs.ByKey.{Entry, Own, Ascend, Keeps, at_key, listed, local, local_none, local_some, own_set, own_found, found_own}
+use Rattle.ds_shard.proofs.ByKey.{over_found, begun_joined, own_begun, begun_new, own_insert, own_remove, find_joined, seen_joined}
+use Rattle.ds_shard.proofs.ByKey.{outliving}
+use Rattle.ds_shard.proofs.FilledKeys.{filled_set, filled_but_set, filled_but, filled_found, filled_insert, filled_remove, filled_kept}
+use Rattle.ds_shard.proofs.FilledKeys.{filled-push}
 
 -- ---- a change
 

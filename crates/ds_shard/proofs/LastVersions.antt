@@ -1,5 +1,6 @@
 -- The last version of a key: the only one that may be open, and the only one that a write ends or that is opened again.
-use Rattle.std.proofs.Common.{◌≡◌, ℕ, zero, suc, ◌-◌, ◌<◌, ◌≤◌, Bool, true, false, cond, List, [], ◌∷◌, ◌++◌, length, map, get_or, Option, Some, None, refl, sym, ap, ◌∙◌, subst, arith}
+use Rattle.std.proofs.Common.{◌≡◌, ℕ, zero, suc, ◌-◌, ◌<◌, ◌≤◌, Bool, true, false, cond, List, [], ◌∷◌, ◌++◌, length, map, get_or, Option}
+use Rattle.std.proofs.Common.{Some, None, refl, sym, ap, ◌∙◌, subst, arith}
 use Rattle.std.specs.Prelude.{find, option_map, slice_set, nat_eq}
 use Rattle.std.specs.List.{filter_map, cons_option}
 use Rattle.std.specs.Option.{option_to_list}
@@ -8,7 +9,9 @@ use Rattle.std.proofs.lemmas.List.Elements.{filter_map-append}
 use Rattle.std.proofs.lemmas.Bool.Decides.{nat_tests}
 use Rattle.ds_rows.specs.Versions.{Version}
 use Rattle.ds_shard.specs.declared.version_list.Kept.{Kept}
-use Rattle.ds_shard.specs.Histories.{Each, BeginsBy, EndsBy, Precedes, IsHistory, is_open, until_stamp, before_stamp, ends_at, version_of, last_begins_at}
+use Rattle.ds_shard.specs.Histories.{BeginsBy, EndsBy, Precedes, IsHistory, is_open, until_stamp, before_stamp, ends_at, version_of}
+use Rattle.ds_shard.specs.Histories.{last_begins_at}
+use Rattle.std.specs.List.{AllByRecursion as Each}
 use Rattle.ds_shard.proofs.HistoryLaws.{closed, end_open, eq_false, each-first, history-first, map_kept}
 
 is_last : (n : ℕ) → 0 < n → n ≡ suc (n - 1)

@@ -16,6 +16,7 @@ mod RowSteps
 mod Closing
 mod Beginning
 mod Undoing
+mod Ends
 mod Seeking
 mod Writing
 mod Absorbing

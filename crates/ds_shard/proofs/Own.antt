@@ -11,7 +11,8 @@ use Rattle.ds_base.specs.KeyOrderLaws.{key_cmp-total, same_key-decides}
 use Rattle.ds_base.specs.Entities.{EntityParts}
 use Rattle.ds_base.specs.SortingLaws.{NoneBefore, Ascends}
 use Rattle.ds_rows.specs.Versions.{Version}
-use Rattle.ds_shard.specs.Histories.{Each, EndsBy, Precedes, IsOver, IsOverAt, is_open, is_current, until_stamp, ended, with_version}
+use Rattle.ds_shard.specs.Histories.{EndsBy, Precedes, IsOver, IsOverAt, is_open, is_current, until_stamp, ended, with_version}
+use Rattle.std.specs.List.{AllByRecursion as Each}
 use Rattle.ds_shard.specs.Contents.{version_cmp, PrecedesOwn, AreHistories}
 use Rattle.ds_shard.proofs.Kept.{current-open}
 

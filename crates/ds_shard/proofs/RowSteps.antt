@@ -5,9 +5,9 @@ use Rattle.std.proofs.lemmas.Option.{slice_get_within, get_or_from_slice_get, sl
 use Rattle.std.proofs.lemmas.List.{drop_more}
 use Rattle.std.proofs.lemmas.List.Elements.{All-head, All-tail}
 use Rattle.ds_rows.specs.Laws.{IsOnce}
-use Rattle.ds_table.specs.Versions.{Version, never, has_alive, added, closed}
+use Rattle.ds_table.specs.Versions.{RowVersion, never, has_alive, added, closed}
 use Rattle.ds_table.specs.AliveLaws.{others_added, others_closed}
-use Rattle.ds_shard.specs.Histories.{Each}
+use Rattle.std.specs.List.{AllByRecursion as Each}
 use Rattle.ds_shard.specs.Rows.{all_closed, all_added}
 
 -- the row at a place is the first of those from there on
@@ -32,7 +32,7 @@ module _ (rows : List (List ℕ)) (i : ℕ) (row : List ℕ) (e : Some row ≡ s
   pub once_next : IsOnce (drop i rows) → IsOnce (drop (i + 1) rows)
   once_next once = (subst IsOnce is once).1
 
-  module _ (stamp : ℕ) (below : stamp < never) (vs ws : List Version) where
+  module _ (stamp : ℕ) (below : stamp < never) (vs ws : List RowVersion) where
     alive_left : (rest : List (List ℕ)) → All (λ y. row ≢ y) rest → Each (λ r. IsTrue (has_alive r vs)) rest
         → Each (λ r. IsTrue (has_alive r (closed row stamp vs))) rest
     alive_left [] once h = tt
@@ -47,7 +47,7 @@ module _ (rows : List (List ℕ)) (i : ℕ) (row : List ℕ) (e : Some row ≡ s
         subst (λ us. Each (λ r. IsTrue (has_alive r us)) (drop (i + 1) rows)) (sym then)
         (alive_left (drop (i + 1) rows) (subst IsOnce is once).0 (subst (Each (λ r. IsTrue (has_alive r vs))) is h).1)
 
-    pub closed_next : ws ≡ closed row stamp vs → (all : List Version) → all_closed stamp vs (drop i rows) ≡ all
+    pub closed_next : ws ≡ closed row stamp vs → (all : List RowVersion) → all_closed stamp vs (drop i rows) ≡ all
         → all_closed stamp ws (drop (i + 1) rows) ≡ all
     closed_next then all h = (λ t. all_closed stamp (then t) (drop (i + 1) rows)) ∙ ap (all_closed stamp vs) (sym is) ∙ h
 
@@ -65,6 +65,6 @@ module _ (rows : List (List ℕ)) (i : ℕ) (row : List ℕ) (e : Some row ≡ s
         subst (λ us. Each (λ r. IsFalse (has_alive r us)) (drop (i + 1) rows)) (sym then)
         (not_alive_left (drop (i + 1) rows) (subst IsOnce is once).0 (subst (Each (λ r. IsFalse (has_alive r vs))) is h).1)
 
-    pub added_next : ws ≡ added row stamp vs → (all : List Version) → all_added stamp vs (drop i rows) ≡ all
+    pub added_next : ws ≡ added row stamp vs → (all : List RowVersion) → all_added stamp vs (drop i rows) ≡ all
         → all_added stamp ws (drop (i + 1) rows) ≡ all
     added_next then all h = (λ t. all_added stamp (then t) (drop (i + 1) rows)) ∙ ap (all_added stamp vs) (sym is) ∙ h

@@ -11,12 +11,12 @@ use Rattle.ds_base.specs.Entities.{EntityParts}
 use Rattle.ds_indexdef.specs.declared.IndexDef.{IndexDef}
 use Rattle.ds_indexdef.specs.Definitions.{AreDefs}
 use Rattle.ds_rows.specs.Indexable.{IsIndexable}
-use Rattle.ds_rows.specs.Indexes.{Index, indexes_of}
+use Rattle.ds_rows.specs.Indexes.{RowIndex, indexes_of}
 use Rattle.ds_rows.specs.Rows.{IndexRow, index_rows, index_row_bytes, rows_in, rows_of}
 use Rattle.ds_rows.specs.Laws.{IsRowOf}
 use Rattle.ds_rows.specs.OwnRowLaws.{each_map, each_flat, rows_are_own}
 use Rattle.ds_rows.specs.RowLaws.{rows_apart}
-use Rattle.ds_shard.specs.Histories.{Each}
+use Rattle.std.specs.List.{AllByRecursion as Each}
 
 -- ---- rows as bytes
 
@@ -39,13 +39,13 @@ each_more P Q (x ∷ xs) f h = (f x h.0, each_more P Q xs f h.1)
 
 -- the bytes of a row of an entity with this key
 record IsRowBytes (defs : List IndexDef) (k : KeyParts) (x : List ℕ) : Type 0 where
-  index : Index
+  index : RowIndex
   row : IndexRow
   of : IsRowOf defs index row
   key : row.parts.key ≡ k
   bytes : index_row_bytes index row ≡ x
 
-with_bytes : (defs : List IndexDef) (k : KeyParts) (i : Index) (r : IndexRow) → IsRowOf defs i r × (r.parts.key ≡ k)
+with_bytes : (defs : List IndexDef) (k : KeyParts) (i : RowIndex) (r : IndexRow) → IsRowOf defs i r × (r.parts.key ≡ k)
     → IsRowBytes defs k (index_row_bytes i r)
 with_bytes defs k i r h = record { index = i; row = r; of = h.0; key = h.1; bytes = refl }
 

@@ -1,5 +1,6 @@
 -- What a table at a stamp shows of rows of versions: their rows in order, and as few passed as aren't seen.
-use Rattle.std.proofs.Common.{◌≡◌, ℕ, ◌+◌, ◌<◌, ◌≤◌, Bool, true, false, cond, List, [], ◌∷◌, ◌++◌, map, Option, Some, None, refl, sym, ap, ◌∙◌, subst, arith}
+use Rattle.std.proofs.Common.{◌≡◌, ℕ, ◌+◌, ◌<◌, ◌≤◌, Bool, true, false, cond, List, [], ◌∷◌, ◌++◌, map, Option, Some, None, refl, sym, ap}
+use Rattle.std.proofs.Common.{◌∙◌, subst, arith}
 use Rattle.std.specs.Prelude.{◌&&◌, not, nat_le, All, filter, find, flat_map}
 use Rattle.std.specs.List.{AllByRecursion, IsDistinct}
 use Rattle.std.specs.List.Sorted.{IsStrictlySortedBy}
@@ -14,12 +15,13 @@ use Rattle.ds_base.specs.Entities.{EntityParts}
 use Rattle.ds_base.specs.Sorting.{sorted_by}
 use Rattle.ds_indexdef.specs.declared.IndexDef.{IndexDef}
 use Rattle.ds_rows.specs.Rows.{rows_of}
-use Rattle.ds_rows.specs.Versions.{Version, is_before, is_seen, entities_at, seen_rows, unseen_rows, is_from, is_below, is_up_to, first_row, rows_passed}
-use Rattle.ds_table.specs.Each as table_each
+use Rattle.ds_rows.specs.Versions.{Version, is_before, is_seen, entities_at, seen_rows, unseen_rows, is_from, is_below, is_up_to, first_row}
+use Rattle.ds_rows.specs.Versions.{rows_passed}
 use Rattle.ds_table.specs.Versions as table
 use Rattle.ds_table.specs.Blocks as blocks
 use Rattle.ds_table.specs.Seen.{Seen}
-use Rattle.ds_shard.specs.Histories.{Each, EndsBy, Precedes}
+use Rattle.ds_shard.specs.Histories.{EndsBy, Precedes}
+use Rattle.std.specs.List.{AllByRecursion as Each}
 use Rattle.ds_shard.specs.Rows.{row_of, rows_of_version, rows_of_versions}
 use Rattle.ds_shard.specs.Contents.{counted, HaveSame, PrecedesOwn, AreHistories}
 use Rattle.ds_shard.specs.Shards.{ShardParts}
@@ -29,39 +31,39 @@ use Rattle.ds_shard.proofs.Trimming.{ends_alike, filter_versions}
 
 -- ---- rows
 
-rows_itself : (v : Version) (rows : List (List ℕ)) → map (λ (w : table.Version). w.row) (map (row_of v) rows) ≡ rows
+rows_itself : (v : Version) (rows : List (List ℕ)) → map (λ (w : table.RowVersion). w.row) (map (row_of v) rows) ≡ rows
 rows_itself v [] = refl
 rows_itself v (x ∷ rows) = ap (λ xs. x ∷ xs) (rows_itself v rows)
 
 rows_only : (defs : List IndexDef) (vs : List Version)
-    → map (λ (w : table.Version). w.row) (rows_of_versions defs vs) ≡ flat_map (λ (v : Version). rows_of defs v.entity) vs
+    → map (λ (w : table.RowVersion). w.row) (rows_of_versions defs vs) ≡ flat_map (λ (v : Version). rows_of defs v.entity) vs
 rows_only defs [] = refl
 rows_only defs (v ∷ vs) =
-    map-append (λ (w : table.Version). w.row) (rows_of_version defs v) (rows_of_versions defs vs)
+    map-append (λ (w : table.RowVersion). w.row) (rows_of_version defs v) (rows_of_versions defs vs)
     ∙ (λ t. rows_itself v (rows_of defs v.entity) t ++ rows_only defs vs t)
 
 seen_alike : (stamp : ℕ) → stamp < table.never → (v : Version) (x : List ℕ) → table.is_seen stamp (row_of v x) ≡ is_seen stamp v
 seen_alike stamp h v x = ap (λ b. nat_le v.from stamp && b) (ends_alike stamp h v.until)
 
-module _ (defs : List IndexDef) (stamp : ℕ) (h : stamp < table.never) (ts : List table.Version) (vs : List Version)
+module _ (defs : List IndexDef) (stamp : ℕ) (h : stamp < table.never) (ts : List table.RowVersion) (vs : List Version)
     (same : HaveSame ts (rows_of_versions defs vs)) where
   seen_have_same : HaveSame (table.seen_rows stamp ts) (seen_rows defs stamp vs)
   seen_have_same =
       subst (HaveSame (table.seen_rows stamp ts))
-      (ap (map (λ (w : table.Version). w.row)) (filter_versions defs (table.is_seen stamp) (is_seen stamp) (seen_alike stamp h) vs)
+      (ap (map (λ (w : table.RowVersion). w.row)) (filter_versions defs (table.is_seen stamp) (is_seen stamp) (seen_alike stamp h) vs)
       ∙ rows_only defs (filter (is_seen stamp) vs)
       ∙ sym (flat_map-map (rows_of defs) (λ (v : Version). v.entity) (filter (is_seen stamp) vs)))
       (same-map (filter (table.is_seen stamp) ts) (filter (table.is_seen stamp) (rows_of_versions defs vs))
-      (same-filter ts (rows_of_versions defs vs) same (table.is_seen stamp)) (λ (w : table.Version). w.row))
+      (same-filter ts (rows_of_versions defs vs) same (table.is_seen stamp)) (λ (w : table.RowVersion). w.row))
 
   unseen_have_same : HaveSame (table.unseen_rows stamp ts) (unseen_rows defs stamp vs)
   unseen_have_same =
       subst (HaveSame (table.unseen_rows stamp ts))
-      (ap (map (λ (w : table.Version). w.row))
+      (ap (map (λ (w : table.RowVersion). w.row))
       (filter_versions defs (λ w. not (table.is_seen stamp w)) (λ v. not (is_seen stamp v)) (λ v x. ap not (seen_alike stamp h v x)) vs)
       ∙ rows_only defs (filter (λ v. not (is_seen stamp v)) vs))
       (same-map (filter (λ w. not (table.is_seen stamp w)) ts) (filter (λ w. not (table.is_seen stamp w)) (rows_of_versions defs vs))
-      (same-filter ts (rows_of_versions defs vs) same (λ w. not (table.is_seen stamp w))) (λ (w : table.Version). w.row))
+      (same-filter ts (rows_of_versions defs vs) same (λ w. not (table.is_seen stamp w))) (λ (w : table.RowVersion). w.row))
 
   -- the rows that the table shows are those of the entities, in order
   shown_rows : IsStrictlySortedBy bytes_cmp (table.seen_rows stamp ts) → table.seen_rows stamp ts ≡ sorted_by bytes_cmp (seen_rows defs stamp vs)
@@ -82,7 +84,7 @@ module _ (defs : List IndexDef) (stamp : ℕ) (h : stamp < table.never) (ts : Li
   abbrev up_to : List ℕ → Option (List ℕ) → Option (List ℕ) → List ℕ → Bool
   up_to a b found x = (is_from a x && is_below b x) && is_up_to found x
 
-  not_above : (q : List ℕ → Bool) (v : table.Version) (ws : List table.Version) → table_each.Each (blocks.Precedes v) ws
+  not_above : (q : List ℕ → Bool) (v : table.RowVersion) (ws : List table.RowVersion) → Each (blocks.Precedes v) ws
       → is_up_to (find q (table.seen_rows stamp ws)) v.row ≡ true
   not_above q v [] o = refl
   not_above q v (w ∷ ws) o = by (table.is_seen stamp w) (not_above q v ws o.1) where
@@ -92,11 +94,11 @@ module _ (defs : List IndexDef) (stamp : ℕ) (h : stamp < table.never) (ts : Li
     here false i = i
 
     by : (b : Bool) → is_up_to (find q (table.seen_rows stamp ws)) v.row ≡ true
-        → is_up_to (find q (map (λ (u : table.Version). u.row) (cond b (w ∷ filter (table.is_seen stamp) ws) (filter (table.is_seen stamp) ws)))) v.row ≡ true
+        → is_up_to (find q (map (λ (u : table.RowVersion). u.row) (cond b (w ∷ filter (table.is_seen stamp) ws) (filter (table.is_seen stamp) ws)))) v.row ≡ true
     by true i = here (q w.row) i
     by false i = i
 
-  passed : (a : List ℕ) (b : Option (List ℕ)) (ws : List table.Version) → blocks.IsOrdered ws
+  passed : (a : List ℕ) (b : Option (List ℕ)) (ws : List table.RowVersion) → blocks.IsOrdered ws
       → table.unseen_before stamp (table.versions_within a b ws)
       ≤ counted (up_to a b (find (table.in_range a b) (table.seen_rows stamp ws))) (table.unseen_rows stamp ws)
   passed a b [] o = omega arith

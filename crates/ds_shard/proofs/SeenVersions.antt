@@ -1,11 +1,13 @@
 -- The version that is seen at a stamp is the last one that began by it, unless that one has ended.
-use Rattle.std.proofs.Common.{◌≡◌, ℕ, zero, suc, ◌-◌, ◌<◌, ◌≤◌, Bool, true, false, cond, List, [], ◌∷◌, length, map, get_or, Option, Some, None, refl, sym, ap, ◌∙◌, subst, arith}
+use Rattle.std.proofs.Common.{◌≡◌, ℕ, zero, suc, ◌-◌, ◌<◌, ◌≤◌, Bool, true, false, cond, List, [], ◌∷◌, length, map, get_or, Option, Some}
+use Rattle.std.proofs.Common.{None, refl, sym, ap, ◌∙◌, subst, arith}
 use Rattle.std.specs.Prelude.{find, option_map, nat_le, nat_lt}
 use Rattle.std.specs.List.Sorted.{IsPartitionPoint, IsPartitionedBy}
 use Rattle.std.proofs.lemmas.Bool.Decides.{nat_tests}
 use Rattle.ds_rows.specs.Versions.{Version, is_before, is_seen}
 use Rattle.ds_shard.specs.declared.version_list.Kept.{Kept}
-use Rattle.ds_shard.specs.Histories.{Each, EndsBy, Precedes, IsHistory, version_of}
+use Rattle.ds_shard.specs.Histories.{EndsBy, Precedes, IsHistory, version_of}
+use Rattle.std.specs.List.{AllByRecursion as Each}
 use Rattle.ds_shard.proofs.Currents.{le_true, and_false}
 
 -- ---- the versions are parted

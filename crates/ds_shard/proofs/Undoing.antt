@@ -1,5 +1,6 @@
 -- What is done at a stamp is taken back, of the keys that were written and in the table.
-use Rattle.std.proofs.Common.{◌≡◌, ℕ, ◌+◌, ◌<◌, ◌≤◌, Bool, true, false, cond, List, [], ◌∷◌, ◌++◌, length, get_or, drop, map, Option, Some, None, refl, sym, ap, ◌∙◌, subst, arith}
+use Rattle.std.proofs.Common.{◌≡◌, ℕ, ◌+◌, ◌<◌, ◌≤◌, Bool, true, false, cond, List, [], ◌∷◌, ◌++◌, length, get_or, drop, map, Option, Some}
+use Rattle.std.proofs.Common.{None, refl, sym, ap, ◌∙◌, subst, arith}
 use Rattle.std.specs.Prelude.{◌&&◌, ◌||◌, ◌==◌, if◌then◌else◌, IsTrue}
 use Rattle.std.specs.List.{cons_option, list_any}
 use Rattle.std.specs.Ordering.{is_lt}
@@ -13,17 +14,18 @@ use Rattle.ds_log.specs.declared.Write.{Write}
 use Rattle.ds_log.specs.Logs.{key_of}
 use Rattle.ds_rows.specs.Rows.{rows_of}
 use Rattle.ds_rows.specs.Versions.{Version}
-use Rattle.ds_table.specs.Each as table_each
 use Rattle.ds_table.specs.Versions as table
 use Rattle.ds_table.specs.UndoLaws.{IsFree, undo_nothing}
-use Rattle.ds_shard.specs.Histories.{Each, BeginsBy, EndsWithin, is_open, is_current, until_stamp, ended, with_version, ends_at, before_stamp, undone, outlives, trimmed}
+use Rattle.ds_shard.specs.Histories.{BeginsBy, EndsWithin, is_open, is_current, until_stamp, ended, with_version, ends_at, before_stamp}
+use Rattle.ds_shard.specs.Histories.{undone, outlives, trimmed}
+use Rattle.std.specs.List.{AllByRecursion as Each}
 use Rattle.ds_shard.specs.Rows.{end_in_table, row_of, rows_of_version, rows_of_versions}
 use Rattle.ds_shard.specs.Contents.{IsGiven, IsGivenBefore, all_undone}
 use Rattle.ds_shard.proofs.Kept.{current-open}
 
 -- ---- in the table
 
-each-append : (P : table.Version → Type 0) (xs ys : List table.Version) → table_each.Each P xs → table_each.Each P ys → table_each.Each P (xs ++ ys)
+each-append : (P : table.RowVersion → Type 0) (xs ys : List table.RowVersion) → Each P xs → Each P ys → Each P (xs ++ ys)
 each-append P [] ys h g = g
 each-append P (x ∷ xs) ys h g = (h.0, each-append P xs ys h.1 g)
 
@@ -32,7 +34,7 @@ free_end stamp below n is None h e = omega (arith, below, e)
 free_end stamp below n is (Some u) h e = omega (arith, is, h, e)
 
 free_rows : (stamp : ℕ) → stamp < table.never → (v : Version) → IsGivenBefore stamp v → (rows : List (List ℕ))
-    → table_each.Each (IsFree stamp) (map (row_of v) rows)
+    → Each (IsFree stamp) (map (row_of v) rows)
 free_rows stamp below v h [] = tt
 free_rows stamp below v h (x ∷ rows) = (
   record {
@@ -43,11 +45,11 @@ free_rows stamp below v h (x ∷ rows) = (
 )
 
 free_versions : (stamp : ℕ) → stamp < table.never → (defs : List IndexDef) (floor : ℕ) (vs : List Version) → Each (IsGivenBefore stamp) vs
-    → table_each.Each (IsFree stamp) (rows_of_versions defs (trimmed floor vs))
+    → Each (IsFree stamp) (rows_of_versions defs (trimmed floor vs))
 free_versions stamp below defs floor [] h = tt
 free_versions stamp below defs floor (v ∷ vs) h = by (outlives floor v) (free_versions stamp below defs floor vs h.1) where
-  by : (b : Bool) → table_each.Each (IsFree stamp) (rows_of_versions defs (trimmed floor vs))
-      → table_each.Each (IsFree stamp) (rows_of_versions defs (cond b (v ∷ trimmed floor vs) (trimmed floor vs)))
+  by : (b : Bool) → Each (IsFree stamp) (rows_of_versions defs (trimmed floor vs))
+      → Each (IsFree stamp) (rows_of_versions defs (cond b (v ∷ trimmed floor vs) (trimmed floor vs)))
   by true i =
       each-append (IsFree stamp) (rows_of_version defs v) (rows_of_versions defs (trimmed floor vs))
       (free_rows stamp below v h.0 (rows_of defs v.entity)) i
@@ -61,10 +63,10 @@ undone_rows stamp below defs floor vs h =
 
 -- ---- one version
 
-same_number : (m n : ℕ) → m ≡ n → (m == n) ≡ true
+pub same_number : (m n : ℕ) → m ≡ n → (m == n) ≡ true
 same_number m n e = grind (arith, nat_tests)
 
-other_number : (m n : ℕ) → (m ≡ n → ⊥) → (m == n) ≡ false
+pub other_number : (m n : ℕ) → (m ≡ n → ⊥) → (m == n) ≡ false
 other_number m n h = by (m == n) refl where
   by : (b : Bool) → b ≡ (m == n) → (m == n) ≡ false
   by true e = absurd (h (grind (arith, nat_tests)))

@@ -1,5 +1,6 @@
 -- One write after another, and a floor that rises: the table goes on holding the rows of the versions.
-use Rattle.std.proofs.Common.{◌≡◌, ℕ, suc, zero, ◌+◌, ◌<◌, ◌≤◌, Bool, true, false, cond, List, [], ◌∷◌, length, get_or, map, Option, Some, None, refl, sym, ap, ◌∙◌, subst, arith}
+use Rattle.std.proofs.Common.{◌≡◌, ℕ, suc, zero, ◌+◌, ◌<◌, ◌≤◌, Bool, true, false, cond, List, [], ◌∷◌, ◌++◌, length, get_or, map, Option}
+use Rattle.std.proofs.Common.{Some, None, refl, sym, ap, ◌∙◌, subst, arith}
 use Rattle.std.specs.Prelude.{◌&&◌, ◌||◌, IsTrue, IsFalse, OnOk, OnErr, Result, Ok, Err, filter, fold, drop, find, option_map, max, nat_lt}
 use Rattle.std.specs.List.{list_any}
 use Rattle.std.proofs.lemmas.List.{drop_more}
@@ -18,10 +19,16 @@ use Rattle.ds_rows.specs.Versions.{Version}
 use Rattle.ds_table.specs.Versions as table
 use Rattle.ds_table.specs.Blocks.{versions}
 use Rattle.ds_table.specs.UndoLaws.{undo_closed}
-use Rattle.ds_shard.specs.Histories.{Each, BeginsBy, EndsBy, EndsWithin, IsOverAt, is_open, is_current, until_stamp, ended, with_version, trimmed}
+use Rattle.ds_shard.specs.Histories.{BeginsBy, EndsBy, EndsWithin, IsOverAt, is_open, is_current, until_stamp, ended, with_version}
+use Rattle.ds_shard.specs.Histories.{outlives, trimmed}
+use Rattle.std.specs.List.{AllByRecursion as Each}
 use Rattle.ds_shard.specs.Rows.{rows_of_versions, all_closed, all_added}
-use Rattle.ds_shard.specs.Contents.{ContentsParts, counted, HaveSame, IsGiven, version_cmp, AreHistories, AreKept, CanUndo, LeadBack, LeadsBack, all_undone, AreFewer, IsTrimmed, IsGivenBefore, IsBack}
+use Rattle.ds_shard.specs.Contents.{ContentsParts, counted, HaveSame, IsGiven, version_cmp, AreHistories, AreKept, CanUndo, LeadBack}
+use Rattle.ds_shard.specs.Contents.{LeadsBack, all_undone, IsTrimmed, IsGivenBefore, IsBack}
+use Rattle.ds_shard.specs.Expiries.{AreBy, others, IsNotedEnd, AreNoted}
 use Rattle.ds_shard.proofs.Kept.{Ascends-ended, Ascends-with, Ascends-filter, given-ended, given-with, given-filter, given-later}
+use Rattle.ds_shard.proofs.Kept.{trimmed-twice}
+use Rattle.ds_shard.proofs.Ends.{noted-ended, noted-others, by_later}
 use Rattle.ds_shard.proofs.Counting.{same-map, same-filter, same-filter_map, same-any}
 use Rattle.ds_shard.proofs.Own.{Owns, only_current, histories-ended, histories-with, histories-filter}
 use Rattle.ds_shard.proofs.Trimming.{trimmed_rows}
@@ -97,13 +104,15 @@ pub record Stays (stamp : ℕ) (c d : ContentsParts) : Type 0 where
   pub least : d.table.least ≡ c.table.least
   pub least_undone : d.table.least_undone ≡ c.table.least_undone
   pub last : d.table.last ≤ stamp
+  pub ends : others stamp d.ends ≡ others stamp c.ends
+  pub by : AreBy stamp d.ends
 
 module _ (stamp : ℕ) (c d : ContentsParts) (h : AreKept stamp c) (s : Stays stamp c d) where
   -- with other versions, and the rows of these
   kept_with : (vs : List Version) → d.entities ≡ vs → Each (λ (v : Version). IsIndexable v.entity) vs → Each (IsGiven stamp) vs
       → Ascends version_cmp vs → AreHistories vs → HaveSame (versions d.table) (rows_of_versions c.definitions (trimmed c.table.floor vs))
-      → AreKept stamp d
-  kept_with vs is indexable given ascend histories rows = record {
+      → AreNoted d.ends vs → AreKept stamp d
+  kept_with vs is indexable given ascend histories rows noted = record {
     definitions = subst AreDefs (sym s.definitions) h.definitions;
     indexable = subst (Each (λ (v : Version). IsIndexable v.entity)) (sym is) indexable;
     given = subst (Each (IsGiven stamp)) (sym is) given;
@@ -111,6 +120,8 @@ module _ (stamp : ℕ) (c d : ContentsParts) (h : AreKept stamp c) (s : Stays st
     histories = subst AreHistories (sym is) histories;
     rows = subst (HaveSame (versions d.table))
         (λ t. rows_of_versions (sym s.definitions t) (trimmed (sym s.floor t) (sym is t))) rows;
+    noted = subst (AreNoted d.ends) (sym is) noted;
+    ends = s.by;
     last = s.last;
     least = (let a = s.least in let b = h.least in omega (arith, a, b));
     least_undone = (let a = s.least_undone in let b = h.least_undone in omega (arith, a, b));
@@ -121,6 +132,7 @@ module _ (stamp : ℕ) (c d : ContentsParts) (h : AreKept stamp c) (s : Stays st
   can_undo : Each (BeginsBy stamp) d.entities → CanUndo stamp d
   can_undo begun = record {
     begun = begun;
+    ends = s.by;
     last = s.last;
     least = (let a = s.least in let b = h.least in omega (arith, a, b));
     least_undone = (let a = s.least_undone in let b = h.least_undone in omega (arith, a, b));
@@ -134,6 +146,7 @@ module _ (stamp : ℕ) (c d : ContentsParts) (h : AreKept stamp c) (s : Stays st
     (λ keys among. record {
       table = undone;
       entities = entities keys among;
+      ends = s.ends;
       floor = s.floor;
       least = s.least;
       least_undone = s.least_undone;
@@ -168,15 +181,16 @@ module _ (stamp : ℕ) (c d : ContentsParts) (h : AreKept stamp c) (s : Stays st
         let one : versions d.table ≡ map (closed_in stamp rows) (versions c.table) = closed ∙ all_closed_map stamp h.a_stamp rows (versions c.table) in
         let two : rows_of_versions c.definitions (trimmed c.table.floor (ended stamp k c.entities)) ≡ map (closed_in stamp rows) before =
         ended_rows stamp h.a_stamp c.definitions k e c.table.floor h.floor c.entities suits in
-        subst (λ (ts : List table.Version). HaveSame ts (rows_of_versions c.definitions (trimmed c.table.floor (ended stamp k c.entities)))) (sym one)
+        subst (λ (ts : List table.RowVersion). HaveSame ts (rows_of_versions c.definitions (trimmed c.table.floor (ended stamp k c.entities)))) (sym one)
         (subst (HaveSame (map (closed_in stamp rows) (versions c.table))) (sym two) (same-map (versions c.table) before h.rows (closed_in stamp rows)))
 
-    pub end_kept : AreKept stamp d
-    end_kept =
+    pub end_kept : d.ends ≡ c.ends ++ record { stamp = stamp; key = k } ∷ [] → AreKept stamp d
+    end_kept noted =
         kept_with (ended stamp k c.entities) is (indexable-ended stamp k c.entities h.indexable) (given-ended stamp k c.entities h.given)
         (Ascends-ended stamp k c.entities h.ascend) (histories-ended stamp k c.entities h.histories) end_rows
+        (subst (λ es. AreNoted es (ended stamp k c.entities)) (sym noted) (noted-ended stamp k c.ends c.entities h.noted))
 
-    all_undone_closed : (rows : List (List ℕ)) (vs : List table.Version) → table.undone stamp (all_closed stamp vs rows) ≡ table.undone stamp vs
+    all_undone_closed : (rows : List (List ℕ)) (vs : List table.RowVersion) → table.undone stamp (all_closed stamp vs rows) ≡ table.undone stamp vs
     all_undone_closed [] vs = refl
     all_undone_closed (r ∷ rows) vs = all_undone_closed rows (table.closed r stamp vs) ∙ undo_closed r stamp vs h.a_stamp
 
@@ -205,11 +219,13 @@ module _ (stamp : ℕ) (c d : ContentsParts) (h : AreKept stamp c) (s : Stays st
         omega (arith, one, two, three, four)
 
     pub begin_kept : versions d.table ≡ all_added stamp (versions c.table) (rows_of c.definitions e) → d.entities ≡ with_version new c.entities
-        → AreKept stamp d
-    begin_kept added is =
+        → d.ends ≡ c.ends → AreKept stamp d
+    begin_kept added is same =
         kept_with (with_version new c.entities) is (each-with (λ (v : Version). IsIndexable v.entity) new c.entities lawful h.indexable)
         (given-with stamp new c.entities new_given h.given)
         (Ascends-with new c.entities h.ascend) (histories-with new c.entities h.ascend over h.histories) (begin_rows added)
+        (subst (λ es. AreNoted es (with_version new c.entities)) (sym same)
+        (each-with (λ (v : Version). IsNotedEnd c.ends v.entity.key v.until) new c.entities tt h.noted))
 
     pub begin_leads : table.undone stamp (versions d.table) ≡ table.undone stamp (versions c.table) → d.entities ≡ with_version new c.entities
         → LeadsBack stamp e.key c d
@@ -289,14 +305,12 @@ pub back_on : (stamp : ℕ) (keys : List KeyParts) (b c d : ContentsParts) → L
 back_on stamp keys b c d p q = record {
   table = q.table ∙ p.table;
   entities = q.entities ∙ p.entities;
+  ends = q.ends ∙ p.ends;
   floor = q.floor ∙ p.floor;
   least = q.least ∙ p.least;
   least_undone = q.least_undone ∙ p.least_undone;
   definitions = q.definitions ∙ p.definitions;
 }
-
-pub leads_on : (stamp : ℕ) (k : KeyParts) (b c d : ContentsParts) → LeadsBack stamp k b c → LeadsBack stamp k c d → LeadsBack stamp k b d
-leads_on stamp k b c d h g = ((λ keys among. back_on stamp keys b c d (h.0 keys among) (g.0 keys among)), g.1)
 
 -- ---- taken back
 
@@ -311,6 +325,8 @@ is_back stamp keys before c d h given back undone is s =
       least = s.least ∙ back.least;
       least_undone = s.least_undone ∙ back.least_undone;
       last = s.last;
+      ends = s.ends ∙ back.ends;
+      by = s.by;
     } in
     let rows = rows_of_versions before.definitions (trimmed before.table.floor before.entities) in
     record {
@@ -318,17 +334,19 @@ is_back stamp keys before c d h given back undone is s =
       definitions = all.definitions;
       floor = all.floor;
       kept = kept_with stamp before d h all before.entities same h.indexable h.given h.ascend h.histories
-          (subst (λ (ts : List table.Version). HaveSame ts rows) (sym (undone ∙ back.table))
+          (subst (λ (ts : List table.RowVersion). HaveSame ts rows) (sym (undone ∙ back.table))
           (subst (HaveSame (table.undone stamp (versions before.table))) (undone_rows stamp h.a_stamp before.definitions before.table.floor before.entities given)
-          (same-filter_map (versions before.table) rows h.rows (table.before_stamp stamp))));
+          (same-filter_map (versions before.table) rows h.rows (table.before_stamp stamp))))
+          (noted-others stamp before.ends d.ends all.ends before.entities given h.noted);
     }
 
 -- ---- a floor that rises
 
 pub record Falls (floor : ℕ) (c d : ContentsParts) : Type 0 where
   pub definitions : d.definitions ≡ c.definitions
-  pub fewer : AreFewer c.entities d.entities
-  pub entities : trimmed floor d.entities ≡ trimmed floor c.entities
+  pub entities : d.entities ≡ trimmed floor c.entities
+  pub noted : AreNoted d.ends d.entities
+  pub still_by : (most : ℕ) → AreBy most c.ends → AreBy most d.ends
   pub trimmed_table : versions d.table ≡ table.trimmed floor (versions c.table)
   pub floor_is : d.table.floor ≡ floor
   pub last : d.table.last ≡ c.table.last
@@ -338,25 +356,28 @@ pub record Falls (floor : ℕ) (c d : ContentsParts) : Type 0 where
 pub is_trimmed : (stamp floor : ℕ) (c d : ContentsParts) → AreKept stamp c → Falls floor c d → c.table.floor ≤ floor → floor < table.never
     → floor ≤ stamp → stamp + 1 < table.never → IsTrimmed stamp d
 is_trimmed stamp floor c d h f rises below low high =
-    let p = f.fewer.0 in
-    let few : d.entities ≡ filter p c.entities = f.fewer.1 in
-    let given : Each (IsGiven stamp) d.entities = subst (Each (IsGiven stamp)) (sym few) (given-filter stamp p c.entities h.given) in
+    let p = outlives floor in
+    let given : Each (IsGiven stamp) d.entities = subst (Each (IsGiven stamp)) (sym f.entities) (given-filter stamp p c.entities h.given) in
     let rows = rows_of_versions c.definitions (trimmed c.table.floor c.entities) in
+    let same_trimmed : trimmed floor c.entities ≡ trimmed floor d.entities =
+    sym (ap (trimmed floor) f.entities ∙ trimmed-twice floor c.entities) in
     record {
       given = given;
       kept = record {
         definitions = subst AreDefs (sym f.definitions) h.definitions;
-        indexable = subst (Each (λ (v : Version). IsIndexable v.entity)) (sym few)
+        indexable = subst (Each (λ (v : Version). IsIndexable v.entity)) (sym f.entities)
             (each-filter (λ (v : Version). IsIndexable v.entity) p c.entities h.indexable);
         given = given-later stamp (stamp + 1) d.entities (omega arith) given;
-        ascend = subst (Ascends version_cmp) (sym few) (Ascends-filter p c.entities h.ascend);
-        histories = subst AreHistories (sym few) (histories-filter p c.entities h.histories);
+        ascend = subst (Ascends version_cmp) (sym f.entities) (Ascends-filter p c.entities h.ascend);
+        histories = subst AreHistories (sym f.entities) (histories-filter p c.entities h.histories);
         rows = subst (HaveSame (versions d.table))
             (trimmed_rows c.definitions c.table.floor floor rises below c.entities
-            ∙ (λ t. rows_of_versions (sym f.definitions t) (sym f.entities t))
+            ∙ (λ t. rows_of_versions (sym f.definitions t) (same_trimmed t))
             ∙ (λ t. rows_of_versions d.definitions (trimmed (sym f.floor_is t) d.entities)))
-            (subst (λ (ts : List table.Version). HaveSame ts (table.trimmed floor rows)) (sym f.trimmed_table)
+            (subst (λ (ts : List table.RowVersion). HaveSame ts (table.trimmed floor rows)) (sym f.trimmed_table)
             (same-filter (versions c.table) rows h.rows (λ v. nat_lt floor v.to)));
+        noted = f.noted;
+        ends = by_later stamp (stamp + 1) d.ends (omega arith) (f.still_by stamp h.ends);
         last = (let a = f.last in let b = h.last in omega (arith, a, b));
         least = (let a = f.least in omega (arith, a, low));
         least_undone = (let a = f.least_undone in let b = h.last in omega (arith, a, b, low));

@@ -1,5 +1,5 @@
 -- The entities of a shard and the table of their rows, which writes change together.
-use Rattle.std.specs.Prelude.{◌≡◌, ℕ, ◌+◌, ◌≤◌, ◌<◌, Bool, List, [], ◌∷◌, Some, filter, IsTrue, if◌then◌else◌}
+use Rattle.std.specs.Prelude.{◌≡◌, ℕ, ◌+◌, ◌≤◌, ◌<◌, Bool, List, [], ◌∷◌, Some, IsTrue, if◌then◌else◌}
 use Rattle.std.specs.List.{filter_map, list_any}
 use Rattle.ds_base.specs.Keys.{KeyParts}
 use Rattle.std.specs.declared.cmp.Ordering.{Ordering}
@@ -12,14 +12,19 @@ use Rattle.ds_rows.specs.Indexable.{IsIndexable}
 use Rattle.ds_rows.specs.Versions.{Version}
 use Rattle.ds_table.specs.Blocks.{Tabled, versions}
 use Rattle.ds_table.specs.Versions as table
-use Rattle.ds_shard.specs.Histories.{Each, BeginsBy, EndsWithin, Precedes, before_stamp, trimmed}
+use Rattle.ds_shard.specs.Histories.{BeginsBy, EndsWithin, Precedes, before_stamp, trimmed}
+use Rattle.std.specs.List.{AllByRecursion as Each}
 use Rattle.ds_shard.specs.Rows.{rows_of_versions}
+use Rattle.ds_shard.specs.declared.expiring.Expiry.{Expiry}
+use Rattle.ds_shard.specs.Expiries.{AreBy, AreNoted, others}
 
 pub record ContentsParts : Type 0 where
   pub definitions : List IndexDef
   pub table : Tabled
-  -- the versions of entities, those among them that ended at or before the table's floor
+  -- the versions of entities
   pub entities : List Version
+  -- the ends that were noted
+  pub ends : List Expiry
 
 -- how many elements pass the test
 abbrev pub counted : {X : Type 0} → (X → Bool) → List X → ℕ
@@ -52,7 +57,8 @@ abbrev pub AreHistories : List Version → Type 0
 AreHistories [] = Unit {0}
 AreHistories (v ∷ vs) = Each (PrecedesOwn v) vs × AreHistories vs
 
--- The table has the rows of the versions that outlive its floor, and no others; all stamps that were given are at most this one.
+-- The table has the rows of the versions that outlive its floor, and no others; the end of each version that ended is noted; all
+-- stamps that were given are at most this one.
 pub record AreKept (stamp : ℕ) (c : ContentsParts) : Type 0 where
   pub definitions : AreDefs c.definitions
   pub indexable : Each (λ (v : Version). IsIndexable v.entity) c.entities
@@ -60,6 +66,8 @@ pub record AreKept (stamp : ℕ) (c : ContentsParts) : Type 0 where
   pub ascend : Ascends version_cmp c.entities
   pub histories : AreHistories c.entities
   pub rows : HaveSame (versions c.table) (rows_of_versions c.definitions (trimmed c.table.floor c.entities))
+  pub noted : AreNoted c.ends c.entities
+  pub ends : AreBy stamp c.ends
   pub last : c.table.last ≤ stamp
   pub least : c.table.least ≤ stamp
   pub least_undone : c.table.least_undone ≤ stamp
@@ -73,16 +81,18 @@ all_undone stamp keys = filter_map (λ v. if list_any (same_key v.entity.key) ke
 -- what was done at the stamp can be taken back
 pub record CanUndo (stamp : ℕ) (c : ContentsParts) : Type 0 where
   pub begun : Each (BeginsBy stamp) c.entities
+  pub ends : AreBy stamp c.ends
   pub last : c.table.last ≤ stamp
   pub least : c.table.least ≤ stamp
   pub least_undone : c.table.least_undone ≤ stamp
   pub a_stamp : stamp < table.never
 
--- To take back what was done at the stamp leads from the one to what it leads from the other to: in the table, and in the
--- entities where those of all these keys are taken back.
+-- To take back what was done at the stamp leads from the one to what it leads from the other to: in the table, in the entities
+-- where those of all these keys are taken back, and in the ends.
 pub record LeadBack (stamp : ℕ) (keys : List KeyParts) (c d : ContentsParts) : Type 0 where
   pub table : table.undone stamp (versions d.table) ≡ table.undone stamp (versions c.table)
   pub entities : all_undone stamp keys d.entities ≡ all_undone stamp keys c.entities
+  pub ends : others stamp d.ends ≡ others stamp c.ends
   pub floor : d.table.floor ≡ c.table.floor
   pub least : d.table.least ≡ c.table.least
   pub least_undone : d.table.least_undone ≡ c.table.least_undone
@@ -98,10 +108,6 @@ pub record IsBack (stamp : ℕ) (c d : ContentsParts) : Type 0 where
   pub definitions : d.definitions ≡ c.definitions
   pub floor : d.table.floor ≡ c.table.floor
   pub kept : AreKept stamp d
-
--- the one list has no version that the other hasn't, in the same order
-abbrev pub AreFewer : List Version → List Version → Type 0
-AreFewer all few = (p : Version → Bool) × (few ≡ filter p all)
 
 -- stamps up to this one were given, and the next one may be
 pub record IsTrimmed (stamp : ℕ) (c : ContentsParts) : Type 0 where

@@ -1,6 +1,7 @@
 -- Versions of entities as writes make them: by key, those of one key in the order of their stamps.
-use Rattle.std.specs.Prelude.{◌≡◌, ℕ, ◌≤◌, Bool, true, false, ◌&&◌, not, ◌==◌, if◌then◌else◌, List, [], ◌∷◌, ◌++◌, Option, Some, None, IsTrue, filter, map}
-use Rattle.std.specs.List.{filter_map}
+use Rattle.std.specs.Prelude.{◌≡◌, ℕ, ◌≤◌, Bool, true, false, ◌&&◌, not, ◌==◌, if◌then◌else◌, List, [], ◌∷◌, ◌++◌, Option, Some, None}
+use Rattle.std.specs.Prelude.{IsTrue, filter, map}
+use Rattle.std.specs.List.{AllByRecursion as Each, filter_map}
 use Rattle.std.specs.List.Sorted.{IsStrictlySortedBy}
 use Rattle.std.specs.Map.{keys_of}
 use Rattle.std.specs.Ordering.{is_lt}
@@ -96,11 +97,6 @@ IsOver stamp v = (v.from ≤ stamp) × EndsBy stamp v.until
 -- it did, if it is of this key
 abbrev pub IsOverAt : ℕ → KeyParts → Version → Type 0
 IsOverAt stamp k v = IsTrue (same_key v.entity.key k) → IsOver stamp v
-
--- P holds of each
-abbrev pub Each : {X : Type 0} → (X → Type 0) → List X → Type 0
-Each {X = X} P [] = Unit {0}
-Each {X = X} P (x ∷ xs) = P x × Each P xs
 
 -- an end isn't before the stamp
 abbrev pub EndsFrom : ℕ → Option ℕ → Type 0

@@ -1,4 +1,5 @@
 pub mod Rows
 pub mod Histories
+pub mod Expiries
 pub mod Contents
 pub mod Shards

@@ -11,20 +11,20 @@ end_in_table None = table.never
 end_in_table (Some until) = until
 
 -- a row with the stamps of a version
-abbrev pub row_of : Version → List ℕ → table.Version
+abbrev pub row_of : Version → List ℕ → table.RowVersion
 row_of v row = record { row = row; from = v.from; to = end_in_table v.until }
 
 -- all rows of a version
-abbrev pub rows_of_version : List IndexDef → Version → List table.Version
+abbrev pub rows_of_version : List IndexDef → Version → List table.RowVersion
 rows_of_version defs v = map (row_of v) (rows_of defs v.entity)
 
 -- all rows of all versions
-abbrev pub rows_of_versions : List IndexDef → List Version → List table.Version
+abbrev pub rows_of_versions : List IndexDef → List Version → List table.RowVersion
 rows_of_versions defs = flat_map (rows_of_version defs)
 
 -- a table after these rows were closed at the stamp, one after another, or added
-abbrev pub all_closed : ℕ → List table.Version → List (List ℕ) → List table.Version
+abbrev pub all_closed : ℕ → List table.RowVersion → List (List ℕ) → List table.RowVersion
 all_closed stamp = fold (λ vs row. table.closed row stamp vs)
 
-abbrev pub all_added : ℕ → List table.Version → List (List ℕ) → List table.Version
+abbrev pub all_added : ℕ → List table.RowVersion → List (List ℕ) → List table.RowVersion
 all_added stamp = fold (λ vs row. table.added row stamp vs)

@@ -1,17 +1,15 @@
 -- What a shard holds, what an entry makes of it, and which entities it stands for at each stamp that it keeps.
 use Rattle.std.specs.Prelude.{◌≡◌, ℕ, ◌+◌, ◌-◌, ◌≤◌, ◌^◌, Bool, ◌&&◌, nat_le, nat_lt, if◌then◌else◌, List, [], fold, length, take, flat_map}
-use Rattle.std.specs.declared.cmp.Ordering.{Ordering}
-use Rattle.std.specs.Ordering.{on}
 use Rattle.ds_base.specs.Entities.{EntityParts}
-use Rattle.ds_base.specs.KeyOrder.{key_cmp}
-use Rattle.ds_base.specs.Sorting.{sorted_by}
+use Rattle.ds_base.specs.EntityOrder.{sorted_by_key}
 use Rattle.ds_indexdef.specs.declared.IndexDef.{IndexDef}
 use Rattle.ds_log.specs.declared.Entry.{Entry}
 use Rattle.ds_log.specs.After.{after}
 use Rattle.ds_log.specs.Logs.{entry_writes}
 use Rattle.ds_rows.specs.Rows.{rows_of}
 use Rattle.ds_rows.specs.Versions.{Version, entities_at, seen_rows}
-use Rattle.ds_shard.specs.Histories.{Each, written, trimmed}
+use Rattle.ds_shard.specs.Histories.{written, trimmed}
+use Rattle.std.specs.List.{AllByRecursion as Each}
 use Rattle.ds_shard.specs.Contents.{ContentsParts, IsGiven, AreKept}
 
 pub record ShardParts : Type 0 where
@@ -64,6 +62,7 @@ pub record IsShard (window count : ℕ) (c : ContentsParts) : Type 0 where
   pub given : Each (IsGiven count) c.entities
   pub floor : c.table.floor ≡ floor_of window count
   pub kept : AreKept (count + 1) c
+  pub outliving : trimmed (floor_of window count) c.entities ≡ c.entities
 
 -- ---- what it stands for
 
@@ -71,24 +70,21 @@ pub record IsShard (window count : ℕ) (c : ContentsParts) : Type 0 where
 abbrev pub last_commit : List Entry → ℕ
 last_commit = fold (λ m entry. entry.commit) 0
 
--- entities compare by their keys
-abbrev pub entity_cmp : EntityParts → EntityParts → Ordering
-entity_cmp = on (λ (e : EntityParts). e.key) key_cmp
-
--- entities in the order of their keys
-abbrev pub by_key : List EntityParts → List EntityParts
-by_key = sorted_by entity_cmp
-
--- At each stamp that it keeps a shard stands for what as many of its entries leave, and for the rows of those entities. It holds
--- no version that was replaced or deleted at or before the floor.
-pub record StandsFor (entries : List Entry) (s : ShardParts) : Type 0 where
+-- A shard with these definitions and this window stands, at each stamp that it keeps, for what as many of its entries leave, and
+-- for the rows of those entities. It holds no version that was replaced or deleted at or before the floor.
+pub record StandsFor (defs : List IndexDef) (stamps : ℕ) (entries : List Entry) (s : ShardParts) : Type 0 where
+  pub definitions : s.definitions ≡ defs
+  pub window : s.window ≡ stamps
   pub count : s.count ≡ length entries
   pub last : s.last ≡ last_commit entries
-  pub entities : (stamp : ℕ) → floor s ≤ stamp → stamp ≤ s.count → entities_at stamp s.versions ≡ by_key (after (entry_writes (take stamp entries)))
+  pub entities : (stamp : ℕ) → floor s ≤ stamp → stamp ≤ s.count
+      → entities_at stamp s.versions ≡ sorted_by_key (after (entry_writes (take stamp entries)))
   pub rows : (stamp : ℕ) → floor s ≤ stamp → stamp ≤ s.count
-      → seen_rows s.definitions stamp s.versions ≡ flat_map (rows_of s.definitions) (by_key (after (entry_writes (take stamp entries))))
+      → seen_rows s.definitions stamp s.versions ≡ flat_map (rows_of s.definitions)
+      (sorted_by_key (after (entry_writes (take stamp entries))))
   pub outliving : trimmed (floor s) s.versions ≡ s.versions
 
 -- so it is with each shard that is made empty and absorbs entries
 abbrev pub EntriesAreKept : Type 0
-EntriesAreKept = (defs : List IndexDef) (window : ℕ) → 1 ≤ window → (entries : List Entry) → StandsFor entries (shard_of_entries defs window entries)
+EntriesAreKept = (defs : List IndexDef) (window : ℕ) → 1 ≤ window → (entries : List Entry)
+    → StandsFor defs window entries (shard_of_entries defs window entries)

@@ -7,8 +7,11 @@ ghost use Rattle.ds_log.specs.Logs.{key_of};
 ghost use Rattle.ds_rows.specs.Versions.{Version, entities_at};
 ghost use Rattle.ds_table.specs.Versions.{never};
 ghost use Rattle.ds_table.specs.Blocks.{versions};
-ghost use Rattle.ds_shard.specs.Histories.{written, ended, with_version, trimmed, BeginsBy, IsOverAt, Each};
-ghost use Rattle.ds_shard.specs.Contents.{ContentsParts, all_undone, AreKept, IsGivenBefore, CanUndo, IsBack, IsTrimmed, AreFewer, LeadBack, LeadsBack};
+ghost use Rattle.ds_shard.specs.Histories.{written, ended, with_version, trimmed, BeginsBy, IsOverAt};
+ghost use Rattle.std.specs.List.{AllByRecursion as Each};
+ghost use Rattle.ds_shard.specs.Contents.{ContentsParts, all_undone, AreKept, IsGivenBefore, CanUndo, IsBack, IsTrimmed, LeadBack};
+ghost use Rattle.ds_shard.specs.Contents.{LeadsBack};
+ghost use Rattle.ds_shard.specs.Expiries.{AreBy, AreNoted};
 
 use crate::entity_versions::EntityVersions;
 use crate::expiring::Expiring;
@@ -21,7 +24,8 @@ use ds_table::{Table, TableView};
 use std::alloc::Global;
 use std::marker::Model;
 
-/// The versions of entities, and the table of the rows of those among them that outlive its floor.
+/// The versions of entities, the table of the rows of those among them that outlive its floor, and the ends of versions, by which
+/// a rising floor finds what it takes out.
 #[derive(Drop)]
 pub(crate) struct Contents {
     alloc: Global,
@@ -36,7 +40,7 @@ impl Model for Contents {
 
     ghost Value = { ContentsParts };
 
-    ghost view = { λ c. record { definitions = c.defs; table = c.table; entities = c.entities } };
+    ghost view = { λ c. record { definitions = c.defs; table = c.table; entities = c.entities; ends = c.expiring } };
 }
 
 impl Contents {
@@ -170,7 +174,8 @@ impl Contents {
     pub(crate) fn trim(&mut self, floor: u64)
         requires rises { self.old.table.floor ≤ floor }
         requires a_stamp { floor < never }
-        ensures entities { trimmed floor self.new.entities ≡ trimmed floor self.old.entities }
+        requires noted { AreNoted self.old.ends self.old.entities }
+        ensures entities { self.new.entities ≡ trimmed floor self.old.entities }
         ensures definitions { self.new.definitions ≡ self.old.definitions }
         ensures floor { self.new.table.floor ≡ floor }
         ensures kept { (stamp : ℕ) → AreKept stamp self.old → floor ≤ stamp → stamp + 1 < never → IsTrimmed stamp self.new }
@@ -190,12 +195,17 @@ fn undo_writes(entities: &mut EntityVersions, stamp: u64, writes: &[Write])
     }
 }
 
-/// Takes out the versions that ended at or before the floor, of the keys that are due. It takes no memory.
+/// Takes out the versions that ended at or before the floor, whose ends are due. It takes no memory.
 fn trim_due(entities: &mut EntityVersions, expiring: &mut Expiring, floor: u64)
-    ensures entities { trimmed floor entities.new ≡ trimmed floor entities.old }
-    ensures fewer { AreFewer entities.old entities.new }
+    requires { AreNoted expiring.old entities.old }
+    ensures entities { entities.new ≡ trimmed floor entities.old }
+    ensures noted { AreNoted expiring.new entities.new }
+    ensures still_by { (most : ℕ) → AreBy most expiring.old → AreBy most expiring.new }
 {
-    while let Some(key) = expiring.pop_due(floor) {
-        entities.trim(&key, floor);
+    'due: loop {
+        match expiring.pop_due(floor) {
+            Some(due) => entities.trim(&due.key, floor),
+            None => return,
+        }
     }
 }

@@ -6,7 +6,9 @@ ghost use Rattle.std.specs.Option.{option_copied};
 ghost use Rattle.ds_base.specs.KeyOrder.{key_cmp, same_key};
 ghost use Rattle.ds_base.specs.Entities.{EntityParts};
 ghost use Rattle.ds_rows.specs.Versions.{Version, entities_at};
-ghost use Rattle.ds_shard.specs.Histories.{joined, is_current, ended, with_version, undone, trimmed_at, BeginsBy, IsOverAt, Each, AreByKey, AreByKeyBut};
+ghost use Rattle.ds_shard.specs.Histories.{joined, is_current, ended, with_version, undone, trimmed_at, BeginsBy, IsOverAt};
+ghost use Rattle.std.specs.List.{AllByRecursion as Each};
+ghost use Rattle.ds_shard.specs.Histories.{AreByKey, AreByKeyBut};
 
 use crate::version_list::VersionList;
 use ds_base::{Entity, Key, NoMemory, TryCopy};

@@ -5,9 +5,10 @@
 //! seeks and look-ups at any stamp that it keeps.
 //!
 //! Begin with `specs/Shards`, which says what a shard holds and what an entry makes of it; `Histories` says what one write does
-//! to versions of entities, and `Rows` how a table holds their rows. `shard` has the type and its calls, `tables` its seeks.
-//! Below them `contents` does the writes of an entry to table and entities, `rows` closes and adds rows in the table,
-//! `entity_versions` keeps the versions of all entities and `version_list` those of one.
+//! to versions of entities, `Rows` how a table holds their rows, and `Expiries` how those are found that leave the window. `shard`
+//! has the type and its calls, `tables` its seeks, and `state` is a shard as the state of a hub of `ds_hub`. Below them `contents`
+//! does the writes of an entry to table and entities, `rows` closes and adds rows in the table, `entity_versions` keeps the
+//! versions of all entities and `version_list` those of one, and `expiring` notes which of them ended.
 #![tactic(auto)]
 
 mod contents;
@@ -16,9 +17,11 @@ mod expiring;
 pub mod laws;
 mod rows;
 pub mod shard;
+pub mod state;
 pub mod tables;
 mod version_list;
 
 pub use laws::entries_are_kept;
 pub use shard::Shard;
+pub use state::ShardState;
 pub use tables::ShardTables;

@@ -3,7 +3,7 @@ ghost use Rattle.std.specs.Prelude.{◌≡◌, ◌≤◌, ◌<◌, IsTrue, IsFal
 ghost use Rattle.ds_rows.specs.Laws.{IsOnce};
 ghost use Rattle.ds_table.specs.Versions.{never, has_alive, undone};
 ghost use Rattle.ds_table.specs.Blocks.{versions};
-ghost use Rattle.ds_shard.specs.Histories.{Each};
+ghost use Rattle.std.specs.List.{AllByRecursion as Each};
 ghost use Rattle.ds_shard.specs.Rows.{all_closed, all_added};
 
 use ds_base::NoMemory;

@@ -32,8 +32,7 @@ pub struct Shard {
 }
 
 impl Model for Shard {
-    ghost use Rattle.ds_shard.specs.Histories.{trimmed};
-    ghost use Rattle.ds_shard.specs.Shards.{ShardParts, IsShard, floor_of};
+    ghost use Rattle.ds_shard.specs.Shards.{ShardParts, IsShard};
 
     ghost Value = { ShardParts };
 
@@ -42,7 +41,7 @@ impl Model for Shard {
       window = s.window;
       count = s.count;
       last = s.last;
-      versions = trimmed (floor_of s.window s.count) s.contents.entities;
+      versions = s.contents.entities;
     } };
 
     ghost invariant = { λ s. IsShard s.window s.count s.contents };
@@ -80,8 +79,8 @@ impl Shard {
     }
 
     /// Absorbs the next entry, of fewer than 2^62: at the next stamp the rows of replaced and deleted entities are closed and those
-    /// of put entities are added, and then the versions go that no stamp of the window sees any more. A refusal, which is want of
-    /// memory, changes nothing.
+    /// of put entities are added, and then the versions are taken out, with their entities and rows, that no stamp of the window
+    /// sees any more. A refusal, which is want of memory, changes nothing.
     ///
     /// It takes time by the rows of the entities that are written, old and new; their properties are shared with the entry.
     pub fn absorb(&mut self, entry: &Entry) -> Result<(), NoMemory>

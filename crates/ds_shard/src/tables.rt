@@ -52,7 +52,8 @@ impl<'a, L: Ledger> Tables for ShardTables<'a, L> {
         below: Option<&[u8]>,
         steps: &mut Steps<M>,
     ) -> Option<&[u8]> {
-        self.shard.view(at).seek(at_least, below, steps)
+        let mut near = 0;
+        self.seek_near(at, at_least, below, &mut near, steps)
     }
 
     fn seek_near<M: Ledger>(

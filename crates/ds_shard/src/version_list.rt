@@ -1,9 +1,12 @@
 //! The versions of one entity.
-ghost use Rattle.std.specs.Prelude.{◌≡◌, ◌↔◌, ◌++◌, [], ◌∷◌, None, Some, cond, map, find, option_map, if◌then◌else◌, OnOk, OnErr, IsFalse, IsTrue};
+ghost use Rattle.std.specs.Prelude.{◌≡◌, ◌↔◌, ◌++◌, [], ◌∷◌, None, Some, cond, map, find, option_map, if◌then◌else◌, OnOk, OnErr};
+ghost use Rattle.std.specs.Prelude.{IsFalse, IsTrue};
 ghost use Rattle.std.specs.List.{filter_map};
 ghost use Rattle.std.specs.Option.{option_copied};
 ghost use Rattle.ds_rows.specs.Versions.{Version, is_before, is_seen};
-ghost use Rattle.ds_shard.specs.Histories.{is_open, until_stamp, before_stamp, trimmed, version_of, last_begins_at, ends_at, first_is_over, BeginsBy, IsOver, IsHistory, Each};
+ghost use Rattle.ds_shard.specs.Histories.{is_open, until_stamp, before_stamp, trimmed, version_of, last_begins_at, ends_at};
+ghost use Rattle.ds_shard.specs.Histories.{first_is_over, BeginsBy, IsOver, IsHistory};
+ghost use Rattle.std.specs.List.{AllByRecursion as Each};
 
 use ds_base::{Entity, NoMemory, TryCopy};
 use std::alloc::Global;

@@ -4,10 +4,10 @@ use Rattle.std.proofs.Math.ListN.{set}
 use Rattle.std.specs.List.{insert, remove}
 use Rattle.std.specs.Prelude.{true, nat_lt}
 use Rattle.std.proofs.lemmas.Bool.Decides.{nat_tests}
-use Rattle.ds_table.specs.Each.{Each}
+use Rattle.std.specs.List.{AllByRecursion as Each}
 use Rattle.ds_table.specs.declared.change.Change.TheVariants.{Trim}
 use Rattle.ds_table.specs.Changes.{changed}
-use Rattle.ds_table.specs.Versions.{Version, ended_at}
+use Rattle.ds_table.specs.Versions.{RowVersion, ended_at}
 use Rattle.ds_table.specs.Blocks.{versions_of}
 
 pub as_many : (rs : List (List ℕ)) (fs ts : List ℕ) → length fs ≡ length rs → length ts ≡ length rs → length (versions_of rs fs ts) ≡ length rs
@@ -16,13 +16,13 @@ as_many (r ∷ rs) [] ts a b = absurd (omega (arith, a))
 as_many (r ∷ rs) (f ∷ fs) [] a b = absurd (omega (arith, b))
 as_many (r ∷ rs) (f ∷ fs) (t ∷ ts) a b = ap suc (as_many rs fs ts (omega (arith, a)) (omega (arith, b)))
 
-pub rows_of : (rs : List (List ℕ)) (fs ts : List ℕ) → length fs ≡ length rs → length ts ≡ length rs → map (λ v. v.row) (versions_of rs fs ts) ≡ rs
-rows_of [] fs ts a b = refl
-rows_of (r ∷ rs) [] ts a b = absurd (omega (arith, a))
-rows_of (r ∷ rs) (f ∷ fs) [] a b = absurd (omega (arith, b))
-rows_of (r ∷ rs) (f ∷ fs) (t ∷ ts) a b = ap (λ l. r ∷ l) (rows_of rs fs ts (omega (arith, a)) (omega (arith, b)))
+pub rows_in_columns : (rs : List (List ℕ)) (fs ts : List ℕ) → length fs ≡ length rs → length ts ≡ length rs → map (λ v. v.row) (versions_of rs fs ts) ≡ rs
+rows_in_columns [] fs ts a b = refl
+rows_in_columns (r ∷ rs) [] ts a b = absurd (omega (arith, a))
+rows_in_columns (r ∷ rs) (f ∷ fs) [] a b = absurd (omega (arith, b))
+rows_in_columns (r ∷ rs) (f ∷ fs) (t ∷ ts) a b = ap (λ l. r ∷ l) (rows_in_columns rs fs ts (omega (arith, a)) (omega (arith, b)))
 
-pub version_at : (i : ℕ) (rs : List (List ℕ)) (fs ts : List ℕ) (d : Version) (r₀ : List ℕ) (f₀ t₀ : ℕ) → length fs ≡ length rs → length ts ≡ length rs → i < length rs
+pub version_at : (i : ℕ) (rs : List (List ℕ)) (fs ts : List ℕ) (d : RowVersion) (r₀ : List ℕ) (f₀ t₀ : ℕ) → length fs ≡ length rs → length ts ≡ length rs → i < length rs
     → get_or (versions_of rs fs ts) i d ≡ record { row = get_or rs i r₀; from = get_or fs i f₀; to = get_or ts i t₀ }
 version_at i [] fs ts d r₀ f₀ t₀ a b h = absurd (omega (arith, h))
 version_at i (r ∷ rs) [] ts d r₀ f₀ t₀ a b h = absurd (omega (arith, a))
@@ -75,7 +75,7 @@ after_drop (suc i) (r ∷ rs) [] ts a b = absurd (omega (arith, a))
 after_drop (suc i) (r ∷ rs) (f ∷ fs) [] a b = absurd (omega (arith, b))
 after_drop (suc i) (r ∷ rs) (f ∷ fs) (t ∷ ts) a b = after_drop i rs fs ts (omega (arith, a)) (omega (arith, b))
 
-pub after_close : (i : ℕ) (rs : List (List ℕ)) (fs ts : List ℕ) (t : ℕ) (d : Version) → length fs ≡ length rs → length ts ≡ length rs → i < length rs
+pub after_close : (i : ℕ) (rs : List (List ℕ)) (fs ts : List ℕ) (t : ℕ) (d : RowVersion) → length fs ≡ length rs → length ts ≡ length rs → i < length rs
     → versions_of rs fs (set ts i t) ≡ set (versions_of rs fs ts) i (ended_at t (get_or (versions_of rs fs ts) i d))
 after_close i [] fs ts t d a b h = absurd (omega (arith, h))
 after_close i (q ∷ rs) [] ts t d a b h = absurd (omega (arith, a))

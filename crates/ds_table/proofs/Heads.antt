@@ -1,5 +1,6 @@
 -- That heads compare as the rows do, and what becomes of them where the rows change.
-use Rattle.std.proofs.Common.{◌≡◌, ◌≢◌, ℕ, zero, suc, ◌+◌, ◌*◌, ◌<◌, ◌≤◌, Bool, true, false, List, [], ◌∷◌, ◌++◌, length, take, drop, get_or, refl, ap, sym, ◌∙◌, arith, subst}
+use Rattle.std.proofs.Common.{◌≡◌, ◌≢◌, ℕ, zero, suc, ◌+◌, ◌*◌, ◌<◌, ◌≤◌, Bool, true, false, List, [], ◌∷◌, ◌++◌, length, take, drop}
+use Rattle.std.proofs.Common.{get_or, refl, ap, sym, ◌∙◌, arith, subst}
 use Rattle.std.specs.Prelude.{not, nat_lt}
 use Rattle.std.proofs.lemmas.Bool.Decides.{nat_tests}
 use Rattle.std.specs.List.{insert, remove}
@@ -11,7 +12,7 @@ use Rattle.std.specs.Ordering.{is_lt, nat_cmp, ordering_then, ordering_reverse}
 use Rattle.std.specs.Cmp.Lexicographic.{nat_list_cmp_total}
 use Rattle.std.proofs.lemmas.Cmp.{tied_itself, ranked}
 use Rattle.ds_base.specs.KeyOrder.{bytes_cmp}
-use Rattle.ds_table.specs.Each.{Each}
+use Rattle.std.specs.List.{AllByRecursion as Each}
 use Rattle.ds_table.specs.Versions.{is_below}
 use Rattle.ds_table.specs.Places.{row_before, IsPlace}
 use Rattle.ds_table.specs.Heads.{number_behind, head_of, heads_of, Shares, IsAlike}
@@ -37,20 +38,20 @@ parts_cmp (suc s) (b ∷ x) (c ∷ y) =
 
 -- ---- numbers of bytes
 
-abbrev pub AreBytes : List ℕ → Type 0
-AreBytes xs = Each (λ b. b < 256) xs
+abbrev pub AreAllBytes : List ℕ → Type 0
+AreAllBytes xs = Each (λ b. b < 256) xs
 
-pub bytes_each : (xs : List ℕ) → ((i : ℕ) → get_or xs i 0 < 256) → AreBytes xs
+pub bytes_each : (xs : List ℕ) → ((i : ℕ) → get_or xs i 0 < 256) → AreAllBytes xs
 bytes_each [] h = tt
 bytes_each (x ∷ xs) h = (h 0, bytes_each xs (λ i. h (suc i)))
 
-pub bytes_dropped : (s : ℕ) (xs : List ℕ) → AreBytes xs → AreBytes (drop s xs)
+pub bytes_dropped : (s : ℕ) (xs : List ℕ) → AreAllBytes xs → AreAllBytes (drop s xs)
 bytes_dropped zero xs h = h
 bytes_dropped (suc s) [] h = tt
 bytes_dropped (suc s) (x ∷ xs) h = bytes_dropped s xs h.1
 
 -- a greater number stays greater
-number_above : (k m n : ℕ) (x y : List ℕ) → m < n → AreBytes x → number_behind m k x < number_behind n k y
+number_above : (k m n : ℕ) (x y : List ℕ) → m < n → AreAllBytes x → number_behind m k x < number_behind n k y
 number_above zero m n x y l h = l
 number_above (suc k) m n [] [] l h = number_above k (m * 256 + 0) (n * 256 + 0) [] [] (omega (arith, l)) tt
 number_above (suc k) m n [] (c ∷ y) l h = number_above k (m * 256 + 0) (n * 256 + c) [] y (omega (arith, l)) tt
@@ -64,7 +65,7 @@ number_least (suc k) m n [] l = number_least k (m * 256 + 0) (n * 256 + 0) [] (o
 number_least (suc k) m n (b ∷ x) l = number_least k (m * 256 + 0) (n * 256 + b) x (omega (arith, l))
 
 -- a lower number is that of a lower row
-number_less : (k m : ℕ) (x y : List ℕ) → AreBytes y → number_behind m k x < number_behind m k y → bytes_cmp x y ≡ Less
+number_less : (k m : ℕ) (x y : List ℕ) → AreAllBytes y → number_behind m k x < number_behind m k y → bytes_cmp x y ≡ Less
 number_less zero m x y h l = absurd (omega (arith, l))
 number_less (suc k) m [] [] h l = absurd (omega (arith, l))
 number_less (suc k) m [] (c ∷ y) h l = refl
@@ -78,23 +79,23 @@ number_less (suc k) m (b ∷ x) (c ∷ y) h l =
     by Greater e i = absurd (omega (arith, l, number_above k (m * 256 + c) (m * 256 + b) y x (omega (arith, ranked b c Greater e)) h.1))
 
 -- the row with the lower head is below
-pub head_below : (s : ℕ) (x y : List ℕ) → AreBytes y → take s x ≡ take s y → head_of s x < head_of s y → is_below x y ≡ true
+pub head_below : (s : ℕ) (x y : List ℕ) → AreAllBytes y → take s x ≡ take s y → head_of s x < head_of s y → is_below x y ≡ true
 head_below s x y h e l =
     let p : bytes_cmp (take s x) (take s y) ≡ Equal = rw e (tied_itself nat_list_cmp_total (take s y)) in
     let q : bytes_cmp (drop s x) (drop s y) ≡ Less = number_less 8 0 (drop s x) (drop s y) (bytes_dropped s y h) l in
     let z : bytes_cmp x y ≡ Less = parts_cmp s x y ∙ rw (p, q) refl in
     ap is_lt z
 
-pub head_before : (s : ℕ) (o r : List ℕ) (same_too : Bool) → AreBytes o → take s r ≡ take s o → head_of s r < head_of s o → row_before o same_too r ≡ true
+pub head_before : (s : ℕ) (o r : List ℕ) (same_too : Bool) → AreAllBytes o → take s r ≡ take s o → head_of s r < head_of s o → row_before o same_too r ≡ true
 head_before s o r true h e l = ap not (below_back r o (head_below s r o h e l))
 head_before s o r false h e l = head_below s r o h e l
 
-pub head_behind : (s : ℕ) (o r : List ℕ) (same_too : Bool) → AreBytes r → take s r ≡ take s o → head_of s o < head_of s r → row_before o same_too r ≡ false
+pub head_behind : (s : ℕ) (o r : List ℕ) (same_too : Bool) → AreAllBytes r → take s r ≡ take s o → head_of s o < head_of s r → row_before o same_too r ≡ false
 head_behind s o r true h e l = ap not (head_below s o r h (sym e) l)
 head_behind s o r false h e l = below_back o r (head_below s o r h (sym e) l)
 
 -- heads that aren't the same decide
-pub head_decides : (s : ℕ) (o r : List ℕ) (same_too : Bool) (m n : ℕ) → AreBytes o → AreBytes r → take s r ≡ take s o → m ≡ head_of s r → n ≡ head_of s o → m ≢ n
+pub head_decides : (s : ℕ) (o r : List ℕ) (same_too : Bool) (m n : ℕ) → AreAllBytes o → AreAllBytes r → take s r ≡ take s o → m ≡ head_of s r → n ≡ head_of s o → m ≢ n
     → nat_lt m n ≡ row_before o same_too r
 head_decides s o r same_too m n ho hr e a b d = by (nat_lt m n) refl
   where

@@ -8,8 +8,8 @@ use Rattle.std.specs.declared.cmp.Ordering.TheVariants.{Less, Equal, Greater}
 use Rattle.std.specs.Ordering.{is_lt}
 use Rattle.std.proofs.lemmas.Bool.Decides.{nat_tests}
 use Rattle.ds_base.specs.KeyOrder.{bytes_cmp}
-use Rattle.ds_table.specs.Each.{Each}
-use Rattle.ds_table.specs.Versions.{Version, is_below, is_seen, seen_rows, unseen_rows}
+use Rattle.std.specs.List.{AllByRecursion as Each}
+use Rattle.ds_table.specs.Versions.{RowVersion, is_below, is_seen, seen_rows, unseen_rows}
 use Rattle.ds_table.specs.Blocks.{IsOrdered, Precedes}
 use Rattle.ds_table.specs.Places.{IsRising}
 use Rattle.ds_table.proofs.Order.{below_unless_same}
@@ -27,13 +27,13 @@ and_parts a b d e = by (nat_le a d) (nat_lt d b) refl refl e
     by true false p q e = let z : true ≡ false = rw (← p, ← q) at e in cc
     by false y p q e = let z : true ≡ false = rw (← p) at e in cc
 
-above : (at : ℕ) (v w : Version) → true ≡ is_seen at v → true ≡ is_seen at w → Precedes v w → bytes_cmp v.row w.row ≡ Less
+above : (at : ℕ) (v w : RowVersion) → true ≡ is_seen at v → true ≡ is_seen at w → Precedes v w → bytes_cmp v.row w.row ≡ Less
 above at v w s t p =
     let a = and_parts v.from v.to at s in
     let b = and_parts w.from w.to at t in
     less (bytes_cmp v.row w.row) (below_unless_same v.row w.row p.not_above (λ e. let k = p.apart e in absurd (omega (arith, k, a.1, b.0))))
 
-seen_above : (at : ℕ) (v : Version) → true ≡ is_seen at v → (ws : List Version) → Each (Precedes v) ws → AllByRecursion (λ y. bytes_cmp v.row y ≡ Less) (seen_rows at ws)
+seen_above : (at : ℕ) (v : RowVersion) → true ≡ is_seen at v → (ws : List RowVersion) → Each (Precedes v) ws → AllByRecursion (λ y. bytes_cmp v.row y ≡ Less) (seen_rows at ws)
 seen_above at v s [] h = tt
 seen_above at v s (w ∷ ws) h = by (is_seen at w) refl (seen_above at v s ws h.1)
   where
@@ -41,7 +41,7 @@ seen_above at v s (w ∷ ws) h = by (is_seen at w) refl (seen_above at v s ws h.
     by true e i = rw (← e) (above at v w s e h.0, i)
     by false e i = rw (← e) i
 
-pub seen_ascend : (at : ℕ) (vs : List Version) → IsOrdered vs → IsStrictlySortedBy bytes_cmp (seen_rows at vs)
+pub seen_ascend : (at : ℕ) (vs : List RowVersion) → IsOrdered vs → IsStrictlySortedBy bytes_cmp (seen_rows at vs)
 unfolding IsStrictlySortedBy
 seen_ascend at [] h = tt
 seen_ascend at (v ∷ vs) h = by (is_seen at v) refl (seen_ascend at vs h.1)
@@ -50,7 +50,7 @@ seen_ascend at (v ∷ vs) h = by (is_seen at v) refl (seen_ascend at vs h.1)
     by true e i = rw (← e) (seen_above at v e vs h.0, i)
     by false e i = rw (← e) i
 
-unseen_above : (at : ℕ) (v : Version) (ws : List Version) → Each (Precedes v) ws → Each (λ y. is_below y v.row ≡ false) (unseen_rows at ws)
+unseen_above : (at : ℕ) (v : RowVersion) (ws : List RowVersion) → Each (Precedes v) ws → Each (λ y. is_below y v.row ≡ false) (unseen_rows at ws)
 unseen_above at v [] h = tt
 unseen_above at v (w ∷ ws) h = by (is_seen at w) refl (unseen_above at v ws h.1)
   where
@@ -58,7 +58,7 @@ unseen_above at v (w ∷ ws) h = by (is_seen at w) refl (unseen_above at v ws h.
     by true e i = rw (← e) i
     by false e i = rw (← e) (h.0.not_above, i)
 
-unseen_rise : (at : ℕ) (vs : List Version) → IsOrdered vs → IsRising (unseen_rows at vs)
+unseen_rise : (at : ℕ) (vs : List RowVersion) → IsOrdered vs → IsRising (unseen_rows at vs)
 unseen_rise at [] h = tt
 unseen_rise at (v ∷ vs) h = by (is_seen at v) refl (unseen_rise at vs h.1)
   where
@@ -74,5 +74,5 @@ sorted_of (x ∷ y ∷ xs) h (suc k) d low b =
     let same : suc (k + 1) ≡ suc k + 1 = omega arith in
     subst (λ m. is_lt (bytes_cmp (get_or (x ∷ y ∷ xs) m d) (get_or (y ∷ xs) k d)) ≡ false) same (sorted_of (y ∷ xs) h.1 k d (omega arith) (omega arith))
 
-pub unseen_rises : (at : ℕ) (vs : List Version) → IsOrdered vs → IsSorted bytes_cmp (unseen_rows at vs)
+pub unseen_rises : (at : ℕ) (vs : List RowVersion) → IsOrdered vs → IsSorted bytes_cmp (unseen_rows at vs)
 unseen_rises at vs h = sorted_of (unseen_rows at vs) (unseen_rise at vs h)

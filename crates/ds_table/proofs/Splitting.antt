@@ -1,60 +1,62 @@
 -- Where a place is after a full block was split, and what an insertion makes of all versions.
-use Rattle.std.proofs.Common.{◌≡◌, ℕ, zero, suc, ◌<◌, ◌≤◌, true, false, Bool, List, [], ◌∷◌, ◌++◌, length, take, drop, get_or, refl, ap, sym, ◌∙◌, arith, subst, append_assoc, add-one}
+use Rattle.std.proofs.Common.{◌≡◌, ℕ, zero, suc, ◌<◌, ◌≤◌, true, false, Bool, List, [], ◌∷◌, ◌++◌, length, take, drop, get_or, refl, ap}
+use Rattle.std.proofs.Common.{sym, ◌∙◌, arith, subst, append_assoc, add-one}
 use Rattle.std.proofs.Math.ListN.{set}
 use Rattle.std.specs.List.{insert}
 use Rattle.std.proofs.lemmas.List.{length-append, append-nil, take-append-drop, get_or-take, get_or-drop, length-take, length-drop}
-use Rattle.ds_table.specs.Each.{Each}
-use Rattle.ds_table.specs.Versions.{Version, never, is_alive, has_alive, with_version, added, closed, ended_at}
+use Rattle.std.specs.List.{AllByRecursion as Each}
+use Rattle.ds_table.specs.Versions.{RowVersion, never, is_alive, has_alive, with_version, added, closed, ended_at}
 use Rattle.ds_table.specs.Blocks.{joined, IsOrdered, IsGiven}
 use Rattle.ds_table.specs.Places.{comes_before, IsPlace, IsPlaced}
 use Rattle.ds_table.proofs.Lists.{each_append, each_at, all_right, all_then, take_fewer, drop_further, not_both}
 use Rattle.ds_table.proofs.Spacing.{joined_at, joined_set, set_parts}
-use Rattle.ds_table.proofs.Lives.{with_version_is, added_ordered, inserted_each, given_new, given_more, closed_is, closed_ordered, closed_given, none_alive, later_not_alive}
+use Rattle.ds_table.proofs.Lives.{with_version_is, added_ordered, inserted_each, given_new, given_more, closed_is, closed_ordered}
+use Rattle.ds_table.proofs.Lives.{closed_given, none_alive, later_not_alive}
 
-take_split : (bs : List (List Version)) (i : ℕ) (b c : List Version) → i < length bs → take i (take i bs ++ b ∷ c ∷ drop (suc i) bs) ≡ take i bs
+take_split : (bs : List (List RowVersion)) (i : ℕ) (b c : List RowVersion) → i < length bs → take i (take i bs ++ b ∷ c ∷ drop (suc i) bs) ≡ take i bs
 take_split bs zero b c h = refl
 take_split [] (suc i) b c h = absurd (omega (arith, h))
 take_split (a ∷ bs) (suc i) b c h = ap (λ l. a ∷ l) (take_split bs i b c (omega (arith, h)))
 
-at_split : (bs : List (List Version)) (i : ℕ) (b c : List Version) → i < length bs → get_or (take i bs ++ b ∷ c ∷ drop (suc i) bs) i [] ≡ b
+at_split : (bs : List (List RowVersion)) (i : ℕ) (b c : List RowVersion) → i < length bs → get_or (take i bs ++ b ∷ c ∷ drop (suc i) bs) i [] ≡ b
 at_split bs zero b c h = refl
 at_split [] (suc i) b c h = absurd (omega (arith, h))
 at_split (a ∷ bs) (suc i) b c h = at_split bs i b c (omega (arith, h))
 
-drop_split : (bs : List (List Version)) (i : ℕ) (b c : List Version) → i < length bs → drop (suc i) (take i bs ++ b ∷ c ∷ drop (suc i) bs) ≡ c ∷ drop (suc i) bs
+drop_split : (bs : List (List RowVersion)) (i : ℕ) (b c : List RowVersion) → i < length bs → drop (suc i) (take i bs ++ b ∷ c ∷ drop (suc i) bs) ≡ c ∷ drop (suc i) bs
 drop_split bs zero b c h = refl
 drop_split [] (suc i) b c h = absurd (omega (arith, h))
 drop_split (a ∷ bs) (suc i) b c h = drop_split bs i b c (omega (arith, h))
 
-joined_take_split : (bs : List (List Version)) (i : ℕ) (b c : List Version) → i < length bs → joined (take (suc i) (take i bs ++ b ∷ c ∷ drop (suc i) bs)) ≡ joined (take i bs) ++ b
+joined_take_split : (bs : List (List RowVersion)) (i : ℕ) (b c : List RowVersion) → i < length bs → joined (take (suc i) (take i bs ++ b ∷ c ∷ drop (suc i) bs)) ≡ joined (take i bs) ++ b
 joined_take_split bs zero b c h = append-nil b
 joined_take_split [] (suc i) b c h = absurd (omega (arith, h))
 joined_take_split (a ∷ bs) (suc i) b c h = ap (λ l. a ++ l) (joined_take_split bs i b c (omega (arith, h))) ∙ sym (append_assoc a (joined (take i bs)) b)
 
-at_split_next : (bs : List (List Version)) (i : ℕ) (b c : List Version) → i < length bs → get_or (take i bs ++ b ∷ c ∷ drop (suc i) bs) (suc i) [] ≡ c
+at_split_next : (bs : List (List RowVersion)) (i : ℕ) (b c : List RowVersion) → i < length bs → get_or (take i bs ++ b ∷ c ∷ drop (suc i) bs) (suc i) [] ≡ c
 at_split_next bs zero b c h = refl
 at_split_next [] (suc i) b c h = absurd (omega (arith, h))
 at_split_next (a ∷ bs) (suc i) b c h = at_split_next bs i b c (omega (arith, h))
 
-drop_split_next : (bs : List (List Version)) (i : ℕ) (b c : List Version) → i < length bs → drop (suc (suc i)) (take i bs ++ b ∷ c ∷ drop (suc i) bs) ≡ drop (suc i) bs
+drop_split_next : (bs : List (List RowVersion)) (i : ℕ) (b c : List RowVersion) → i < length bs → drop (suc (suc i)) (take i bs ++ b ∷ c ∷ drop (suc i) bs) ≡ drop (suc i) bs
 drop_split_next bs zero b c h = refl
 drop_split_next [] (suc i) b c h = absurd (omega (arith, h))
 drop_split_next (a ∷ bs) (suc i) b c h = drop_split_next bs i b c (omega (arith, h))
 
-pub long_split : (bs : List (List Version)) (i : ℕ) (b c : List Version) → i < length bs → length (take i bs ++ b ∷ c ∷ drop (suc i) bs) ≡ suc (length bs)
+pub long_split : (bs : List (List RowVersion)) (i : ℕ) (b c : List RowVersion) → i < length bs → length (take i bs ++ b ∷ c ∷ drop (suc i) bs) ≡ suc (length bs)
 long_split [] i b c h = absurd (omega (arith, h))
 long_split (a ∷ bs) zero b c h = refl
 long_split (a ∷ bs) (suc i) b c h = ap suc (long_split bs i b c (omega (arith, h)))
 
 -- a row's place is in the first half, or in the second
-module _ (test : Version → Bool) (bs : List (List Version)) (i p : ℕ) (l : i < length bs) (q : IsPlaced test bs i) (r : IsPlace test (get_or bs i []) p) (full : 128 < length (get_or bs i [])) where
-  abbrev half : List Version
+module _ (test : RowVersion → Bool) (bs : List (List RowVersion)) (i p : ℕ) (l : i < length bs) (q : IsPlaced test bs i) (r : IsPlace test (get_or bs i []) p) (full : 128 < length (get_or bs i [])) where
+  abbrev half : List RowVersion
   half = take 128 (get_or bs i [])
 
-  abbrev rest : List Version
+  abbrev rest : List RowVersion
   rest = drop 128 (get_or bs i [])
 
-  abbrev split : List (List Version)
+  abbrev split : List (List RowVersion)
   split = take i bs ++ half ∷ rest ∷ drop (suc i) bs
 
   pub placed_first : p ≤ 128 → IsPlaced test split i
@@ -85,11 +87,11 @@ module _ (test : Version → Bool) (bs : List (List Version)) (i p : ℕ) (l : i
   room_second h = rw (at_split_next bs i half rest l, length-drop) (omega (arith, h))
 
 -- ---- what is before a place in a block, and what is behind it
-module _ (row : List ℕ) (bs : List (List Version)) (i p : ℕ) (l : i < length bs) (q : IsPlaced (comes_before row true) bs i) (r : IsPlace (comes_before row true) (get_or bs i []) p) where
-  abbrev front : List Version
+module _ (row : List ℕ) (bs : List (List RowVersion)) (i p : ℕ) (l : i < length bs) (q : IsPlaced (comes_before row true) bs i) (r : IsPlace (comes_before row true) (get_or bs i []) p) where
+  abbrev front : List RowVersion
   front = joined (take i bs) ++ take p (get_or bs i [])
 
-  abbrev back : List Version
+  abbrev back : List RowVersion
   back = drop p (get_or bs i []) ++ joined (drop (suc i) bs)
 
   front_before : Each (λ w. comes_before row true w ≡ true) front
@@ -102,38 +104,38 @@ module _ (row : List ℕ) (bs : List (List Version)) (i p : ℕ) (l : i < length
   all_parts = joined_at bs i l ∙ (ap (λ b. joined (take i bs) ++ (b ++ joined (drop (suc i) bs))) (sym (take-append-drop p (get_or bs i [])))
       ∙ simp append_assoc)
 
-  new_parts : (v : Version) → joined (set bs i (insert (get_or bs i []) p v)) ≡ front ++ (v ∷ back)
+  new_parts : (v : RowVersion) → joined (set bs i (insert (get_or bs i []) p v)) ≡ front ++ (v ∷ back)
   new_parts v = joined_set bs i (insert (get_or bs i []) p v) l ∙ simp append_assoc
 
   pub added_joined : (stamp : ℕ) → joined (set bs i (insert (get_or bs i []) p (record { row = row; from = stamp; to = never }))) ≡ added row stamp (joined bs)
   added_joined stamp =
-      let v : Version = record { row = row; from = stamp; to = never } in
+      let v : RowVersion = record { row = row; from = stamp; to = never } in
       new_parts v ∙ (sym (with_version_is v front back front_before back_after) ∙ ap (with_version v) (sym all_parts))
 
   pub added_in_order : (stamp last : ℕ) → last ≤ stamp → IsOrdered (joined bs) → Each (IsGiven last) (joined bs) → has_alive row (joined bs) ≡ false
       → IsOrdered (joined (set bs i (insert (get_or bs i []) p (record { row = row; from = stamp; to = never }))))
   added_in_order stamp last h o g a =
-      let v : Version = record { row = row; from = stamp; to = never } in
+      let v : RowVersion = record { row = row; from = stamp; to = never } in
       subst IsOrdered (sym (new_parts v)) (added_ordered row stamp last front back h (subst IsOrdered all_parts o) (subst (Each (IsGiven last)) all_parts g) (subst (λ l. has_alive row l ≡ false) all_parts a) front_before back_after)
 
   pub added_given : (stamp last : ℕ) → last ≤ stamp → Each (IsGiven last) (joined bs) → Each (IsGiven stamp) (joined (set bs i (insert (get_or bs i []) p (record { row = row; from = stamp; to = never }))))
   added_given stamp last h g =
-      let v : Version = record { row = row; from = stamp; to = never } in
+      let v : RowVersion = record { row = row; from = stamp; to = never } in
       subst (Each (IsGiven stamp)) (sym (new_parts v)) (inserted_each (IsGiven stamp) v front back (given_new row stamp)
       (subst (Each (IsGiven stamp)) all_parts (all_then (IsGiven last) (IsGiven stamp) (λ w. given_more last stamp w h) (joined bs) g)))
 
-  pub added_long : (v : Version) → length (joined (set bs i (insert (get_or bs i []) p v))) ≡ suc (length (joined bs))
+  pub added_long : (v : RowVersion) → length (joined (set bs i (insert (get_or bs i []) p v))) ≡ suc (length (joined bs))
   added_long v = ap length (new_parts v) ∙ (simp length-append (omega arith) ∙ sym (ap (λ l. suc (length l)) all_parts))
 
 -- ---- closing the last version before a place
-module _ (row : List ℕ) (bs : List (List Version)) (i p : ℕ) (l : i < length bs) (q : IsPlaced (comes_before row true) bs i) (r : IsPlace (comes_before row true) (get_or bs i []) (suc p)) where
-  abbrev one : Version
+module _ (row : List ℕ) (bs : List (List RowVersion)) (i p : ℕ) (l : i < length bs) (q : IsPlaced (comes_before row true) bs i) (r : IsPlace (comes_before row true) (get_or bs i []) (suc p)) where
+  abbrev one : RowVersion
   one = get_or (get_or bs i []) p (record { row = []; from = 0; to = 0 })
 
-  abbrev before_it : List Version
+  abbrev before_it : List RowVersion
   before_it = joined (take i bs) ++ take p (get_or bs i [])
 
-  abbrev behind_it : List Version
+  abbrev behind_it : List RowVersion
   behind_it = drop (suc p) (get_or bs i []) ++ joined (drop (suc i) bs)
 
   inside : p < length (get_or bs i [])
@@ -141,14 +143,14 @@ module _ (row : List ℕ) (bs : List (List Version)) (i p : ℕ) (l : i < length
 
   one_before : comes_before row true one ≡ true
   one_before =
-      let d : Version = record { row = []; from = 0; to = 0 } in
+      let d : RowVersion = record { row = []; from = 0; to = 0 } in
       let k : p < length (take (suc p) (get_or bs i [])) = simp length-take (omega (arith, r.within)) in
       rw (get_or-take (suc p) (get_or bs i []) p d (omega arith)) at (each_at (λ w. comes_before row true w ≡ true) (take (suc p) (get_or bs i [])) p d k r.before)
 
   behind_after : Each (λ w. comes_before row true w ≡ false) behind_it
   behind_after = each_append (λ w. comes_before row true w ≡ false) (drop (suc p) (get_or bs i [])) (joined (drop (suc i) bs)) r.after (rw add-one at q.after)
 
-  block_parts : (b : List Version) (n : ℕ) (d : Version) → n < length b → b ≡ take n b ++ (get_or b n d ∷ drop (suc n) b)
+  block_parts : (b : List RowVersion) (n : ℕ) (d : RowVersion) → n < length b → b ≡ take n b ++ (get_or b n d ∷ drop (suc n) b)
   block_parts [] n d h = absurd (omega (arith, h))
   block_parts (v ∷ b) zero d h = refl
   block_parts (v ∷ b) (suc n) d h = ap (λ l. v ∷ l) (block_parts b n d (omega (arith, h)))
@@ -178,7 +180,7 @@ module _ (row : List ℕ) (bs : List (List Version)) (i p : ℕ) (l : i < length
   closed_long stamp = ap length (closed_parts stamp) ∙ (simp length-append refl ∙ sym (ap length old_parts))
 
 -- where a row is alive there is a version before its place, in the block of the place
-pub some_before : (row : List ℕ) (bs : List (List Version)) (i p : ℕ) → Each (λ b. 0 < length b) bs → IsPlaced (comes_before row true) bs i → i < length bs
+pub some_before : (row : List ℕ) (bs : List (List RowVersion)) (i p : ℕ) → Each (λ b. 0 < length b) bs → IsPlaced (comes_before row true) bs i → i < length bs
     → IsPlace (comes_before row true) (get_or bs i []) p → has_alive row (joined bs) ≡ true → 0 < p
 some_before row bs i (suc p) f q l r a = omega arith
 some_before row bs zero zero f q l r a =
@@ -186,10 +188,10 @@ some_before row bs zero zero f q l r a =
     (subst (Each (λ w. comes_before row true w ≡ false)) (sym (joined_at bs zero l)) (each_append (λ w. comes_before row true w ≡ false) (get_or bs zero []) (joined (drop 1 bs)) r.after q.after)) in
     absurd (not_both (has_alive row (joined bs)) a (none_alive row (joined bs) k))
 some_before row bs (suc i) zero f q l r a =
-    let d : Version = record { row = []; from = 0; to = 0 } in
+    let d : RowVersion = record { row = []; from = 0; to = 0 } in
     let n : 0 < length (get_or bs (suc i) []) = each_at (λ b. 0 < length b) bs (suc i) [] l f in
     absurd (not_both (comes_before row true (get_or (get_or bs (suc i) []) 0 d)) (q.begun (omega arith) d) (each_at (λ w. comes_before row true w ≡ false) (get_or bs (suc i) []) 0 d n r.after))
 
-pub some_blocks : (row : List ℕ) (bs : List (List Version)) → has_alive row (joined bs) ≡ true → 0 < length bs
+pub some_blocks : (row : List ℕ) (bs : List (List RowVersion)) → has_alive row (joined bs) ≡ true → 0 < length bs
 some_blocks row [] a = absurd (not_both false a refl)
 some_blocks row (b ∷ bs) a = omega arith

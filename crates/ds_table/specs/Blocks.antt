@@ -1,12 +1,12 @@
 -- How a table keeps its versions: in blocks, each with its rows and two columns of stamps.
 use Rattle.std.specs.Prelude.{◌≡◌, ℕ, ◌+◌, ◌<◌, ◌≤◌, false, List, [], ◌∷◌, ◌++◌, length}
-use Rattle.ds_table.specs.Each.{Each}
-use Rattle.ds_table.specs.Versions.{Version, IsOfBytes, is_below, never}
+use Rattle.std.specs.List.{AllByRecursion as Each}
+use Rattle.ds_table.specs.Versions.{RowVersion, IsOfBytes, is_below, never}
 
 -- what a table is seen as
 pub record Tabled : Type 0 where
   -- the versions, block by block
-  pub blocks : List (List Version)
+  pub blocks : List (List RowVersion)
   -- the floor of the last trim, 0 before the first one
   pub floor : ℕ
   -- the greatest stamp given to `add`, `close` or `undo`, 0 before the first one
@@ -17,16 +17,16 @@ pub record Tabled : Type 0 where
   pub least_undone : ℕ
 
 -- the versions of all blocks, in their order
-abbrev pub joined : List (List Version) → List Version
+abbrev pub joined : List (List RowVersion) → List RowVersion
 joined [] = []
 joined (b ∷ bs) = b ++ joined bs
 
 -- the versions of a table
-abbrev pub versions : Tabled → List Version
+abbrev pub versions : Tabled → List RowVersion
 versions t = joined t.blocks
 
 -- the versions of a block's three columns
-abbrev pub versions_of : List (List ℕ) → List ℕ → List ℕ → List Version
+abbrev pub versions_of : List (List ℕ) → List ℕ → List ℕ → List RowVersion
 versions_of [] froms tos = []
 versions_of (row ∷ rows) [] tos = []
 versions_of (row ∷ rows) (from ∷ froms) [] = []
@@ -42,28 +42,28 @@ pub record IsBlock (rows : List (List ℕ)) (froms tos : List ℕ) (due froms_ro
   pub tos_fit : 256 ≤ tos_room
 
 -- the one stands before the other: its row isn't above the other's, and of one row its life ends before the other's begins
-pub record Precedes (v w : Version) : Type 0 where
+pub record Precedes (v w : RowVersion) : Type 0 where
   pub not_above : is_below w.row v.row ≡ false
   pub apart : v.row ≡ w.row → v.to ≤ w.from
 
 -- each version stands before each one behind it
-abbrev pub IsOrdered : List Version → Type 0
+abbrev pub IsOrdered : List RowVersion → Type 0
 IsOrdered [] = Unit {0}
 IsOrdered (v ∷ vs) = Each (Precedes v) vs × IsOrdered vs
 
 -- no stamp of the version is above the last one given
-pub record IsGiven (last : ℕ) (v : Version) : Type 0 where
+pub record IsGiven (last : ℕ) (v : RowVersion) : Type 0 where
   pub from_given : v.from ≤ last
   pub to_given : (v.to ≡ never → ⊥) → v.to ≤ last
 
 -- two blocks side by side have 128 versions together, and neither is empty
-abbrev pub IsSpaced : List (List Version) → Type 0
+abbrev pub IsSpaced : List (List RowVersion) → Type 0
 IsSpaced [] = Unit {0}
 IsSpaced (a ∷ []) = Unit {0}
 IsSpaced (a ∷ b ∷ bs) = ((0 < length a) × (0 < length b) × (128 ≤ length a + length b)) × IsSpaced (b ∷ bs)
 
 -- what holds of the blocks of a table to which no stamp above `last` was given, and that counts its versions
-pub record IsTable (blocks : List (List Version)) (last count : ℕ) : Type 0 where
+pub record IsTable (blocks : List (List RowVersion)) (last count : ℕ) : Type 0 where
   pub ordered : IsOrdered (joined blocks)
   pub of_bytes : Each IsOfBytes (joined blocks)
   pub given : Each (IsGiven last) (joined blocks)

@@ -1,6 +1,6 @@
 -- The first bytes of rows as numbers that compare as the rows do, where the rows begin alike.
 use Rattle.std.specs.Prelude.{◌≡◌, ℕ, ◌+◌, ◌*◌, ◌≤◌, zero, suc, List, [], ◌∷◌, length, take, drop}
-use Rattle.ds_table.specs.Each.{Each}
+use Rattle.std.specs.List.{AllByRecursion as Each}
 
 -- The number with so many more bytes of a row behind it, as digits to the base 256. A row that ends before is read as if zeros
 -- followed.

@@ -1,4 +1,3 @@
-pub mod Each
 pub mod Versions
 pub mod Blocks
 pub mod Changes

@@ -1,9 +1,10 @@
 //! How room is made for one more version.
-ghost use Rattle.std.specs.Prelude.{◌≡◌, ℕ, ◌+◌, ◌<◌, ◌≤◌, true, List, [], ◌∷◌, ◌++◌, length, take, drop, IfOk, OnOk, OnErr, slice_index_or, slice_set};
-ghost use Rattle.ds_table.specs.Versions.{Version};
+ghost use Rattle.std.specs.Prelude.{◌≡◌, ℕ, ◌+◌, ◌<◌, ◌≤◌, true, List, [], ◌∷◌, ◌++◌, length, take, drop, IfOk, OnOk, OnErr};
+ghost use Rattle.std.specs.Prelude.{slice_index_or, slice_set};
+ghost use Rattle.ds_table.specs.Versions.{RowVersion};
 ghost use Rattle.ds_table.specs.Blocks.{joined, IsOrdered, IsSpaced};
 ghost use Rattle.ds_table.specs.Places.{comes_before, IsPlaced};
-ghost use Rattle.ds_table.specs.Each.{Each};
+ghost use Rattle.std.specs.List.{AllByRecursion as Each};
 
 use crate::block::{Block, MOST_VERSIONS};
 use crate::places::block_of;
@@ -24,7 +25,7 @@ pub fn block_to_add(alloc: Global, blocks: &mut Vec<Block>, row: &[u8]) -> Resul
     ensures within { IfOk result (λ i. i < length blocks.new.items) }
     ensures placed { IfOk result (λ i. IsPlaced (comes_before row.now true) blocks.new.items i) }
     ensures room { IfOk result (λ i. length (slice_index_or blocks.new.items i []) < 256) }
-    ensures filled { IfOk result (λ i. (b : List Version) → 0 < length b → Each (λ c. 0 < length c) (slice_set blocks.new.items i b)) }
+    ensures filled { IfOk result (λ i. (b : List RowVersion) → 0 < length b → Each (λ c. 0 < length c) (slice_set blocks.new.items i b)) }
 {
     if blocks.len() == 0 {
         return first_block(alloc, blocks, row);
@@ -56,7 +57,8 @@ fn split_block(alloc: Global, blocks: &mut Vec<Block>, i: usize) -> Result<(), A
     requires full { 256 ≤ length (slice_index_or blocks.old.items i []) }
     ensures unchanged { OnErr result (blocks.new.items ≡ blocks.old.items) }
     ensures halves { OnOk result (blocks.new.items ≡ take i blocks.old.items
-        ++ take 128 (slice_index_or blocks.old.items i []) ∷ drop 128 (slice_index_or blocks.old.items i []) ∷ drop (i + 1) blocks.old.items) }
+        ++ take 128 (slice_index_or blocks.old.items i []) ∷ drop 128 (slice_index_or blocks.old.items i []) ∷ drop (i + 1)
+        blocks.old.items) }
 {
     blocks.reserve(1)?;
     let rest = blocks[i].split(alloc, HALF)?;

@@ -1,11 +1,12 @@
 //! A block of versions, in columns.
-ghost use Rattle.std.specs.Prelude.{◌≡◌, ℕ, ◌+◌, ◌<◌, ◌≤◌, Bool, true, false, IsFalse, List, [], ◌++◌, length, take, drop, find, Some, None, option_copied, option_to_list, slice_index_or, slice_set, IfOk, OnErr, MatchOption};
+ghost use Rattle.std.specs.Prelude.{◌≡◌, ℕ, ◌+◌, ◌<◌, ◌≤◌, Bool, true, false, IsFalse, List, [], ◌++◌, length, take, drop, find, Some};
+ghost use Rattle.std.specs.Prelude.{None, option_copied, option_to_list, slice_index_or, slice_set, IfOk, OnErr, MatchOption};
 ghost use Rattle.std.specs.List.{insert};
-ghost use Rattle.ds_table.specs.Versions.{Version, never, is_before, is_seen, ended_at, unseen_before, versions_within};
+ghost use Rattle.ds_table.specs.Versions.{RowVersion, never, is_before, is_seen, ended_at, unseen_before, versions_within};
 ghost use Rattle.ds_table.specs.Blocks.{IsOrdered};
 ghost use Rattle.ds_table.specs.Changes.{kept_end, kept, changed};
 ghost use Rattle.ds_table.specs.Places.{comes_before, IsPlace};
-ghost use Rattle.ds_table.specs.Each.{Each};
+ghost use Rattle.std.specs.List.{AllByRecursion as Each};
 
 use crate::change::{Change, kept_end};
 use crate::rows::{Rows, copy_behind};
@@ -31,10 +32,10 @@ pub struct Block {
 impl Model for Block {
     ghost use Rattle.std.specs.Prelude.{List};
     ghost use Rattle.std.specs.Vec.{vec_capacity};
-    ghost use Rattle.ds_table.specs.Versions.{Version};
+    ghost use Rattle.ds_table.specs.Versions.{RowVersion};
     ghost use Rattle.ds_table.specs.Blocks.{versions_of, IsBlock};
 
-    ghost Value = { List Version };
+    ghost Value = { List RowVersion };
 
     ghost view = { λ b. versions_of b.rows b.froms.items b.tos.items };
 
@@ -77,7 +78,7 @@ impl Block {
     /// The row of the version at this place.
     pub fn row(&self, i: usize) -> &[u8]
         requires { i < length self.now }
-        ensures { (d : Version) → result.now ≡ (slice_index_or self.now i d).row }
+        ensures { (d : RowVersion) → result.now ≡ (slice_index_or self.now i d).row }
     {
         self.rows.row(i)
     }
@@ -96,7 +97,7 @@ impl Block {
         ensures passed { result.passed ≡ unseen_before at (versions_within at_least.now (option_copied below.entry) self.now) }
         ensures found { MatchOption result.place
             (find (is_seen at) (versions_within at_least.now (option_copied below.entry) self.now) ≡ None)
-            (λ i. (i < length self.now) × ((d : Version) →
+            (λ i. (i < length self.now) × ((d : RowVersion) →
             find (is_seen at) (versions_within at_least.now (option_copied below.entry) self.now) ≡ Some (slice_index_or self.now i d))) }
     {
         let low = self.rows.place(at_least, false);
@@ -135,7 +136,7 @@ impl Block {
     /// Ends the version at this place at the stamp.
     pub fn close(&mut self, i: usize, stamp: u64)
         requires { i < length self.old }
-        ensures { (d : Version) → self.new ≡ slice_set self.old i (ended_at stamp (slice_index_or self.old i d)) }
+        ensures { (d : RowVersion) → self.new ≡ slice_set self.old i (ended_at stamp (slice_index_or self.old i d)) }
     {
         self.tos[i] = stamp;
         self.due = self.due.min(stamp);
@@ -181,7 +182,8 @@ impl Block {
     /// Changes the version at this place, or takes it out.
     fn change_one(&mut self, change: Change, i: usize)
         requires { i < length self.old }
-        ensures { (d : Version) → self.new ≡ take i self.old ++ (option_to_list (kept change (slice_index_or self.old i d)) ++ drop (i + 1) self.old) }
+        ensures { (d : RowVersion)
+            → self.new ≡ take i self.old ++ (option_to_list (kept change (slice_index_or self.old i d)) ++ drop (i + 1) self.old) }
     {
         match self.end_after(change, i) {
             Some(to) => self.close(i, to),
@@ -192,7 +194,7 @@ impl Block {
     /// The end that the version at this place has after the change; `None` where it goes.
     fn end_after(&self, change: Change, i: usize) -> Option<u64>
         requires { i < length self.now }
-        ensures { (d : Version) → result ≡ kept_end change (slice_index_or self.now i d).from (slice_index_or self.now i d).to }
+        ensures { (d : RowVersion) → result ≡ kept_end change (slice_index_or self.now i d).from (slice_index_or self.now i d).to }
     {
         kept_end(change, self.froms[i], self.tos[i])
     }

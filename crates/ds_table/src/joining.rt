@@ -1,9 +1,9 @@
 //! How all versions are changed, and small blocks joined, so that there are few.
 ghost use Rattle.std.specs.Prelude.{◌≡◌, ◌+◌, ◌^◌, ◌<◌, ◌≤◌, length, IsTrue, IsFalse, List};
-ghost use Rattle.ds_table.specs.Versions.{Version};
+ghost use Rattle.ds_table.specs.Versions.{RowVersion};
 ghost use Rattle.ds_table.specs.Changes.{changed};
 ghost use Rattle.ds_table.specs.Blocks.{joined, IsSpaced};
-ghost use Rattle.ds_table.specs.Each.{Each};
+ghost use Rattle.std.specs.List.{AllByRecursion as Each};
 
 use crate::block::{Block, MOST_VERSIONS};
 use crate::change::Change;

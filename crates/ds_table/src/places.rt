@@ -1,9 +1,10 @@
 //! Places of rows in the order, found by halving.
-ghost use Rattle.std.specs.Prelude.{◌≡◌, ℕ, ◌+◌, ◌<◌, ◌≤◌, Bool, true, false, List, [], length, take, drop, slice_index_or, IsTrue, IsFalse};
-ghost use Rattle.ds_table.specs.Versions.{Version};
+ghost use Rattle.std.specs.Prelude.{◌≡◌, ℕ, ◌+◌, ◌<◌, ◌≤◌, Bool, true, false, List, [], length, take, drop, slice_index_or, IsTrue};
+ghost use Rattle.std.specs.Prelude.{IsFalse};
+ghost use Rattle.ds_table.specs.Versions.{RowVersion};
 ghost use Rattle.ds_table.specs.Blocks.{IsOrdered, joined};
 ghost use Rattle.ds_table.specs.Places.{comes_before, row_before, IsBegun, IsPlaced};
-ghost use Rattle.ds_table.specs.Each.{Each};
+ghost use Rattle.std.specs.List.{AllByRecursion as Each};
 
 use crate::block::Block;
 
@@ -55,7 +56,8 @@ fn is_begun(blocks: &[Block], i: usize, row: &[u8]) -> bool
     requires filled { Each (λ b. 0 < length b) blocks.now }
     ensures within { IsTrue result → i < length blocks.now }
     ensures before { IsTrue result → Each (λ v. comes_before row.now false v ≡ true) (joined (take i blocks.now)) }
-    ensures begun { IsTrue result → (d : Version) → comes_before row.now false (slice_index_or (slice_index_or blocks.now i []) 0 d) ≡ true }
+    ensures begun { IsTrue result → (d : RowVersion) → comes_before row.now false (slice_index_or (slice_index_or blocks.now i []) 0 d)
+        ≡ true }
     ensures after { IsFalse result → Each (λ v. comes_before row.now false v ≡ false) (joined (drop i blocks.now)) }
 {
     if i < blocks.len() {
@@ -83,7 +85,7 @@ fn gallop(blocks: &[Block], row: &[u8], near: usize) -> usize
     requires filled { Each (λ b. 0 < length b) blocks.now }
     requires within { near < length blocks.now }
     requires before { Each (λ v. comes_before row.now false v ≡ true) (joined (take near blocks.now)) }
-    requires begun { (d : Version) → comes_before row.now false (slice_index_or (slice_index_or blocks.now near []) 0 d) ≡ true }
+    requires begun { (d : RowVersion) → comes_before row.now false (slice_index_or (slice_index_or blocks.now near []) 0 d) ≡ true }
     ensures { IsPlaced (comes_before row.now false) blocks.now result }
 {
     let mut low = near;
@@ -105,7 +107,7 @@ fn last_begun(blocks: &[Block], row: &[u8], low: usize, high: usize) -> usize
     requires some { low < high }
     requires within { high ≤ length blocks.now }
     requires before { Each (λ v. comes_before row.now false v ≡ true) (joined (take low blocks.now)) }
-    requires begun { (d : Version) → comes_before row.now false (slice_index_or (slice_index_or blocks.now low []) 0 d) ≡ true }
+    requires begun { (d : RowVersion) → comes_before row.now false (slice_index_or (slice_index_or blocks.now low []) 0 d) ≡ true }
     requires after { Each (λ v. comes_before row.now false v ≡ false) (joined (drop high blocks.now)) }
     ensures { IsPlaced (comes_before row.now false) blocks.now result }
 {

@@ -1,10 +1,11 @@
 //! The rows of a block, with their first bytes as numbers beside them, so that halving touches few rows.
-ghost use Rattle.std.specs.Prelude.{◌≡◌, ℕ, ◌+◌, ◌<◌, ◌≤◌, Bool, List, [], ◌++◌, length, take, drop, slice_index_or, option_copied, IfOk, OnErr};
+ghost use Rattle.std.specs.Prelude.{◌≡◌, ℕ, ◌+◌, ◌<◌, ◌≤◌, Bool, List, [], ◌++◌, length, take, drop, slice_index_or, option_copied, IfOk};
+ghost use Rattle.std.specs.Prelude.{OnErr};
 ghost use Rattle.std.specs.List.{insert};
 ghost use Rattle.ds_table.specs.Versions.{is_before};
 ghost use Rattle.ds_table.specs.Places.{row_before, IsPlace, IsRising};
 ghost use Rattle.ds_table.specs.Heads.{number_behind, head_of, heads_of, Shares, IsAlike};
-ghost use Rattle.ds_table.specs.Each.{Each};
+ghost use Rattle.std.specs.List.{AllByRecursion as Each};
 ghost use Rattle.ds_base.specs.KeyOrder.{bytes_cmp};
 ghost use Rattle.std.specs.Vec.{vec_capacity};
 

@@ -1,8 +1,9 @@
 //! The table of all versions.
-ghost use Rattle.std.specs.Prelude.{◌≡◌, ℕ, ◌+◌, ◌/◌, ◌<◌, ◌≤◌, List, [], length, max, IsTrue, IsFalse, OnOk, OnErr, IfSome, slice_get, option_map};
-ghost use Rattle.ds_table.specs.Versions.{Version, IsOfBytes, never, has_alive, added, closed, undone, trimmed};
+ghost use Rattle.std.specs.Prelude.{◌≡◌, ℕ, ◌+◌, ◌/◌, ◌<◌, ◌≤◌, List, [], length, max, IsTrue, IsFalse, OnOk, OnErr, IfSome, slice_get};
+ghost use Rattle.std.specs.Prelude.{option_map};
+ghost use Rattle.ds_table.specs.Versions.{RowVersion, IsOfBytes, never, has_alive, added, closed, undone, trimmed};
 ghost use Rattle.ds_table.specs.Blocks.{Tabled, versions, joined, IsOrdered};
-ghost use Rattle.ds_table.specs.Each.{Each};
+ghost use Rattle.std.specs.List.{AllByRecursion as Each};
 
 use crate::adding::block_to_add;
 use crate::block::Block;
@@ -35,7 +36,13 @@ impl Model for Table {
 
     ghost Value = { Tabled };
 
-    ghost view = { λ t. record { blocks = t.blocks.items; floor = t.floor; last = t.last; least = t.least; least_undone = t.least_undone } };
+    ghost view = { λ t. record {
+      blocks = t.blocks.items;
+      floor = t.floor;
+      last = t.last;
+      least = t.least;
+      least_undone = t.least_undone;
+    } };
 
     ghost invariant = { λ t. IsTable t.blocks.items t.last t.count };
 }

@@ -2,14 +2,15 @@
 ghost use Rattle.std.specs.Prelude.{◌≡◌, ℕ, ◌+◌, ◌<◌, ◌≤◌, suc, true, false, length, take, find, option_copied, IsTrue, IsSorted};
 ghost use Rattle.std.specs.List.Sorted.{IsStrictlySortedBy};
 ghost use Rattle.ds_base.specs.KeyOrder.{bytes_cmp};
-ghost use Rattle.ds_table.specs.Versions.{Version, IsOfBytes, in_range, is_before, seen_rows, unseen_rows, unseen_before, versions_within};
+ghost use Rattle.ds_table.specs.Versions.{RowVersion, IsOfBytes, in_range, is_before, seen_rows, unseen_rows, unseen_before};
+ghost use Rattle.ds_table.specs.Versions.{versions_within};
 ghost use Rattle.ds_table.specs.Blocks.{joined, IsOrdered};
 ghost use Rattle.ds_table.specs.Places.{comes_before};
 ghost use Rattle.ds_table.specs.Seen.{Seen};
-ghost use Rattle.ds_table.specs.Each.{Each};
+ghost use Rattle.std.specs.List.{AllByRecursion as Each};
 
 use crate::block::Block;
-use crate::places::{block_near, block_of};
+use crate::places::block_near;
 use crate::table::Table;
 use ds_io::Steps;
 use std::marker::Model;
@@ -51,21 +52,22 @@ impl<'a> TableView<'a> {
         below: Option<&[u8]>,
         steps: &mut Steps<L>,
     ) -> Option<&'a [u8]>
-        ensures least { option_copied result ≡ find (in_range at_least.now (option_copied below.entry)) (seen_rows self.now.stamp self.now.versions) }
-        ensures steps { steps.new ≡ steps.old + 1 + unseen_before self.now.stamp (versions_within at_least.now (option_copied below.entry) self.now.versions) }
+        ensures least { option_copied result ≡ find (in_range at_least.now (option_copied below.entry))
+            (seen_rows self.now.stamp self.now.versions) }
+        ensures steps { steps.new ≡ steps.old + 1 + unseen_before self.now.stamp (versions_within at_least.now (option_copied below.entry)
+            self.now.versions) }
         ensures rows_ascend { IsStrictlySortedBy bytes_cmp (seen_rows self.now.stamp self.now.versions) }
         ensures passed_do_not_fall { IsSorted bytes_cmp (unseen_rows self.now.stamp self.now.versions) }
         ensures in_order { IsOrdered self.now.versions }
         ensures of_bytes { Each IsOfBytes self.now.versions }
     {
-        let table = self.table;
-        let start = block_of(table.as_blocks(), at_least, false);
-        seek_from(table.as_blocks(), start, at_least, below, self.at, steps)
+        let mut near = 0;
+        self.seek_near(at_least, below, &mut near, steps)
     }
 
     /// The same, with a hint: `near` is where the last seek began, at first 0, and each value of it gives the same answer with
-    /// the same steps. It looks from there on in steps that double, which is
-    /// quick where seeks go on in order, and leaves there where it began.
+    /// the same steps. It looks from there on in steps that double, which is quick where seeks go on in order, and leaves there
+    /// where it began.
     pub fn seek_near<L: Ledger>(
         &self,
         at_least: &[u8],
@@ -73,8 +75,10 @@ impl<'a> TableView<'a> {
         near: &mut u64,
         steps: &mut Steps<L>,
     ) -> Option<&'a [u8]>
-        ensures least { option_copied result ≡ find (in_range at_least.now (option_copied below.entry)) (seen_rows self.now.stamp self.now.versions) }
-        ensures steps { steps.new ≡ steps.old + 1 + unseen_before self.now.stamp (versions_within at_least.now (option_copied below.entry) self.now.versions) }
+        ensures least { option_copied result ≡ find (in_range at_least.now (option_copied below.entry))
+            (seen_rows self.now.stamp self.now.versions) }
+        ensures steps { steps.new ≡ steps.old + 1 + unseen_before self.now.stamp (versions_within at_least.now (option_copied below.entry)
+            self.now.versions) }
         ensures rows_ascend { IsStrictlySortedBy bytes_cmp (seen_rows self.now.stamp self.now.versions) }
         ensures passed_do_not_fall { IsSorted bytes_cmp (unseen_rows self.now.stamp self.now.versions) }
         ensures in_order { IsOrdered self.now.versions }
@@ -100,7 +104,8 @@ fn seek_from<'b, L: Ledger>(
     requires filled { Each (λ b. 0 < length b) blocks.now }
     requires start { Each (λ v. comes_before at_least.now false v ≡ true) (joined (take start blocks.now)) }
     ensures least { option_copied result ≡ find (in_range at_least.now (option_copied below.entry)) (seen_rows at (joined blocks.now)) }
-    ensures steps { steps.new ≡ steps.old + 1 + unseen_before at (versions_within at_least.now (option_copied below.entry) (joined blocks.now)) }
+    ensures steps { steps.new ≡ steps.old + 1 + unseen_before at (versions_within at_least.now (option_copied below.entry)
+        (joined blocks.now)) }
 {
     steps.tick();
     for i in start..blocks.len() {

@@ -1,14 +1,15 @@
 -- What is known of numbered rows, after each call.
-use Rattle.std.proofs.Common.{◌≡◌, ◌≢◌, ℕ, ◌+◌, ◌/◌, ◌%◌, ◌<◌, ◌≤◌, ◌==◌, Bool, true, false, List, length, get_or, max, refl, sym, ap, ◌∙◌, arith, subst}
+use Rattle.std.proofs.Common.{◌≡◌, ◌≢◌, ℕ, ◌+◌, ◌/◌, ◌%◌, ◌<◌, ◌≤◌, ◌==◌, Bool, true, false, List, length, get_or, max, refl, sym, ap, ◌∙◌}
+use Rattle.std.proofs.Common.{arith, subst}
 use Rattle.std.proofs.Math.ListN.{set, length-set}
 use Rattle.std.proofs.lemmas.List.{get_or-set_same, get_or-set_other}
 use Rattle.std.proofs.lemmas.Bool.Decides.{nat_tests}
-use Rattle.ds_table.specs.Versions.{Version, never, has_alive, added, closed, trimmed}
+use Rattle.ds_table.specs.Versions.{RowVersion, never, has_alive, added, closed, trimmed}
 use Rattle.ds_table.specs.AliveLaws.{alive_added, others_added, alive_closed, others_closed, alive_trimmed}
 use Rattle.ds_table.specs.Blocks.{Tabled, versions}
 use Rattle.ds_table_tests.specs.Numbers.{row_of, IsKnown}
 
-abbrev pub IsCounted : List Version → List Bool → Type 0
+abbrev pub IsCounted : List RowVersion → List Bool → Type 0
 IsCounted vs alive = (k : ℕ) → k < length alive → has_alive (row_of k) vs ≡ get_or alive k false
 
 row_of_other : (m n : ℕ) → (m ≡ n → ⊥) → row_of m ≡ row_of n → ⊥
@@ -17,7 +18,7 @@ row_of_other m n h e =
     let low : m % 256 ≡ n % 256 = ap (λ l. get_or l 1 0) e in
     h (omega (arith, high, low))
 
-pub counted_added : (vs : List Version) (alive : List Bool) (n stamp : ℕ) → n < length alive → IsCounted vs alive → IsCounted (added (row_of n) stamp vs) (set alive n true)
+pub counted_added : (vs : List RowVersion) (alive : List Bool) (n stamp : ℕ) → n < length alive → IsCounted vs alive → IsCounted (added (row_of n) stamp vs) (set alive n true)
 counted_added vs alive n stamp l h k m = by (k == n) refl
   where
     by : (b : Bool) → b ≡ (k == n) → has_alive (row_of k) (added (row_of n) stamp vs) ≡ get_or (set alive n true) k false
@@ -29,7 +30,7 @@ counted_added vs alive n stamp l h k m = by (k == n) refl
         others_added (row_of k) (row_of n) stamp vs (λ x. row_of_other k n q (sym x))
         ∙ (h k (omega (arith, m, length-set alive n true)) ∙ sym (get_or-set_other alive n k true false q))
 
-pub counted_closed : (vs : List Version) (alive : List Bool) (n stamp : ℕ) → n < length alive → stamp < never → IsCounted vs alive → IsCounted (closed (row_of n) stamp vs) (set alive n false)
+pub counted_closed : (vs : List RowVersion) (alive : List Bool) (n stamp : ℕ) → n < length alive → stamp < never → IsCounted vs alive → IsCounted (closed (row_of n) stamp vs) (set alive n false)
 counted_closed vs alive n stamp l s h k m = by (k == n) refl
   where
     by : (b : Bool) → b ≡ (k == n) → has_alive (row_of k) (closed (row_of n) stamp vs) ≡ get_or (set alive n false) k false
@@ -41,7 +42,7 @@ counted_closed vs alive n stamp l s h k m = by (k == n) refl
         others_closed (row_of k) (row_of n) stamp vs s (λ x. row_of_other k n q (sym x))
         ∙ (h k (omega (arith, m, length-set alive n false)) ∙ sym (get_or-set_other alive n k false false q))
 
-pub counted_trimmed : (vs : List Version) (alive : List Bool) (floor : ℕ) → floor < never → IsCounted vs alive → IsCounted (trimmed floor vs) alive
+pub counted_trimmed : (vs : List RowVersion) (alive : List Bool) (floor : ℕ) → floor < never → IsCounted vs alive → IsCounted (trimmed floor vs) alive
 counted_trimmed vs alive floor s h k m = alive_trimmed (row_of k) floor vs s ∙ h k m
 
 -- what is known after a row was added

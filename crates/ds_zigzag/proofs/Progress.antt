@@ -1,5 +1,6 @@
 -- How far the leapfrog has come: the target, the scans that stand there, and the steps taken.
-use Rattle.std.proofs.Common.{◌≡◌, ◌≢◌, ℕ, ◌+◌, ◌-◌, ◌*◌, ◌<◌, ◌≤◌, Bool, true, false, cond, List, [], length, get_or, refl, sym, ◌∙◌, ap, subst, ◌⊎◌, inl, inr, zero-add, arith}
+use Rattle.std.proofs.Common.{◌≡◌, ◌≢◌, ℕ, ◌+◌, ◌-◌, ◌*◌, ◌<◌, ◌≤◌, Bool, true, false, cond, List, [], length, get_or, refl, sym, ◌∙◌, ap}
+use Rattle.std.proofs.Common.{subst, ◌⊎◌, inl, inr, zero-add, arith}
 use Rattle.std.specs.Prelude.{◌&&◌, not, Option, Some, None, Contains, find, count_by}
 use Rattle.std.specs.List.Sorted.{IsStrictlySortedBy}
 use Rattle.std.proofs.Math.Nat.{mul-le-mul_left}
@@ -7,11 +8,14 @@ use Rattle.ds_base.specs.KeyOrder.{bytes_cmp}
 use Rattle.ds_zigzag.specs.Spans.{is_below, is_from, is_above, is_within, count_from, count_between}
 use Rattle.ds_zigzag.specs.CommonStrings.{IsCommon, IsNextCommon, HasNoNextCommon, least_count, total_count}
 use Rattle.ds_zigzag.specs.Targets.{first_above}
-use Rattle.ds_zigzag.proofs.Counts.{count_by-le, count_by-lt, count_by-both, sums, sums-le, sums-more, sums-sum_by, least_at, get_or-default}
+use Rattle.ds_zigzag.proofs.Counts.{count_by-le, count_by-lt, count_by-both, sums, sums-le, sums-more, sums-sum_by, get_or-default}
+use Rattle.ds_base.specs.LeastLaws.{least_at}
 use Rattle.ds_zigzag.proofs.Seeks.{first_true, second_true, both_true}
 use Rattle.ds_zigzag.proofs.First.{found_in, found_passes, found_is_least, none_passes}
-use Rattle.ds_zigzag.proofs.Order.{not_both, false_unless, not_true, not_false, was_false, not_below_itself, below_back, below_upto, upto_below, upto_upto, below_below, above-is_from}
-use Rattle.ds_zigzag.proofs.Rounds.{stands, stands-start, stands-again, stands-turn, stands-sought, stands-others, stands-alone, stands-all, lag, lag-start, lag-end, lag-turn, lag-sought, lag-others}
+use Rattle.ds_zigzag.proofs.Order.{not_both, false_unless, not_true, not_false, was_false, not_below_itself, below_back, below_upto}
+use Rattle.ds_zigzag.proofs.Order.{upto_below, upto_upto, below_below, above-is_from}
+use Rattle.ds_zigzag.proofs.Rounds.{stands, stands-start, stands-again, stands-turn, stands-sought, stands-others, stands-alone, stands-all}
+use Rattle.ds_zigzag.proofs.Rounds.{lag, lag-start, lag-end, lag-turn, lag-sought, lag-others}
 
 -- A scan has gone past a string: one below the target, or the target too where it stands there.
 is_past : Bool → List ℕ → List ℕ → Bool

@@ -59,7 +59,3 @@ lag-sought n turn = grind (arith, nat_tests)
 pub lag-others : (n turn j : ℕ) → j ≢ turn → lag n (turn + 1) j ≡ lag n turn j
 unfolding lag
 lag-others n turn j h = grind (arith, nat_tests)
-
-pub lag-le : (n turn j : ℕ) → lag n turn j ≤ n
-unfolding lag
-lag-le n turn j = grind (arith, nat_tests)

@@ -5,7 +5,8 @@ use Rattle.std.proofs.lemmas.List.Sums.{sum_by-cons}
 use Rattle.ds_zigzag.specs.Spans.{is_below, is_above, is_within, count_between}
 use Rattle.ds_zigzag.specs.CommonStrings.{IsCommon, least_count, total_count}
 use Rattle.ds_zigzag.proofs.Order.{not_false, was_false, not_both, not_below_itself, below_below, upto_upto}
-use Rattle.ds_zigzag.proofs.Counts.{count_by-cons, count_by-lt, weight, least_at, least_le}
+use Rattle.ds_zigzag.proofs.Counts.{count_by-cons, count_by-lt, weight}
+use Rattle.ds_base.specs.LeastLaws.{least_at, least_le}
 use Rattle.ds_zigzag.proofs.Seeks.{both_true}
 
 -- a string above one that is above `after`

@@ -1,5 +1,6 @@
 -- The strings that several lists have in common, and what bounds the work to find the next one.
 use Rattle.std.specs.Prelude.{ℕ, min, List, [], ◌∷◌, Option, All, Contains, IsTrue, IsFalse, map, sum_by}
+use Rattle.ds_base.specs.Least.{least_of}
 use Rattle.ds_zigzag.specs.Spans.{is_below, is_above, count_between}
 
 -- each of the lists has the string
@@ -15,12 +16,6 @@ pub record IsNextCommon (after : Option (List ℕ)) (lists : List (List (List �
 -- no string that is common to the lists is above `after`
 abbrev pub HasNoNextCommon : Option (List ℕ) → List (List (List ℕ)) → Type 0
 HasNoNextCommon after lists = (y : List ℕ) → IsCommon lists y → IsFalse (is_above after y)
-
--- the least of the numbers, and 0 where there are none
-abbrev pub least_of : List ℕ → ℕ
-least_of [] = 0
-least_of (n ∷ []) = n
-least_of (n ∷ m ∷ ns) = min n (least_of (m ∷ ns))
 
 -- the least number, over the lists, of the strings that are above `after` and not above `last`
 abbrev pub least_count : Option (List ℕ) → Option (List ℕ) → List (List (List ℕ)) → ℕ

@@ -1,5 +1,5 @@
 //! The join of several scans: it leaps from each string that all of them have to the next.
-ghost use Rattle.std.specs.Prelude.{◌≡◌, ℕ, ◌+◌, ◌*◌, ◌<◌, ◌≤◌, length, map, option_copied, Some, None, IfOk, OnErr, IfSome, IfNone};
+ghost use Rattle.std.specs.Prelude.{◌≡◌, ℕ, ◌+◌, ◌*◌, ◌<◌, ◌≤◌, length, map, option_copied, Some, None, IfOk, OnOk, OnErr, IfSome, IfNone};
 ghost use Rattle.std.specs.Borrow.{sem};
 ghost use Rattle.std.specs.Io.BufRead.{Rests};
 ghost use Rattle.ds_zigzag.specs.CommonStrings.{IsNextCommon, HasNoNextCommon, least_count, total_count};
@@ -57,7 +57,8 @@ impl Join {
     ) -> Result<Option<&[u8]>, AllocError>
         requires as_many { length scans.old ≡ self.old }
         requires its_ledger { L.name ≡ S.ledger }
-        ensures next_common { IfOk result (λ found. IfSome found (λ a. IsNextCommon (option_copied after.entry) (map S.strings scans.old) a.now)) }
+        ensures next_common { IfOk result (λ found. IfSome found (λ a. IsNextCommon (option_copied after.entry) (map S.strings scans.old)
+            a.now)) }
         ensures none_is_left { IfOk result (λ found. IfNone found (HasNoNextCommon (option_copied after.entry) (map S.strings scans.old))) }
         ensures same_strings { map S.strings scans.new ≡ map S.strings scans.old }
         ensures same_passed { map S.passed scans.new ≡ map S.passed scans.old }
@@ -75,6 +76,8 @@ impl Join {
             let n = least_count (option_copied after.entry) None (map S.strings scans.old) in
             let p = total_count (option_copied after.entry) None (map S.passed scans.old) in
             steps.new ≤ steps.old + self.old * (n + 2) + p) }
+        ensures agrees_by_steps { IfOk result (λ found. IfSome found (λ a. steps.old + self.old ≤ steps.new)) }
+        ensures takes_a_step { OnOk result (steps.old + 1 ≤ steps.new) }
         ensures steps_stay_counted { steps.old ≤ steps.new }
     {
         if leapfrog_above(&mut self.target, scans, after, steps)? {

@@ -1,5 +1,6 @@
 //! The leapfrog: how the scans are brought to the next string that all of them have.
-ghost use Rattle.std.specs.Prelude.{◌≡◌, ℕ, ◌+◌, ◌*◌, ◌<◌, ◌≤◌, List, [], Option, length, map, option_copied, Some, None, IsTrue, IsFalse, IfOk, OnErr};
+ghost use Rattle.std.specs.Prelude.{◌≡◌, ℕ, ◌+◌, ◌*◌, ◌<◌, ◌≤◌, List, [], Option, length, map, option_copied, Some, None, IsTrue};
+ghost use Rattle.std.specs.Prelude.{IsFalse, IfOk, OnOk, OnErr};
 ghost use Rattle.ds_zigzag.specs.CommonStrings.{IsNextCommon, HasNoNextCommon, least_count, total_count};
 ghost use Rattle.ds_zigzag.specs.Targets.{first_above, string_below};
 ghost use Rattle.ds_zigzag.specs.Walks.{IsWalked, standing_at, steps_to_end};
@@ -22,7 +23,8 @@ pub fn leapfrog_above<S: Scan, L: Ledger>(
 ) -> Result<bool, AllocError>
     requires some { 0 < length scans.old }
     requires its_ledger { L.name ≡ S.ledger }
-    ensures next_common { IfOk result (λ common. IsTrue common → IsNextCommon (option_copied after.entry) (map S.strings scans.old) target.new.items) }
+    ensures next_common { IfOk result (λ common. IsTrue common
+        → IsNextCommon (option_copied after.entry) (map S.strings scans.old) target.new.items) }
     ensures none_is_left { IfOk result (λ common. IsFalse common → HasNoNextCommon (option_copied after.entry) (map S.strings scans.old)) }
     ensures same_strings { map S.strings scans.new ≡ map S.strings scans.old }
     ensures same_passed { map S.passed scans.new ≡ map S.passed scans.old }
@@ -39,6 +41,8 @@ pub fn leapfrog_above<S: Scan, L: Ledger>(
         let n = least_count (option_copied after.entry) None (map S.strings scans.old) in
         let p = total_count (option_copied after.entry) None (map S.passed scans.old) in
         steps.new ≤ steps.old + length scans.old * (n + 2) + p) }
+    ensures agrees_by_steps { IfOk result (λ common. IsTrue common → steps.old + length scans.old ≤ steps.new) }
+    ensures takes_a_step { OnOk result (steps.old + 1 ≤ steps.new) }
     ensures steps_stay_counted { steps.old ≤ steps.new }
 {
     start_above(target, after)?;
@@ -56,17 +60,23 @@ pub fn leapfrog_on<S: Scan, L: Ledger>(
     requires some { 0 < length scans.old }
     requires empty_before { IsFalse stands → target.old.items ≡ [] }
     requires its_ledger { L.name ≡ S.ledger }
-    ensures next_common { IfOk result (λ common. IsTrue common → IsNextCommon (standing_at stands target.old.items) (map S.strings scans.old) target.new.items) }
-    ensures none_is_left { IfOk result (λ common. IsFalse common → HasNoNextCommon (standing_at stands target.old.items) (map S.strings scans.old)) }
+    ensures next_common { IfOk result (λ common. IsTrue common
+        → IsNextCommon (standing_at stands target.old.items) (map S.strings scans.old) target.new.items) }
+    ensures none_is_left { IfOk result (λ common. IsFalse common
+        → HasNoNextCommon (standing_at stands target.old.items) (map S.strings scans.old)) }
     ensures same_strings { map S.strings scans.new ≡ map S.strings scans.old }
     ensures same_passed { map S.passed scans.new ≡ map S.passed scans.old }
 
     ensures walks_on { IfOk result (λ common. IsTrue common → (start : Option (List ℕ)) (begun : ℕ) →
-        IsWalked (length scans.old) start (standing_at stands target.old.items) (map S.strings scans.old) (map S.passed scans.old) begun steps.old →
+        IsWalked (length scans.old) start (standing_at stands target.old.items) (map S.strings scans.old) (map S.passed scans.old) begun
+        steps.old →
         IsWalked (length scans.old) start (Some target.new.items) (map S.strings scans.new) (map S.passed scans.new) begun steps.new) }
     ensures walk_within { (start : Option (List ℕ)) (begun : ℕ) →
-        IsWalked (length scans.old) start (standing_at stands target.old.items) (map S.strings scans.old) (map S.passed scans.old) begun steps.old →
+        IsWalked (length scans.old) start (standing_at stands target.old.items) (map S.strings scans.old) (map S.passed scans.old) begun
+        steps.old →
         steps.new ≤ begun + steps_to_end (length scans.old) start (map S.strings scans.old) (map S.passed scans.old) }
+    ensures agrees_by_steps { IfOk result (λ common. IsTrue common → steps.old + length scans.old ≤ steps.new) }
+    ensures takes_a_step { OnOk result (steps.old + 1 ≤ steps.new) }
     ensures steps_stay_counted { steps.old ≤ steps.new }
 {
     above_standing(target, stands)?;
@@ -87,8 +97,10 @@ pub fn leapfrog<S: Scan, L: Ledger>(
     requires some { 0 < length scans.old }
     requires from_above { target.old.items ≡ first_above (string_below target.old.items) }
     requires its_ledger { L.name ≡ S.ledger }
-    ensures next_common { IfOk result (λ common. IsTrue common → IsNextCommon (string_below target.old.items) (map S.strings scans.old) target.new.items) }
-    ensures none_is_left { IfOk result (λ common. IsFalse common → HasNoNextCommon (string_below target.old.items) (map S.strings scans.old)) }
+    ensures next_common { IfOk result (λ common. IsTrue common
+        → IsNextCommon (string_below target.old.items) (map S.strings scans.old) target.new.items) }
+    ensures none_is_left { IfOk result (λ common. IsFalse common
+        → HasNoNextCommon (string_below target.old.items) (map S.strings scans.old)) }
     ensures same_strings { map S.strings scans.new ≡ map S.strings scans.old }
     ensures same_passed { map S.passed scans.new ≡ map S.passed scans.old }
 
@@ -104,6 +116,8 @@ pub fn leapfrog<S: Scan, L: Ledger>(
         let n = least_count (string_below target.old.items) None (map S.strings scans.old) in
         let p = total_count (string_below target.old.items) None (map S.passed scans.old) in
         steps.new ≤ steps.old + length scans.old * (n + 2) + p) }
+    ensures agrees_by_steps { IfOk result (λ common. IsTrue common → steps.old + length scans.old ≤ steps.new) }
+    ensures takes_a_step { OnOk result (steps.old + 1 ≤ steps.new) }
     ensures steps_stay_counted { steps.old ≤ steps.new }
 {
     let mut turn = 0;

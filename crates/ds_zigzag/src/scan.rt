@@ -27,8 +27,8 @@ pub trait Scan {
     ghost passed: { Self → List (List ℕ) };
 
     /// The first of its strings that isn't below `at_least`; `None` where there is none. It changes neither of its
-    /// lists. It takes one step at most, and one more for each passed string that isn't below `at_least` and not
-    /// above the string given; a refusal, which is want of memory, takes no more than `None` would.
+    /// lists. It takes a step, and at most one more for each passed string that isn't below `at_least` and not above the
+    /// string given; a refusal, which is want of memory, takes no more than `None` would.
     ///
     /// Whoever implements it shows too, where it isn't refused, that its strings ascend, each above the one before it,
     /// and that its passed strings don't fall. It is free to keep where it stands and to begin there, since no clause
@@ -44,7 +44,9 @@ pub trait Scan {
         ensures strings_ascend { OnOk result (IsStrictlySortedBy bytes_cmp (strings self.old)) }
         ensures passed_do_not_fall { OnOk result (IsSorted bytes_cmp (passed self.old)) }
 
-        ensures steps_when_done { IfOk result (λ found. steps.new ≤ steps.old + 1 + count_from at_least.now (option_copied found) (passed self.old)) }
+        ensures steps_when_done { IfOk result (λ found. steps.new ≤ steps.old + 1 + count_from at_least.now (option_copied found)
+            (passed self.old)) }
         ensures steps_when_refused { OnErr result (steps.new ≤ steps.old + 1 + count_from at_least.now None (passed self.old)) }
+        ensures takes_a_step { OnOk result (steps.old + 1 ≤ steps.new) }
         ensures steps_stay_counted { steps.old ≤ steps.new };
 }

@@ -61,8 +61,10 @@ pub fn seek_target<S: Scan, L: Ledger>(
     ensures same_strings { S.strings scan.new ≡ S.strings scan.old }
     ensures same_passed { S.passed scan.new ≡ S.passed scan.old }
 
-    ensures steps_when_done { IfOk result (λ m. steps.new ≤ steps.old + 1 + count_from target.old.items (sought_at m target.new.items) (S.passed scan.old)) }
+    ensures steps_when_done { IfOk result (λ m. steps.new ≤ steps.old + 1 + count_from target.old.items (sought_at m target.new.items)
+        (S.passed scan.old)) }
     ensures steps_when_refused { OnErr result (steps.new ≤ steps.old + 1 + count_from target.old.items None (S.passed scan.old)) }
+    ensures takes_a_step { OnOk result (steps.old + 1 ≤ steps.new) }
     ensures steps_stay_counted { steps.old ≤ steps.new }
 {
     let Some(found) = scan.seek(target.as_slice(), steps)? else {

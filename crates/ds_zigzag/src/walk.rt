@@ -1,5 +1,5 @@
 //! A walk over the strings that several scans have in common, each after the one before it.
-ghost use Rattle.std.specs.Prelude.{◌≡◌, ℕ, ◌+◌, ◌<◌, ◌≤◌, List, Option, length, map, option_copied, Some, IfOk, IfSome, IfNone};
+ghost use Rattle.std.specs.Prelude.{◌≡◌, ℕ, ◌+◌, ◌<◌, ◌≤◌, List, Option, length, map, option_copied, Some, IfOk, OnOk, IfSome, IfNone};
 ghost use Rattle.std.specs.Borrow.{sem};
 ghost use Rattle.std.specs.Io.BufRead.{Rests};
 ghost use Rattle.ds_zigzag.specs.CommonStrings.{IsNextCommon, HasNoNextCommon};
@@ -89,6 +89,8 @@ impl Walk {
         ensures walk_within { (start : Option (List ℕ)) (begun : ℕ) →
             IsWalked self.old.scans start self.old.last (map S.strings scans.old) (map S.passed scans.old) begun steps.old →
             steps.new ≤ begun + steps_to_end self.old.scans start (map S.strings scans.old) (map S.passed scans.old) }
+        ensures agrees_by_steps { IfOk result (λ found. IfSome found (λ a. steps.old + self.old.scans ≤ steps.new)) }
+        ensures takes_a_step { OnOk result (steps.old + 1 ≤ steps.new) }
         ensures steps_stay_counted { steps.old ≤ steps.new }
     {
         let stands = self.stands;

@@ -5,7 +5,7 @@ use Rattle.ds_rows.specs.Versions.{AreTables, entities_at}
 use Rattle.ds_engine.specs.Common.{AreCommonRows}
 use Rattle.ds_engine.specs.Places.{bytes_of, is_wanted, walk_steps}
 use Rattle.ds_zigzag.specs.Walks.{steps_to_end}
-use Rattle.ds_merge.specs.Merging.{last_of}
+use Rattle.ds_pages.specs.Pages.{last_of}
 use Rattle.ds_engine.proofs.Bounded.{done_within, refused_within, moved_steps}
 use Rattle.ds_engine.specs.ScanLaws.{IsPlanned, rows_between}
 use Rattle.ds_engine.proofs.CommonRows.{of_branch, plans_tell}

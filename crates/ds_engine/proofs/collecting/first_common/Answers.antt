@@ -1,6 +1,7 @@
 use Rattle.std.proofs.Common.{◌≡◌, inl, inr, ℕ, ◌+◌, ◌≤◌, ◌<◌, List, [], length, map, get_or, refl, sym, ap, subst, ◌∙◌, true, false}
 use Rattle.std.proofs.Common.{arith, Some, None, Ok, option_copied}
-use Rattle.std.specs.Prelude.{IfOk, IfSome}
+use Rattle.std.specs.Prelude.{All, IfOk, IfSome}
+use Rattle.std.proofs.lemmas.List.Elements.{All-nil}
 use Rattle.std.proofs.lemmas.List.{length-map}
 use Rattle.ds_base.specs.declared.column.Column.{Column}
 use Rattle.ds_query.specs.Filters.{projected}
@@ -8,12 +9,13 @@ use Rattle.ds_cursor.specs.RowsOfColumns.{IsRowOf}
 use Rattle.ds_zigzag.specs.Spans.{count_between}
 use Rattle.ds_zigzag.specs.CommonStrings.{IsCommon, IsNextCommon, HasNoNextCommon}
 use Rattle.ds_zigzag.specs.Walks.{IsWalked}
-use Rattle.ds_merge.specs.Merging.{IsPlaced, last_of}
-use Rattle.ds_merge.specs.Slots.{slot_of}
+use Rattle.ds_pages.specs.Pages.{last_of}
+use Rattle.ds_pages.specs.Places.{IsPlaced}
+use Rattle.ds_pages.specs.Slots.{slot_of}
 use Rattle.ds_engine.specs.Kept.{have_no_values}
 use Rattle.ds_engine.specs.Places.{bytes_of, is_wanted}
 use Rattle.ds_engine.proofs.Collected.{AreCollected, IsAtLast, begun, stepped, ended, full, fewer_left, at_next, walked_on, walked_within}
-use Rattle.ds_engine.proofs.Collected.{steps_at_end, steps_when_full, always_err}
+use Rattle.ds_engine.proofs.Collected.{steps_at_end, steps_when_full, always_err, all_with, one_longer, none_wanted}
 use Rattle.ds_engine.proofs.collecting.first_common.Goals as goal
 
 pub answers-init : goal.answers-init
@@ -36,7 +38,10 @@ answers-init g c = record {
       subst (λ o. IsWalked (length c.args.scans.now) after o ss ps now now) (sym (c.in_ok-walk.ensures.stands ∙ c.bytes_of.ensures))
       (c.in_ok-walk.ensures.begins after ss ps now);
   at_last = λ enough. inl (c.in_ok-firsts.ensures.none, refl);
-  counted = omega arith;
+  placed = subst (All (IsPlaced c.args.branch.now.columns)) (sym c.in_ok-firsts.ensures.none)
+      (All-nil (IsPlaced c.args.branch.now.columns));
+  counted = let none = ap length c.in_ok-firsts.ensures.none in omega (arith, none);
+  none_asked = λ none. refl;
 }
 
 pub returns-in-None-clause-rows : goal.returns-in-None-clause-rows
@@ -121,7 +126,14 @@ answers-preserved g c =
           (at_next c.args.most c.answers.firsts.keeps_all c.answers.firsts.slots c.answers.firsts.rows c.put.new.self.rows c.in_ok-row-in-Some.row place
           c.args.steps.now c.next.new.steps
           wanted c.in_ok-put-in-Some.ensures.rows c.in_ok-row-in-Some.ensures.place);
-      counted = omega (arith, c.answers.invariant.counted, c.next.ensures.steps_stay_counted);
+      placed = subst (All (IsPlaced columns)) (sym c.in_ok-put-in-Some.ensures.rows)
+          (all_with (IsPlaced columns) c.answers.firsts.keeps_all c.answers.firsts.slots c.answers.firsts.rows c.in_ok-row-in-Some.row
+          c.answers.invariant.placed placed);
+      counted =
+          let longer = one_longer c.answers.firsts.keeps_all c.answers.firsts.slots c.answers.firsts.rows c.in_ok-row-in-Some.row in
+          let put = ap length c.in_ok-put-in-Some.ensures.rows in
+          omega (arith, longer, put, c.answers.invariant.counted, c.in_ok-found.ensures.takes_a_step);
+      none_asked = λ none. absurd (none_wanted c.args.most (length c.answers.firsts.rows) none wanted);
     }
 
 pub returns-clause-rows : goal.returns-clause-rows
@@ -191,3 +203,37 @@ returns-in_err-put-in-Some-clause-steps_when_refused g c =
     (map g.S.Scan.passed c.answers.scans) (map g.S.Scan.passed c.args.scans.now) c.args.steps.now number c.answers.invariant.strings
     c.answers.invariant.passed
     c.answers.walk.last c.answers.steps c.next.new.steps c.answers.invariant.walked (c.next.ensures.walk_within after c.args.steps.now))
+
+pub returns-in-None-clause-none_asked : goal.returns-in-None-clause-none_asked
+returns-in-None-clause-none_asked g c = λ none.
+    absurd (none_wanted c.args.most (length c.answers.firsts.rows) none
+    (sym (c.is_wanted.ensures ∙ ap (is_wanted c.args.most) c.len.ensures) ∙ c.answers-test.true))
+
+pub returns-in_err-found-clause-none_asked : goal.returns-in_err-found-clause-none_asked
+returns-in_err-found-clause-none_asked g c = λ none.
+    absurd (none_wanted c.args.most (length c.answers.firsts.rows) none
+    (sym (c.is_wanted.ensures ∙ ap (is_wanted c.args.most) c.len.ensures) ∙ c.answers-test.true))
+
+pub returns-in_err-row-in-Some-clause-none_asked : goal.returns-in_err-row-in-Some-clause-none_asked
+returns-in_err-row-in-Some-clause-none_asked g c = λ none.
+    absurd (none_wanted c.args.most (length c.answers.firsts.rows) none
+    (sym (c.is_wanted.ensures ∙ ap (is_wanted c.args.most) c.len.ensures) ∙ c.answers-test.true))
+
+pub returns-in_err-put-in-Some-clause-none_asked : goal.returns-in_err-put-in-Some-clause-none_asked
+returns-in_err-put-in-Some-clause-none_asked g c = λ none.
+    absurd (none_wanted c.args.most (length c.answers.firsts.rows) none
+    (sym (c.is_wanted.ensures ∙ ap (is_wanted c.args.most) c.len.ensures) ∙ c.answers-test.true))
+
+pub returns-in-None-clause-placed : goal.returns-in-None-clause-placed
+returns-in-None-clause-placed g c = subst (All (IsPlaced c.args.branch.now.columns)) (sym c.finish.ensures) c.answers.invariant.placed
+
+pub returns-clause-placed : goal.returns-clause-placed
+returns-clause-placed g c = subst (All (IsPlaced c.args.branch.now.columns)) (sym c.finish-2.ensures) c.answers.invariant.placed
+
+pub returns-in-None-clause-a_step_for_each : goal.returns-in-None-clause-a_step_for_each
+returns-in-None-clause-a_step_for_each g c =
+    let same = ap length c.finish.ensures in
+    omega (arith, same, c.answers.invariant.counted, c.in_ok-found.ensures.takes_a_step)
+
+pub returns-clause-a_step_for_each : goal.returns-clause-a_step_for_each
+returns-clause-a_step_for_each g c = let same = ap length c.finish-2.ensures in omega (arith, same, c.answers.invariant.counted)

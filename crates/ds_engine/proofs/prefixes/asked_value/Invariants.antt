@@ -1,6 +1,6 @@
 -- The name wasn't among the pairs so far.
 use Rattle.std.proofs.Common.{◌≡◌, drop}
-use Rattle.ds_model.specs.Results.{asked_value}
+use Rattle.ds_query.specs.RowValues.{asked_value}
 use Rattle.ds_engine.proofs.prefixes.asked_value.Given as goal
 
 abbrev pub invariant-loop-pair : goal.invariant-loop-pair

@@ -1,6 +1,6 @@
 use Rattle.std.proofs.Common.{◌≡◌, ap, sym, subst, ◌∙◌}
 use Rattle.ds_bytes.specs.Encoding.{key_encoding}
-use Rattle.ds_cursor.specs.RowsOfColumns.{key_descends}
+use Rattle.ds_base.specs.KeyColumn.{key_descends}
 use Rattle.ds_engine.specs.Reading.{KeyStands}
 use Rattle.ds_engine.proofs.Readings.{value_stands, value_read, key_passed, key_stands, row_read}
 use Rattle.ds_engine.proofs.reading.row_of.Goals as goal

@@ -1,5 +1,6 @@
 -- Whatever row it is, what is left of it stands there.
-use Rattle.ds_cursor.specs.RowsOfColumns.{IsRowOf, key_descends}
+use Rattle.ds_cursor.specs.RowsOfColumns.{IsRowOf}
+use Rattle.ds_base.specs.KeyColumn.{key_descends}
 use Rattle.ds_engine.proofs.Readings.{IsLeft}
 use Rattle.ds_engine.proofs.reading.row_of.Given as goal
 

@@ -1,7 +1,7 @@
 use Rattle.std.proofs.Common.{◌≡◌, Bool, ap, sym, ◌∙◌}
 use Rattle.std.specs.Prelude.{◌&&◌}
 use Rattle.ds_base.specs.declared.column.Column.{Column}
-use Rattle.ds_rows.specs.IndexedValues.{is_key_name}
+use Rattle.ds_base.specs.KeyColumn.{is_key_name}
 use Rattle.ds_rows.proofs.IndexedRows.{last_descends}
 use Rattle.ds_rows.proofs.composite.last_key_descends.Goals as goal
 

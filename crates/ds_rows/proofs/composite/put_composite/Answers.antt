@@ -4,7 +4,7 @@ use Rattle.ds_base.specs.Buffers.{BufferParts}
 use Rattle.ds_base.specs.Keys.{KeyParts}
 use Rattle.ds_bytes.specs.Encoding.{key_encoding}
 use Rattle.ds_rows.specs.IndexedValues.{kind_of, column_values}
-use Rattle.ds_rows.specs.Indexes.{Composite, value_columns, last_key_descends}
+use Rattle.ds_rows.specs.Indexes.{Composite, front_columns, last_key_descends}
 use Rattle.ds_rows.specs.Rows.{index_front}
 use Rattle.ds_rows.specs.Ways.{lists_of, directions_of}
 use Rattle.ds_rows.proofs.composite.put_composite.Goals as goal
@@ -22,7 +22,7 @@ returns c =
     let front : c.put_composite_front.new.front.bytes ≡ index_front (Composite c.args.position d) e.key.namespace (kind_of e.key) =
     c.in_ok-put_composite_front.ensures d
     ∙ ap (λ (k : KeyParts). index_front (Composite c.args.position d) k.namespace (kind_of k)) c.key-4.ensures.value in
-    let columns : c.value_columns.result.now ≡ value_columns d.columns = c.value_columns.ensures ∙ ap value_columns c.as_slice.ensures in
+    let columns : c.front_columns.result.now ≡ front_columns d.columns = c.front_columns.ensures ∙ ap front_columns c.as_slice.ensures in
     c.put_for_index.ensures e (Composite c.args.position d) (sym c.key-5.ensures.value) refl front last
     (ap lists_of c.as_slice-4.ensures.value ∙ c.in_ok-values.ensures.lists ∙ ap (map (λ (x : Column). column_values e x.name)) columns)
     (ap directions_of c.as_slice-4.ensures.value ∙ c.in_ok-values.ensures.directions ∙ ap (map (λ (x : Column). x.descending)) columns)

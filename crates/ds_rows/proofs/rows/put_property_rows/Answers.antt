@@ -3,7 +3,8 @@ use Rattle.std.specs.Prelude.{All}
 use Rattle.std.proofs.lemmas.List.{take_all}
 use Rattle.std.proofs.lemmas.List.Elements.{All-more}
 use Rattle.ds_base.specs.declared.entity.Property.{Property}
-use Rattle.ds_bytes.specs.Lawful.{AreBytes, IsLawfulValue}
+use Rattle.ds_bytes.specs.Lawful.{IsLawfulValue}
+use Rattle.ds_base.specs.Bytes.{AreBytes}
 use Rattle.ds_rows.specs.Spans.{Written}
 use Rattle.ds_rows.specs.IndexedValues.{property_values}
 use Rattle.ds_rows.specs.Indexes.{property_indexes}

@@ -1,7 +1,8 @@
 -- The rows so far and those of the properties that are left are all.
 use Rattle.std.proofs.Common.{◌≡◌, ◌++◌, [], drop, take}
 use Rattle.std.specs.Prelude.{flat_map, All}
-use Rattle.ds_bytes.specs.Lawful.{AreBytes, IsLawfulValue}
+use Rattle.ds_bytes.specs.Lawful.{IsLawfulValue}
+use Rattle.ds_base.specs.Bytes.{AreBytes}
 use Rattle.ds_rows.specs.IndexedValues.{property_values}
 use Rattle.ds_rows.specs.Indexes.{property_indexes}
 use Rattle.ds_rows.specs.Rows.{rows_in}

@@ -1,5 +1,6 @@
 use Rattle.std.proofs.Common.{sym, subst}
-use Rattle.ds_shard.specs.Histories.{Each, BeginsBy}
+use Rattle.ds_shard.specs.Histories.{BeginsBy}
+use Rattle.std.specs.List.{AllByRecursion as Each}
 use Rattle.ds_shard.proofs.Undoing.{begun-undone, undone_next, undone_end}
 use Rattle.ds_shard.proofs.contents.undo_writes.Goals as goal
 

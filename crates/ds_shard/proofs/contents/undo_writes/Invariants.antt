@@ -1,6 +1,7 @@
 use Rattle.std.proofs.Common.{◌≡◌, drop, map}
 use Rattle.ds_log.specs.Logs.{key_of}
-use Rattle.ds_shard.specs.Histories.{Each, BeginsBy}
+use Rattle.ds_shard.specs.Histories.{BeginsBy}
+use Rattle.std.specs.List.{AllByRecursion as Each}
 use Rattle.ds_shard.specs.Contents.{all_undone}
 use Rattle.ds_shard.proofs.contents.undo_writes.Given as goal
 

@@ -3,7 +3,7 @@ use Rattle.std.specs.Prelude.{IsFalse}
 use Rattle.ds_rows.specs.Laws.{IsOnce}
 use Rattle.ds_table.specs.Versions.{has_alive, undone}
 use Rattle.ds_table.specs.Blocks.{versions}
-use Rattle.ds_shard.specs.Histories.{Each}
+use Rattle.std.specs.List.{AllByRecursion as Each}
 use Rattle.ds_shard.specs.Rows.{all_added}
 use Rattle.ds_shard.proofs.rows.add_rows.Given as goal
 

@@ -3,7 +3,7 @@ use Rattle.std.specs.Prelude.{IsTrue}
 use Rattle.ds_rows.specs.Laws.{IsOnce}
 use Rattle.ds_table.specs.Versions.{has_alive}
 use Rattle.ds_table.specs.Blocks.{versions}
-use Rattle.ds_shard.specs.Histories.{Each}
+use Rattle.std.specs.List.{AllByRecursion as Each}
 use Rattle.ds_shard.specs.Rows.{all_closed}
 use Rattle.ds_shard.proofs.rows.close_rows.Given as goal
 

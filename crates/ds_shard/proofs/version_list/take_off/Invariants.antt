@@ -1,6 +1,7 @@
 use Rattle.std.proofs.Common.{◌≡◌, map}
 use Rattle.std.specs.VecDeque.{deque_len}
-use Rattle.ds_shard.specs.Histories.{Each, BeginsBy, IsHistory, version_of}
+use Rattle.ds_shard.specs.Histories.{BeginsBy, IsHistory, version_of}
+use Rattle.std.specs.List.{AllByRecursion as Each}
 use Rattle.ds_shard.proofs.LastVersions.{back}
 use Rattle.ds_shard.proofs.version_list.take_off.Given as goal
 

@@ -1,5 +1,5 @@
 use Rattle.std.proofs.Common.{◌≤◌, take}
-use Rattle.ds_table.specs.Each.{Each}
+use Rattle.std.specs.List.{AllByRecursion as Each}
 use Rattle.ds_table.proofs.block.least.Given as goal
 
 abbrev pub invariant-loop-stamp : goal.invariant-loop-stamp

@@ -1,7 +1,7 @@
 use Rattle.std.proofs.Common.{◌≡◌, ◌+◌, ◌-◌, ◌/◌, ◌<◌, true, false, [], length, take, get_or, arith, subst}
 use Rattle.std.proofs.lemmas.List.{get_or_read}
-use Rattle.ds_table.specs.Each.{Each}
-use Rattle.ds_table.specs.Versions.{Version}
+use Rattle.std.specs.List.{AllByRecursion as Each}
+use Rattle.ds_table.specs.Versions.{RowVersion}
 use Rattle.ds_table.specs.Blocks.{joined}
 use Rattle.ds_table.specs.Places.{comes_before}
 use Rattle.ds_table.proofs.Placing.{blocks_before, blocks_after}
@@ -14,8 +14,8 @@ loop-low-preserved-then-is_before_row c =
     let bs = c.args.blocks.now in
     let m = c.loop-low.low + (c.loop-low.high - c.loop-low.low) / 2 in
     let l : m < length bs = omega (arith, c.loop-low.invariant.within, c.loop-low-test.true) in
-    let t : (d : Version) → comes_before o s (get_or (get_or bs m []) 0 d) ≡ true = λ d. rw (← get_or_read bs m c.index-blocks-middle.result l c.index-blocks-middle.is [], ← c.row.ensures d, ← c.is_before_row.ensures) c.if-is_before_row.true in
-    let d : Version = record { row = []; from = 0; to = 0 } in
+    let t : (d : RowVersion) → comes_before o s (get_or (get_or bs m []) 0 d) ≡ true = λ d. rw (← get_or_read bs m c.index-blocks-middle.result l c.index-blocks-middle.is [], ← c.row.ensures d, ← c.is_before_row.ensures) c.if-is_before_row.true in
+    let d : RowVersion = record { row = []; from = 0; to = 0 } in
     record {
       ordered = omega (arith, c.loop-low-test.true);
       within = c.loop-low.invariant.within;
@@ -32,7 +32,7 @@ loop-low-preserved c =
     let bs = c.args.blocks.now in
     let m = c.loop-low.low + (c.loop-low.high - c.loop-low.low) / 2 in
     let l : m < length bs = omega (arith, c.loop-low.invariant.within, c.loop-low-test.true) in
-    let d : Version = record { row = []; from = 0; to = 0 } in
+    let d : RowVersion = record { row = []; from = 0; to = 0 } in
     let f : comes_before o s (get_or (get_or bs m []) 0 d) ≡ false = rw (← get_or_read bs m c.index-blocks-middle.result l c.index-blocks-middle.is [], ← c.row.ensures d, ← c.is_before_row.ensures) c.if-is_before_row.false in
     record {
       ordered = omega (arith, c.loop-low-test.true);

@@ -1,5 +1,5 @@
 use Rattle.std.proofs.Common.{◌≡◌, ◌+◌, false, drop, arith, subst}
-use Rattle.ds_table.specs.Each.{Each}
+use Rattle.std.specs.List.{AllByRecursion as Each}
 use Rattle.ds_table.specs.Blocks.{joined}
 use Rattle.ds_table.specs.Places.{comes_before}
 use Rattle.ds_table.proofs.places.last_begun.Goals as goal

@@ -1,6 +1,6 @@
 use Rattle.std.proofs.Common.{◌≡◌, ◌<◌, List, ℕ, [], ◌∷◌, take, length, get_or, sym, ◌∙◌, subst, arith, add-one, refl}
 use Rattle.std.proofs.lemmas.List.{get_or_read, take_all}
-use Rattle.ds_table.specs.Each.{Each}
+use Rattle.std.specs.List.{AllByRecursion as Each}
 use Rattle.ds_table.specs.Heads.{Shares, IsAlike}
 use Rattle.ds_table.proofs.Heads.{all_fewer, alike_by, each_take_next}
 use Rattle.ds_table.proofs.rows.shared_by.Goals as goal

@@ -1,5 +1,5 @@
 use Rattle.std.proofs.Common.{◌≤◌, length, take}
-use Rattle.ds_table.specs.Each.{Each}
+use Rattle.std.specs.List.{AllByRecursion as Each}
 use Rattle.ds_table.specs.Heads.{Shares}
 use Rattle.ds_table.proofs.rows.shared_by.Given as goal
 

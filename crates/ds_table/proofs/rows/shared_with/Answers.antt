@@ -1,7 +1,7 @@
 use Rattle.std.proofs.Common.{◌≡◌, ◌<◌, [], take, length, get_or, ◌∙◌, subst, arith}
 use Rattle.std.proofs.lemmas.List.{get_or_read}
 use Rattle.ds_table.proofs.Heads.{all_fewer, alike_first}
-use Rattle.ds_table.specs.Each.{Each}
+use Rattle.std.specs.List.{AllByRecursion as Each}
 use Rattle.ds_table.specs.Heads.{Shares}
 use Rattle.std.proofs.Common.{List, ℕ, ◌∷◌}
 use Rattle.ds_table.proofs.rows.shared_with.Goals as goal

@@ -1,7 +1,7 @@
 use Rattle.std.proofs.Common.{◌≡◌, false, ℕ, [], ◌++◌, suc, take, drop, get_or, find, option_copied, refl, ap, sym, ◌∙◌, arith, add-one}
 use Rattle.std.specs.Prelude.{Option, Some, None, option_map, MatchOption}
 use Rattle.std.proofs.lemmas.List.{get_or_read}
-use Rattle.ds_table.specs.Versions.{Version, is_before, is_seen, in_range, seen_rows, unseen_before, versions_within}
+use Rattle.ds_table.specs.Versions.{RowVersion, is_before, is_seen, in_range, seen_rows, unseen_before, versions_within}
 use Rattle.ds_table.specs.Blocks.{joined}
 use Rattle.ds_table.proofs.Placing.{block_ordered}
 use Rattle.ds_table.proofs.Spacing.{joined_parts, joined_drop_at}
@@ -30,10 +30,10 @@ returns-then-not-is_below_bound-clause-least g c =
     let i = c.loop-i.i in
     let a = c.args.at_least.now in
     let b = option_copied c.args.below in
-    let d : Version = record { row = []; from = 0; to = 0 } in
+    let d : RowVersion = record { row = []; from = 0; to = 0 } in
     let f : is_before b (get_or (get_or bs i []) 0 d).row ≡ false = rw (← get_or_read bs i c.index-blocks-i.result c.loop-i-test.true c.index-blocks-i.is [], ← c.row.ensures d, ← c.is_below_bound.ensures) c.if-not-is_below_bound.true in
     let out = rest_out a b bs i d c.loop-i-test.true c.requires.filled c.requires.ordered f in
-    sym (c.loop-i.invariant.least ∙ (first_row (in_range a b) c.args.at (joined (drop i bs)) ∙ ap (λ l. option_map (λ (v : Version). v.row) (find (is_seen c.args.at) l)) out))
+    sym (c.loop-i.invariant.least ∙ (first_row (in_range a b) c.args.at (joined (drop i bs)) ∙ ap (λ l. option_map (λ (v : RowVersion). v.row) (find (is_seen c.args.at) l)) out))
 
 pub returns-then-not-is_below_bound-clause-steps : goal.returns-then-not-is_below_bound-clause-steps
 returns-then-not-is_below_bound-clause-steps g c =
@@ -41,7 +41,7 @@ returns-then-not-is_below_bound-clause-steps g c =
     let i = c.loop-i.i in
     let a = c.args.at_least.now in
     let b = option_copied c.args.below in
-    let d : Version = record { row = []; from = 0; to = 0 } in
+    let d : RowVersion = record { row = []; from = 0; to = 0 } in
     let f : is_before b (get_or (get_or bs i []) 0 d).row ≡ false = rw (← get_or_read bs i c.index-blocks-i.result c.loop-i-test.true c.index-blocks-i.is [], ← c.row.ensures d, ← c.is_below_bound.ensures) c.if-not-is_below_bound.true in
     let out = rest_out a b bs i d c.loop-i-test.true c.requires.filled c.requires.ordered f in
     let q = ap (unseen_before c.args.at) out in
@@ -57,7 +57,7 @@ returns-in-Some-clause-least g c =
     let i = c.loop-i.i in
     let a = c.args.at_least.now in
     let b = option_copied c.args.below in
-    let d : Version = record { row = []; from = 0; to = 0 } in
+    let d : RowVersion = record { row = []; from = 0; to = 0 } in
     let blk = c.index-blocks-i.result in
     let rest = joined (drop (suc i) bs) in
     let v = get_or blk c.in-Some.place d in
@@ -72,7 +72,7 @@ returns-in-Some-clause-steps g c =
     let i = c.loop-i.i in
     let a = c.args.at_least.now in
     let b = option_copied c.args.below in
-    let d : Version = record { row = []; from = 0; to = 0 } in
+    let d : RowVersion = record { row = []; from = 0; to = 0 } in
     let blk = c.index-blocks-i.result in
     let rest = joined (drop (suc i) bs) in
     let v = get_or blk c.in-Some.place d in

@@ -13,6 +13,7 @@ loop-agreed-init g c =
     record {
       progress = subst (λ v. Progress (string_below c.args.target.now.items) (map g.S.Scan.strings c.args.scans.now) (map g.S.Scan.passed c.args.scans.now) v 0 0 c.args.steps.now c.args.steps.now) (sym c.requires.from_above)
           (started (string_below c.args.target.now.items) (map g.S.Scan.strings c.args.scans.now) (map g.S.Scan.passed c.args.scans.now) c.args.steps.now as_many);
+      sought = search rules;
       same_strings = search rules;
       same_passed = search rules;
     }
@@ -64,6 +65,10 @@ loop-agreed-preserved g c =
       progress = elim c.match-branch-2.branch [
         | in-Same w ↦ turn_same t c.seek_target.new.target.items c.seek_target.new.steps c.match-branch-2.agreed c.in_ok-seek_target.ensures.strings_ascend (rw w.in-Same.is at c.in_ok-seek_target.ensures.sought) (rw w.in-Same.is at c.in_ok-seek_target.ensures.steps_when_done) c.seek_target.ensures.steps_stay_counted w.agreed-is
         | in-Greater w ↦ turn_greater t c.seek_target.new.target.items c.seek_target.new.steps c.match-branch-2.agreed c.in_ok-seek_target.ensures.strings_ascend (rw w.in-Greater.is at c.in_ok-seek_target.ensures.sought) (rw w.in-Greater.is at c.in_ok-seek_target.ensures.steps_when_done) c.seek_target.ensures.steps_stay_counted w.agreed-is
+      ];
+      sought = elim c.match-branch-2.branch [
+        | in-Same w ↦ omega (arith, w.agreed-is, c.loop-agreed.invariant.sought, c.in_ok-seek_target.ensures.takes_a_step)
+        | in-Greater w ↦ omega (arith, w.agreed-is, c.loop-agreed.invariant.sought, c.in_ok-seek_target.ensures.takes_a_step)
       ];
       same_strings = map-set_same g.S.Scan.strings c.loop-agreed.scans c.wrapped-at.result c.seek_target.new.scan c.index-scans-at.result c.seek_target.ensures.same_strings ∙ c.loop-agreed.invariant.same_strings;
       same_passed = map-set_same g.S.Scan.passed c.loop-agreed.scans c.wrapped-at.result c.seek_target.new.scan c.index-scans-at.result c.seek_target.ensures.same_passed ∙ c.loop-agreed.invariant.same_passed;

@@ -1,5 +1,5 @@
 use Rattle.std.proofs.Common.{◌≡◌, ◌++◌, take, option_copied, refl, sym, ◌∙◌, ap, arith}
-use Rattle.ds_table.specs.Versions.{AreBytes}
+use Rattle.ds_base.specs.Bytes.{AreBytes}
 use Rattle.ds_scan.specs.Ranges.{later}
 use Rattle.ds_scan.specs.Kept.{range_of}
 use Rattle.ds_scan.proofs.Rests.{rests-ascend, rests-do_not_fall}
@@ -45,6 +45,7 @@ returns g c =
         passed_do_not_fall = rw (← c.self.view_is) (rests-do_not_fall range (g.R.Rows.unseen s.rows) found.passed_do_not_fall);
         steps_when_done = rw (← c.self.view_is) (omega (arith, few, found.steps_bounded));
         steps_when_refused = tt;
-        steps_stay_counted = found.steps_stay_counted;
+        takes_a_step = found.takes_a_step;
+        steps_stay_counted = omega (arith, found.takes_a_step);
       },
     )

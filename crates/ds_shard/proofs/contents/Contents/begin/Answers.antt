@@ -3,7 +3,8 @@ use Rattle.std.specs.Prelude.{IsFalse}
 use Rattle.ds_table.specs.Versions as table
 use Rattle.ds_table.specs.Blocks.{versions}
 use Rattle.ds_rows.specs.Rows.{rows_of}
-use Rattle.ds_shard.specs.Histories.{Each, IsOverAt}
+use Rattle.ds_shard.specs.Histories.{IsOverAt}
+use Rattle.std.specs.List.{AllByRecursion as Each}
 use Rattle.ds_shard.specs.Rows.{all_added}
 use Rattle.ds_shard.specs.Contents.{ContentsParts, AreKept, LeadsBack}
 use Rattle.std.proofs.lemmas.Result.{on_ok_weaker}
@@ -13,7 +14,7 @@ use Rattle.ds_shard.proofs.contents.Contents.begin.Goals as goal
 pub add_rows-requires-clause-not_alive : goal.add_rows-requires-clause-not_alive
 add_rows-requires-clause-not_alive c =
     let in_it = c.self.inside in
-    let old : ContentsParts = record { definitions = in_it.defs; table = in_it.table; entities = in_it.entities } in
+    let old : ContentsParts = record { definitions = in_it.defs; table = in_it.table; entities = in_it.entities; ends = in_it.expiring } in
     let e = c.args.entity.now in
     let kept : AreKept c.args.stamp old = subst (AreKept c.args.stamp) (sym c.self.view_is) c.requires.kept in
     let over : Each (IsOverAt c.args.stamp e.key) old.entities =
@@ -25,8 +26,14 @@ pub returns-in_err-add_rows-clause-leads_back : goal.returns-in_err-add_rows-cla
 returns-in_err-add_rows-clause-leads_back c =
     let in_it = c.self.inside in
     let stamp = c.args.stamp in
-    let old : ContentsParts = record { definitions = in_it.defs; table = in_it.table; entities = in_it.entities } in
-    let new : ContentsParts = record { definitions = in_it.defs; table = c.add_rows.new.table; entities = in_it.entities } in
+    let old : ContentsParts = record { definitions = in_it.defs; table = in_it.table; entities = in_it.entities; ends = in_it.expiring } in
+    let new : ContentsParts = record {
+      definitions = in_it.defs;
+      table = c.add_rows.new.table;
+      entities = in_it.entities;
+      ends =
+          in_it.expiring;
+    } in
     let kept : AreKept stamp old = subst (AreKept stamp) (sym c.self.view_is) c.requires.kept in
     let added = c.add_rows.ensures in
     let stays : Stays stamp old new = record {
@@ -35,6 +42,8 @@ returns-in_err-add_rows-clause-leads_back c =
       least = added.same_least;
       least_undone = added.same_least_undone;
       last = added.last;
+      ends = refl;
+      by = kept.ends;
     } in
     subst (λ (b : ContentsParts). LeadsBack stamp c.args.entity.now.key b new) c.self.view_is
     (part_leads stamp old new kept stays c.args.entity.now.key added.leads_back refl)
@@ -44,8 +53,14 @@ returns-clause-kept c =
     let in_it = c.self.inside in
     let stamp = c.args.stamp in
     let e = c.args.entity.now in
-    let old : ContentsParts = record { definitions = in_it.defs; table = in_it.table; entities = in_it.entities } in
-    let new : ContentsParts = record { definitions = in_it.defs; table = c.add_rows.new.table; entities = c.begin.new.self } in
+    let old : ContentsParts = record { definitions = in_it.defs; table = in_it.table; entities = in_it.entities; ends = in_it.expiring } in
+    let new : ContentsParts = record {
+      definitions = in_it.defs;
+      table = c.add_rows.new.table;
+      entities = c.begin.new.self;
+      ends =
+          in_it.expiring;
+    } in
     let kept : AreKept stamp old = subst (AreKept stamp) (sym c.self.view_is) c.requires.kept in
     let over : Each (IsOverAt stamp e.key) old.entities =
     subst (λ (d : ContentsParts). Each (IsOverAt stamp e.key) d.entities) (sym c.self.view_is) c.requires.over in
@@ -56,18 +71,27 @@ returns-clause-kept c =
       least = added.same_least;
       least_undone = added.same_least_undone;
       last = added.last;
+      ends = refl;
+      by = kept.ends;
     } in
     let rows : versions new.table ≡ all_added stamp (versions old.table) (rows_of in_it.defs e) =
     c.in_ok-add_rows.ensures.added ∙ ap (all_added stamp (versions old.table)) c.in_ok-rows.ensures.rows in
-    on_ok_weaker c.begin.result (λ is. begin_kept stamp old new kept stays e c.in_ok-rows.ensures.lawful over rows is) c.begin.ensures.begun
+    on_ok_weaker c.begin.result (λ is. begin_kept stamp old new kept stays e c.in_ok-rows.ensures.lawful over rows is refl)
+    c.begin.ensures.begun
 
 pub returns-clause-leads_back : goal.returns-clause-leads_back
 returns-clause-leads_back c =
     let in_it = c.self.inside in
     let stamp = c.args.stamp in
     let e = c.args.entity.now in
-    let old : ContentsParts = record { definitions = in_it.defs; table = in_it.table; entities = in_it.entities } in
-    let new : ContentsParts = record { definitions = in_it.defs; table = c.add_rows.new.table; entities = c.begin.new.self } in
+    let old : ContentsParts = record { definitions = in_it.defs; table = in_it.table; entities = in_it.entities; ends = in_it.expiring } in
+    let new : ContentsParts = record {
+      definitions = in_it.defs;
+      table = c.add_rows.new.table;
+      entities = c.begin.new.self;
+      ends =
+          in_it.expiring;
+    } in
     let kept : AreKept stamp old = subst (AreKept stamp) (sym c.self.view_is) c.requires.kept in
     let over : Each (IsOverAt stamp e.key) old.entities =
     subst (λ (d : ContentsParts). Each (IsOverAt stamp e.key) d.entities) (sym c.self.view_is) c.requires.over in
@@ -78,6 +102,8 @@ returns-clause-leads_back c =
       least = added.same_least;
       least_undone = added.same_least_undone;
       last = added.last;
+      ends = refl;
+      by = kept.ends;
     } in
     subst (λ (b : ContentsParts). LeadsBack stamp e.key b new) c.self.view_is
     (either c.begin.result (λ is. begin_leads stamp old new kept stays e c.in_ok-rows.ensures.lawful over added.leads_back is) (λ is. part_leads stamp old new kept stays e.key added.leads_back is)

@@ -1,7 +1,8 @@
 use Rattle.std.proofs.Common.{◌≡◌, ◌∙◌, sym, ap, subst}
 use Rattle.ds_base.specs.Keys.{KeyParts}
 use Rattle.ds_log.specs.Logs.{key_of}
-use Rattle.ds_shard.specs.Histories.{Each, IsOverAt, ended}
+use Rattle.ds_shard.specs.Histories.{IsOverAt, ended}
+use Rattle.std.specs.List.{AllByRecursion as Each}
 use Rattle.ds_shard.proofs.Writing.{over-ended}
 use Rattle.ds_shard.proofs.contents.Contents.write.Goals as goal
 

@@ -1,5 +1,6 @@
 use Rattle.std.proofs.Common.{refl, sym, subst}
-use Rattle.ds_shard.specs.Histories.{Each, IsOver}
+use Rattle.ds_shard.specs.Histories.{IsOver}
+use Rattle.std.specs.List.{AllByRecursion as Each}
 use Rattle.ds_shard.proofs.HistoryLaws.{history_more}
 use Rattle.ds_shard.proofs.version_list.VersionList.begin.Goals as goal
 

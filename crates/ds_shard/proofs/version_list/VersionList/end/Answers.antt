@@ -1,5 +1,6 @@
 use Rattle.std.proofs.Common.{sym, subst}
-use Rattle.ds_shard.specs.Histories.{Each, BeginsBy, IsHistory}
+use Rattle.ds_shard.specs.Histories.{BeginsBy, IsHistory}
+use Rattle.std.specs.List.{AllByRecursion as Each}
 use Rattle.ds_shard.proofs.HistoryLaws.{history-ended}
 use Rattle.ds_shard.proofs.version_list.VersionList.end.Goals as goal
 

@@ -2,7 +2,7 @@ use Rattle.std.proofs.Common.{◌≡◌, ◌+◌, ◌-◌, ◌≤◌, length, ta
 use Rattle.ds_table.specs.Versions.{unseen_before}
 use Rattle.ds_table.specs.Blocks.{IsOrdered, versions_of}
 use Rattle.ds_table.specs.Places.{IsRising}
-use Rattle.ds_table.proofs.Columns.{as_many, rows_of}
+use Rattle.ds_table.proofs.Columns.{as_many, rows_in_columns}
 use Rattle.ds_table.proofs.Placing.{rising}
 use Rattle.ds_table.proofs.Looking.{block_range, block_passed, block_found, block_none}
 use Rattle.ds_table.proofs.block.Block.look.Goals as goal
@@ -11,14 +11,14 @@ pub place-low-requires : goal.place-low-requires
 place-low-requires c =
     let b = c.self.inside in
     let o = subst (λ v. IsOrdered v) (sym c.self.view_is) c.requires in
-    let e = rows_of b.rows b.froms.items b.tos.items c.self.invariant.froms_long c.self.invariant.tos_long in
+    let e = rows_in_columns b.rows b.froms.items b.tos.items c.self.invariant.froms_long c.self.invariant.tos_long in
     subst IsRising e (rising (versions_of b.rows b.froms.items b.tos.items) o)
 
 pub place_of_bound-high-requires : goal.place_of_bound-high-requires
 place_of_bound-high-requires c =
     let b = c.self.inside in
     let o = subst (λ v. IsOrdered v) (sym c.self.view_is) c.requires in
-    let e = rows_of b.rows b.froms.items b.tos.items c.self.invariant.froms_long c.self.invariant.tos_long in
+    let e = rows_in_columns b.rows b.froms.items b.tos.items c.self.invariant.froms_long c.self.invariant.tos_long in
     subst IsRising e (rising (versions_of b.rows b.froms.items b.tos.items) o)
 
 pub returns-then-high-low-clause-passed : goal.returns-then-high-low-clause-passed
@@ -27,7 +27,7 @@ returns-then-high-low-clause-passed c =
     let vs = versions_of b.rows b.froms.items b.tos.items in
     let low = c.place-low.result in
     let high = c.place_of_bound-high.result in
-    let e = rows_of b.rows b.froms.items b.tos.items c.self.invariant.froms_long c.self.invariant.tos_long in
+    let e = rows_in_columns b.rows b.froms.items b.tos.items c.self.invariant.froms_long c.self.invariant.tos_long in
     let n = as_many b.rows b.froms.items b.tos.items c.self.invariant.froms_long c.self.invariant.tos_long in
     let p = c.place-low.ensures in
     let q = c.place_of_bound-high.ensures in
@@ -41,7 +41,7 @@ returns-then-high-low-clause-found c =
     let vs = versions_of b.rows b.froms.items b.tos.items in
     let low = c.place-low.result in
     let high = c.place_of_bound-high.result in
-    let e = rows_of b.rows b.froms.items b.tos.items c.self.invariant.froms_long c.self.invariant.tos_long in
+    let e = rows_in_columns b.rows b.froms.items b.tos.items c.self.invariant.froms_long c.self.invariant.tos_long in
     let n = as_many b.rows b.froms.items b.tos.items c.self.invariant.froms_long c.self.invariant.tos_long in
     let p = c.place-low.ensures in
     let q = c.place_of_bound-high.ensures in
@@ -55,7 +55,7 @@ returns-then-passed-wide-clause-passed c =
     let vs = versions_of b.rows b.froms.items b.tos.items in
     let low = c.place-low.result in
     let high = c.place_of_bound-high.result in
-    let e = rows_of b.rows b.froms.items b.tos.items c.self.invariant.froms_long c.self.invariant.tos_long in
+    let e = rows_in_columns b.rows b.froms.items b.tos.items c.self.invariant.froms_long c.self.invariant.tos_long in
     let n = as_many b.rows b.froms.items b.tos.items c.self.invariant.froms_long c.self.invariant.tos_long in
     let p = c.place-low.ensures in
     let q = c.place_of_bound-high.ensures in
@@ -71,7 +71,7 @@ returns-then-passed-wide-clause-found c =
     let vs = versions_of b.rows b.froms.items b.tos.items in
     let low = c.place-low.result in
     let high = c.place_of_bound-high.result in
-    let e = rows_of b.rows b.froms.items b.tos.items c.self.invariant.froms_long c.self.invariant.tos_long in
+    let e = rows_in_columns b.rows b.froms.items b.tos.items c.self.invariant.froms_long c.self.invariant.tos_long in
     let n = as_many b.rows b.froms.items b.tos.items c.self.invariant.froms_long c.self.invariant.tos_long in
     let p = c.place-low.ensures in
     let q = c.place_of_bound-high.ensures in
@@ -88,7 +88,7 @@ returns-clause-passed c =
     let vs = versions_of b.rows b.froms.items b.tos.items in
     let low = c.place-low.result in
     let high = c.place_of_bound-high.result in
-    let e = rows_of b.rows b.froms.items b.tos.items c.self.invariant.froms_long c.self.invariant.tos_long in
+    let e = rows_in_columns b.rows b.froms.items b.tos.items c.self.invariant.froms_long c.self.invariant.tos_long in
     let n = as_many b.rows b.froms.items b.tos.items c.self.invariant.froms_long c.self.invariant.tos_long in
     let p = c.place-low.ensures in
     let q = c.place_of_bound-high.ensures in
@@ -104,7 +104,7 @@ returns-clause-found c =
     let vs = versions_of b.rows b.froms.items b.tos.items in
     let low = c.place-low.result in
     let high = c.place_of_bound-high.result in
-    let e = rows_of b.rows b.froms.items b.tos.items c.self.invariant.froms_long c.self.invariant.tos_long in
+    let e = rows_in_columns b.rows b.froms.items b.tos.items c.self.invariant.froms_long c.self.invariant.tos_long in
     let n = as_many b.rows b.froms.items b.tos.items c.self.invariant.froms_long c.self.invariant.tos_long in
     let p = c.place-low.ensures in
     let q = c.place_of_bound-high.ensures in

@@ -1,6 +1,6 @@
 use Rattle.std.proofs.Common.{◌+◌, ◌≤◌, length, ap, ◌∙◌, sym, subst, arith}
 use Rattle.std.proofs.lemmas.List.{length-append}
-use Rattle.ds_table.specs.Each.{Each}
+use Rattle.std.specs.List.{AllByRecursion as Each}
 use Rattle.ds_table.specs.Heads.{IsAlike, heads_of}
 use Rattle.ds_table.proofs.Heads.{alike_long, heads_long}
 use Rattle.ds_table.proofs.rows.Rows.append.Goals as goal

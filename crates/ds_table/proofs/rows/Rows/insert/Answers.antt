@@ -1,6 +1,6 @@
 use Rattle.std.proofs.Common.{◌≡◌, ◌<◌, ◌≤◌, length, ap, refl, sym, ◌∙◌, subst, arith}
 use Rattle.std.specs.List.{insert}
-use Rattle.ds_table.specs.Each.{Each}
+use Rattle.std.specs.List.{AllByRecursion as Each}
 use Rattle.ds_table.specs.Heads.{Shares, heads_of}
 use Rattle.ds_table.proofs.Lists.{all_then, each_insert}
 use Rattle.ds_table.proofs.Heads.{alike_by, heads_insert, heads_long}

@@ -1,8 +1,8 @@
 use Rattle.std.proofs.Common.{◌≡◌, ◌<◌, ◌≤◌, true, false, [], length, get_or, ap, sym, ◌∙◌, arith, subst}
 use Rattle.std.specs.List.{insert}
 use Rattle.std.proofs.lemmas.List.{get_or_read}
-use Rattle.ds_table.specs.Each.{Each}
-use Rattle.ds_table.specs.Versions.{Version, IsOfBytes, never, has_alive, added}
+use Rattle.std.specs.List.{AllByRecursion as Each}
+use Rattle.ds_table.specs.Versions.{RowVersion, IsOfBytes, never, has_alive, added}
 use Rattle.ds_table.specs.Blocks.{Tabled, joined, IsOrdered, IsGiven}
 use Rattle.ds_table.specs.Places.{comes_before, IsPlace, IsPlaced}
 use Rattle.ds_table.proofs.Placing.{block_ordered}
@@ -40,7 +40,7 @@ invariant_of-self-2 c =
     let p = c.place-place.result in
     let r : IsPlace (comes_before row true) (get_or bs i []) p = subst (λ x. IsPlace (comes_before row true) x p) e₁ c.place-place.ensures in
     let e : c.index_mut.result.now ≡ get_or bs i [] = get_or_read bs i c.index_mut.result.now l c.index_mut.ensures.value [] in
-    let v : Version = record { row = row; from = stamp; to = never } in
+    let v : RowVersion = record { row = row; from = stamp; to = never } in
     let new : c.insert.new.self ≡ insert (get_or bs i []) p v = rw (← e, ← c.in_ok-copy.ensures) c.insert.ensures in
     let given : Each (IsGiven c.self.inside.last) (joined bs) = subst (Each (IsGiven c.self.inside.last)) (sym same) inv.given in
     let alive : has_alive row (joined bs) ≡ false = rw same (subst (λ (t : Tabled). has_alive row (joined t.blocks) ≡ false) (sym c.self.view_is) c.requires.not_alive) in
@@ -72,6 +72,6 @@ returns-clause-added c =
     let p = c.place-place.result in
     let r : IsPlace (comes_before row true) (get_or bs i []) p = subst (λ x. IsPlace (comes_before row true) x p) e₁ c.place-place.ensures in
     let e : c.index_mut.result.now ≡ get_or bs i [] = get_or_read bs i c.index_mut.result.now l c.index_mut.ensures.value [] in
-    let v : Version = record { row = row; from = stamp; to = never } in
+    let v : RowVersion = record { row = row; from = stamp; to = never } in
     let new : c.insert.new.self ≡ insert (get_or bs i []) p v = rw (← e, ← c.in_ok-copy.ensures) c.insert.ensures in
     rw (← c.self.view_is, new) (added_joined row bs i p l q r stamp ∙ ap (added row stamp) same)

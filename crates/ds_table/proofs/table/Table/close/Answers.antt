@@ -1,7 +1,7 @@
 use Rattle.std.proofs.Common.{◌≡◌, ◌-◌, ◌<◌, ◌≤◌, true, [], suc, length, get_or, ap, sym, ◌∙◌, arith, subst}
 use Rattle.std.proofs.Math.ListN.{set, length-set}
 use Rattle.std.proofs.lemmas.List.{get_or_read}
-use Rattle.ds_table.specs.Versions.{Version, has_alive, ended_at}
+use Rattle.ds_table.specs.Versions.{RowVersion, has_alive, ended_at}
 use Rattle.ds_table.specs.Blocks.{Tabled, joined}
 use Rattle.ds_table.specs.Places.{comes_before, IsPlace, IsPlaced}
 use Rattle.ds_table.proofs.Placing.{block_ordered}
@@ -56,7 +56,7 @@ invariant_of-self c =
     let j = p - 1 in
     let k : p ≡ suc j = omega (arith, some) in
     let s : IsPlace (comes_before row true) (get_or bs i []) (suc j) = subst (λ n. IsPlace (comes_before row true) (get_or bs i []) n) k r in
-    let d : Version = record { row = []; from = 0; to = 0 } in
+    let d : RowVersion = record { row = []; from = 0; to = 0 } in
     let e : c.index_mut.result.now ≡ get_or bs i [] = get_or_read bs i c.index_mut.result.now l c.index_mut.ensures.value [] in
     let new : c.close.new.self ≡ set (get_or bs i []) j (ended_at stamp (get_or (get_or bs i []) j d)) = rw (← e) (c.close.ensures d) in
     let h : c.self.inside.last ≤ stamp = subst (λ (t : Tabled). t.last ≤ stamp) (sym c.self.view_is) c.requires.not_before in
@@ -88,7 +88,7 @@ returns-clause-closed c =
     let j = p - 1 in
     let k : p ≡ suc j = omega (arith, some) in
     let s : IsPlace (comes_before row true) (get_or bs i []) (suc j) = subst (λ n. IsPlace (comes_before row true) (get_or bs i []) n) k r in
-    let d : Version = record { row = []; from = 0; to = 0 } in
+    let d : RowVersion = record { row = []; from = 0; to = 0 } in
     let e : c.index_mut.result.now ≡ get_or bs i [] = get_or_read bs i c.index_mut.result.now l c.index_mut.ensures.value [] in
     let new : c.close.new.self ≡ set (get_or bs i []) j (ended_at stamp (get_or (get_or bs i []) j d)) = rw (← e) (c.close.ensures d) in
     rw (← c.self.view_is, new) (closed_joined row bs i j l q s stamp c.self.inside.last inv.below_never inv.ordered inv.given alive)

@@ -14,6 +14,8 @@ returns-in_err-leapfrog_on g c =
         stands = tt;
         walks_on = search rules;
         walk_within = rw (last, c.requires.as_many) at c.in_err-leapfrog_on.ensures.walk_within;
+        agrees_by_steps = search rules;
+        takes_a_step = search rules;
         steps_stay_counted = search rules;
       },
     )
@@ -30,6 +32,8 @@ returns-then-branch g c =
         stands = tt;
         walks_on = rw c.as_slice.ensures.value (rw (last, c.requires.as_many) at (c.in_ok-leapfrog_on.ensures.walks_on c.if-branch.true));
         walk_within = rw (last, c.requires.as_many) at c.in_ok-leapfrog_on.ensures.walk_within;
+        agrees_by_steps = rw c.requires.as_many at (c.in_ok-leapfrog_on.ensures.agrees_by_steps c.if-branch.true);
+        takes_a_step = c.in_ok-leapfrog_on.ensures.takes_a_step;
         steps_stay_counted = search rules;
       },
     )
@@ -46,6 +50,8 @@ returns-else-branch g c =
         stands = tt;
         walks_on = tt;
         walk_within = rw (last, c.requires.as_many) at c.in_ok-leapfrog_on.ensures.walk_within;
+        agrees_by_steps = tt;
+        takes_a_step = c.in_ok-leapfrog_on.ensures.takes_a_step;
         steps_stay_counted = search rules;
       },
     )

@@ -1,8 +1,8 @@
 use Rattle.std.proofs.Common.{◌≡◌, ap, sym, ◌∙◌}
 use Rattle.ds_base.specs.declared.column.Column.{Column}
-use Rattle.ds_rows.specs.IndexedValues.{is_key_name}
+use Rattle.ds_base.specs.KeyColumn.{is_key_name}
 use Rattle.ds_rows.proofs.IndexedRows.{columns_before_key, columns_with_none}
-use Rattle.ds_rows.proofs.composite.value_columns.Goals as goal
+use Rattle.ds_rows.proofs.composite.front_columns.Goals as goal
 
 pub returns-in-Some : goal.returns-in-Some
 returns-in-Some c =

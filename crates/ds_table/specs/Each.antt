@@ -1,7 +1,0 @@
--- What holds of each element of a list, read from its front.
-use Rattle.std.specs.Prelude.{List, [], ◌∷◌}
-
--- P holds of each element
-abbrev pub Each : {X : Type 0} → (X → Type 0) → List X → Type 0
-Each P [] = Unit {0}
-Each P (x ∷ xs) = P x × Each P xs
