@@ -7,7 +7,7 @@ use Rattle.std.proofs.Math.Nat.{le-max_left, le-max_right, max-le, max-eq_left}
 use Rattle.std.proofs.Math.Seq.{map-set_same}
 use Rattle.std.proofs.lemmas.List.{length-set}
 use Rattle.ds_model.specs.Sessions.{count_of, list_of, raised_at}
-use Rattle.ds_applied.specs.AppliedLists.{AppliedParts, ShardParts, entries_of, applied_of, Raised}
+use Rattle.ds_applied.specs.AppliedLists.{AppliedParts, AppliedShard, entries_of, applied_of, Raised}
 
 -- ---- one count
 
@@ -59,7 +59,7 @@ raised_reached (suc shard) k n (c ∷ cs) p q = ap (λ ds. c ∷ ds) (raised_rea
 
 -- ---- one shard among all
 
-pub applied_raised : (ss : List ShardParts) (i : ℕ) (d s : ShardParts) → i < length ss → s.applied ≡ (get_or ss i d).applied + 1
+pub applied_raised : (ss : List AppliedShard) (i : ℕ) (d s : AppliedShard) → i < length ss → s.applied ≡ (get_or ss i d).applied + 1
     → applied_of (set ss i s) ≡ raised_at i (count_of (applied_of ss) i + 1) (applied_of ss)
 applied_raised [] i d s below is = absurd (omega (arith, below))
 applied_raised (t ∷ ts) zero d s below is =
@@ -67,21 +67,21 @@ applied_raised (t ∷ ts) zero d s below is =
 applied_raised (t ∷ ts) (suc i) d s below is =
     ap (λ ns. t.applied ∷ ns) (applied_raised ts i d s (let w : i < length ts = omega (arith, below) in w) is)
 
-pub entries_kept : (ss : List ShardParts) (i : ℕ) (d s : ShardParts) → s.entries ≡ (get_or ss i d).entries
+pub entries_kept : (ss : List AppliedShard) (i : ℕ) (d s : AppliedShard) → s.entries ≡ (get_or ss i d).entries
     → entries_of (set ss i s) ≡ entries_of ss
-entries_kept ss i d s same = map-set_same (λ (t : ShardParts). t.entries) ss i s d same
+entries_kept ss i d s same = map-set_same (λ (t : AppliedShard). t.entries) ss i s d same
 
-pub list_index : (ss : List ShardParts) (i : ℕ) (s : ShardParts) → i < length ss → s ≡ get_or ss i s → s.entries ≡ list_of (entries_of ss) i
+pub list_index : (ss : List AppliedShard) (i : ℕ) (s : AppliedShard) → i < length ss → s ≡ get_or ss i s → s.entries ≡ list_of (entries_of ss) i
 list_index [] i s below is = absurd (omega (arith, below))
-list_index (t ∷ ts) zero s below is = ap (λ (u : ShardParts). u.entries) is
+list_index (t ∷ ts) zero s below is = ap (λ (u : AppliedShard). u.entries) is
 list_index (t ∷ ts) (suc i) s below is = list_index ts i s (let w : i < length ts = omega (arith, below) in w) is
 
 -- ---- what is seen of all shards
 
-abbrev pub view_of : List ShardParts → ℕ → AppliedParts
+abbrev pub view_of : List AppliedShard → ℕ → AppliedParts
 view_of ss commits = record { shards = length ss; commits = commits; lists = entries_of ss; counts = applied_of ss }
 
-module _ (ss : List ShardParts) (commits i : ℕ) (d s : ShardParts) (r : Result (Unit {0}) AllocError) (now : AppliedParts)
+module _ (ss : List AppliedShard) (commits i : ℕ) (d s : AppliedShard) (r : Result (Unit {0}) AllocError) (now : AppliedParts)
     (below : i < length ss) (entries : s.entries ≡ (get_or ss i d).entries) (view : view_of ss commits ≡ now) where
   -- where one more entry of a shard is applied
   pub one_applied : OnOk r (s.applied ≡ (get_or ss i d).applied + 1)
@@ -110,7 +110,7 @@ module _ (ss : List ShardParts) (commits i : ℕ) (d s : ShardParts) (r : Result
           commits = commits;
           lists = entries_kept ss i d s entries j;
           counts = map-set_same
-              (λ (t : ShardParts). t.applied) ss i s d is j;
+              (λ (t : AppliedShard). t.applied) ss i s d is j;
         })
         ∙ view
 

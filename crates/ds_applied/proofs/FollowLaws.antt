@@ -1,15 +1,13 @@
 -- Lists that follow a journal: those of no commit, of a longer journal, and the part of them that the first commits give.
-use Rattle.std.proofs.Common.{◌≡◌, ℕ, zero, suc, ◌+◌, ◌<◌, ◌≤◌, List, [], ◌∷◌, ◌++◌, length, take, drop, map, refl, ap, sym, ◌∙◌}
-use Rattle.std.proofs.Common.{append_assoc, arith}
-use Rattle.std.specs.Prelude.{filter, ◌==◌, Some, slice_get, unwrap_or, replicate}
+use Rattle.std.proofs.Common.{◌≡◌, ℕ, zero, suc, ◌+◌, ◌<◌, ◌≤◌, List, [], ◌∷◌, ◌++◌, length, take, map, refl, ap, sym, ◌∙◌}
+use Rattle.std.proofs.Common.{arith}
+use Rattle.std.specs.Prelude.{Some, slice_get, unwrap_or, replicate}
 use Rattle.std.specs.List.{range_with_len}
-use Rattle.std.proofs.Math.Seq.{take-append_seam}
-use Rattle.std.proofs.lemmas.List.{take-append-le, take-append-drop}
-use Rattle.std.proofs.lemmas.List.Elements.{filter-append}
+use Rattle.std.proofs.lemmas.List.{take-append-le}
 use Rattle.ds_log.specs.declared.Commit.{Commit}
 use Rattle.ds_log.specs.declared.Entry.{Entry}
-use Rattle.ds_log.specs.Logs.{commit_entries, entries_from, shard_list}
-use Rattle.ds_log.specs.Shards.{shard_of}
+use Rattle.ds_log.specs.Logs.{shard_list}
+use Rattle.ds_log.specs.ShardLaws.{shard_list-first}
 use Rattle.ds_model.specs.Sessions.{list_of}
 use Rattle.ds_model.specs.Worlds.{shard_lists}
 use Rattle.ds_applied.specs.AppliedLists.{AppliedParts, Follows, entries_by}
@@ -38,45 +36,6 @@ no_lists shards first (suc n) = ap (λ (lists : List (List Entry)). [] ∷ lists
 pub Follows-made : (shards : ℕ)
     → Follows [] (record { shards = shards; commits = 0; lists = replicate shards []; counts = replicate shards 0 })
 Follows-made shards = record { within = omega arith; lists = no_lists shards 0 shards }
-
--- ---- the entries of the first commits
-
-pub entries_from-append : (n : ℕ) (cs ds : List Commit) → entries_from n (cs ++ ds) ≡ entries_from n cs ++ entries_from (n + length cs) ds
-entries_from-append n [] ds = ap (λ m. entries_from m ds) (let e : n ≡ n + 0 = omega arith in e)
-entries_from-append n (c ∷ cs) ds =
-    ap (λ es. commit_entries n c ++ es) (entries_from-append (n + 1) cs ds)
-    ∙ sym (append_assoc (commit_entries n c) (entries_from (n + 1) cs) (entries_from (n + 1 + length cs) ds))
-    ∙ ap (λ m. (commit_entries n c ++ entries_from (n + 1) cs) ++ entries_from m ds)
-    (let e : n + 1 + length cs ≡ n + length (c ∷ cs) = omega arith in e)
-
--- the entries of a shard of later commits, numbered from n
-abbrev pub later_entries : ℕ → ℕ → ℕ → List Commit → List Entry
-later_entries shard shards n cs = filter (λ e. shard_of e.group shards == shard) (entries_from n cs)
-
-pub shard_list-append : (cs ds : List Commit) (shard shards : ℕ)
-    → shard_list (cs ++ ds) shard shards ≡ shard_list cs shard shards ++ later_entries shard shards (1 + length cs) ds
-shard_list-append cs ds shard shards =
-    ap (filter (λ e. shard_of e.group shards == shard)) (entries_from-append 1 cs ds)
-    ∙ filter-append (λ e. shard_of e.group shards == shard) (entries_from 1 cs) (entries_from (1 + length cs) ds)
-
-pub taken : (m n : ℕ) (cs : List Commit) → m ≤ n → take m (take n cs) ≡ take m cs
-taken zero n cs within = refl
-taken (suc m) zero cs within = absurd (omega (arith, within))
-taken (suc m) (suc n) [] within = refl
-taken (suc m) (suc n) (c ∷ cs) within = ap (λ ds. c ∷ ds) (taken m n cs (let w : m ≤ n = omega (arith, within) in w))
-
--- of the entries of n commits the first are those of the first m
-pub shard_list-first : (m n : ℕ) (journal : List Commit) (shard shards : ℕ) → m ≤ n
-    → take (length (shard_list (take m journal) shard shards)) (shard_list (take n journal) shard shards)
-    ≡ shard_list (take m journal) shard shards
-shard_list-first m n journal shard shards within =
-    let before : List Commit = take m journal in
-    let after : List Commit = drop m (take n journal) in
-    let whole : take n journal ≡ before ++ after =
-    sym (take-append-drop m (take n journal)) ∙ ap (λ cs. cs ++ after) (taken m n journal within) in
-    ap (λ cs. take (length (shard_list before shard shards)) (shard_list cs shard shards)) whole
-    ∙ ap (take (length (shard_list before shard shards))) (shard_list-append before after shard shards)
-    ∙ take-append_seam (shard_list before shard shards) (later_entries shard shards (1 + length before) after)
 
 -- ---- one of the lists
 

@@ -11,7 +11,7 @@ use Rattle.ds_log.specs.Logs.{entries_from, shard_list}
 use Rattle.ds_log.specs.Shards.{shard_of}
 use Rattle.ds_model.specs.Sessions.{last_commit, counted_place, list_of}
 use Rattle.ds_applied.specs.AppliedLists.{AppliedParts, Follows, AreCounts}
-use Rattle.ds_applied.proofs.AllOf.{all-filter}
+use Rattle.ds_model.proofs.AllOf.{all-filter}
 use Rattle.ds_applied.proofs.UpTo.{commits_up_to}
 use Rattle.ds_applied.proofs.ViewSteps.{AreCounts-length}
 

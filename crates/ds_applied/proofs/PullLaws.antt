@@ -12,9 +12,9 @@ use Rattle.ds_log.specs.declared.Entry.{Entry}
 use Rattle.ds_log.specs.Logs.{commit_entries, shard_list}
 use Rattle.ds_log.specs.Shards.{shard_of}
 use Rattle.ds_model.specs.Worlds.{shard_lists}
-use Rattle.ds_applied.specs.AppliedLists.{AppliedParts, Follows, ShardParts, entries_of, applied_of}
+use Rattle.ds_applied.specs.AppliedLists.{AppliedParts, Follows, AppliedShard, entries_of, applied_of}
 use Rattle.ds_applied.specs.Routing.{HasRoom, added}
-use Rattle.ds_applied.proofs.FollowLaws.{shard_list-append}
+use Rattle.ds_log.specs.ShardLaws.{shard_list-append}
 
 -- ---- one entry
 
@@ -56,33 +56,33 @@ module _ (shards : ℕ) where
       (let w : i < length lists = omega (arith, below) in w))
 
   -- the lists of shards of which one got an entry
-  pub added_one : (ss : List ShardParts) (i : ℕ) (d s : ShardParts) (e : Entry) (es : List Entry) → shard_of e.group shards ≡ i
+  pub added_one : (ss : List AppliedShard) (i : ℕ) (d s : AppliedShard) (e : Entry) (es : List Entry) → shard_of e.group shards ≡ i
       → i < length ss
       → s.entries ≡ (get_or ss i d).entries ++ e ∷ []
       → added shards 0 (entries_of (set ss i s)) es ≡ added shards 0 (entries_of ss) (e ∷ es)
   added_one ss i d s e es is below pushed =
       ap (λ ls. added shards 0 ls es)
-      (map-set (λ (t : ShardParts). t.entries) ss i s
+      (map-set (λ (t : AppliedShard). t.entries) ss i s
       ∙ ap (set (entries_of ss) i) (pushed ∙ ap (λ l. l ++ e ∷ []) (sym (get_or-map ss i d))))
       ∙ added_here 0 i (entries_of ss) d.entries e es (omega (arith, is))
       (let w : i < length (entries_of ss) = omega (arith, below, length_of ss) in w)
     where
-      get_or-map : (ts : List ShardParts) (j : ℕ) (d : ShardParts) → get_or (entries_of ts) j d.entries ≡ (get_or ts j d).entries
+      get_or-map : (ts : List AppliedShard) (j : ℕ) (d : AppliedShard) → get_or (entries_of ts) j d.entries ≡ (get_or ts j d).entries
       get_or-map [] j d = refl
       get_or-map (t ∷ ts) zero d = refl
       get_or-map (t ∷ ts) (suc j) d = get_or-map ts j d
 
-      length_of : (ts : List ShardParts) → length (entries_of ts) ≡ length ts
+      length_of : (ts : List AppliedShard) → length (entries_of ts) ≡ length ts
       length_of [] = refl
       length_of (t ∷ ts) = ap suc (length_of ts)
 
 -- what is applied stays, where a shard gets an entry
-pub applied_one : (ss : List ShardParts) (i : ℕ) (d s : ShardParts) → s.applied ≡ (get_or ss i d).applied
+pub applied_one : (ss : List AppliedShard) (i : ℕ) (d s : AppliedShard) → s.applied ≡ (get_or ss i d).applied
     → applied_of (set ss i s) ≡ applied_of ss
-applied_one ss i d s same = map-set_same (λ (t : ShardParts). t.applied) ss i s d same
+applied_one ss i d s same = map-set_same (λ (t : AppliedShard). t.applied) ss i s d same
 
 -- one entry less has room
-pub room_one : (n i : ℕ) (ss : List ShardParts) (d s : ShardParts) → All (HasRoom (suc n)) ss → i < length ss
+pub room_one : (n i : ℕ) (ss : List AppliedShard) (d s : AppliedShard) → All (HasRoom (suc n)) ss → i < length ss
     → (get_or ss i d).spare ≤ s.spare + 1
     → All (HasRoom n) (set ss i s)
 room_one n i ss d s room below pushed =

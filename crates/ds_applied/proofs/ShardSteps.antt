@@ -9,7 +9,7 @@ use Rattle.ds_log.specs.declared.Write.{Write}
 use Rattle.ds_log.specs.After.{after, apply_write}
 use Rattle.ds_log.specs.Logs.{entry_writes}
 use Rattle.ds_applied.specs.AppliedLists.{IsShard, writes_at}
-use Rattle.ds_applied.specs.ByKey.{sorted_by_key}
+use Rattle.ds_base.specs.EntityOrder.{sorted_by_key}
 
 -- ---- the entry at a place
 

@@ -14,7 +14,7 @@ use Rattle.ds_base.specs.SortingLaws.{NoneBefore, Ascends, Ascends-from_IsSorted
 use Rattle.ds_base.specs.SortingLaws.{IsPermutation-sorted_by, same_sorted}
 use Rattle.ds_model.specs.Results.{entity_of}
 use Rattle.ds_applied.specs.ByKey.{entity_cmp, sorted_by_key, KeysDiffer}
-use Rattle.ds_applied.proofs.DistinctKeys.{AreFound, AreFound-all}
+use Rattle.ds_model.proofs.DistinctKeys.{AreFound, AreFound-all}
 
 module _ {X K : Type 0} (f : X → K) (R : K → K → Ordering) where
   none_before-map : (x : X) (ys : List X) → NoneBefore (on f R) x ys → NoneBefore R (f x) (map f ys)

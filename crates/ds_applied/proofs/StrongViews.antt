@@ -1,47 +1,20 @@
 -- Strong reads: what is seen of one entity group in its shard's entities is what is seen of it in the strong view of the journal.
-use Rattle.std.proofs.Common.{◌≡◌, ℕ, ◌<◌, ◌≤◌, List, [], ◌∷◌, take, refl, ap, sym, ◌∙◌, Bool, true, false, cond, Some}
+use Rattle.std.proofs.Common.{◌≡◌, ℕ, ◌<◌, ◌≤◌, List, length}
+use Rattle.ds_base.specs.declared.column.Column.{Column}
 use Rattle.ds_base.specs.Keys.{KeyParts, root_of}
-use Rattle.ds_base.specs.KeyOrder.{same_key}
-use Rattle.ds_base.specs.Entities.{EntityParts}
+use Rattle.ds_query.specs.declared.branch.Normal.{Normal}
+use Rattle.ds_query.specs.declared.branch.Window.{Window}
+use Rattle.ds_query.specs.declared.query.Select.{Select}
 use Rattle.ds_log.specs.declared.Commit.{Commit}
-use Rattle.ds_log.specs.declared.Entry.{Entry}
-use Rattle.ds_log.specs.After.{after}
-use Rattle.ds_log.specs.Logs.{entry_writes, shard_list, writes_of}
 use Rattle.ds_log.specs.Shards.{shard_of}
-use Rattle.ds_model.specs.Results.{entity_of}
+use Rattle.ds_model.specs.ByKey.{shard_view}
+use Rattle.ds_model.specs.Results.{result, items_of, entity_of}
+use Rattle.ds_model.specs.Sessions.{list_of}
 use Rattle.ds_model.specs.Views.{strong_view}
-use Rattle.ds_model.proofs.GroupPrefixes.{own_entries}
-use Rattle.ds_model.proofs.GroupViews.{cut, cut_view, in_group, same_key-equal}
-use Rattle.ds_applied.specs.AppliedLists.{AppliedParts, Follows, entries_by, shard_view}
-use Rattle.ds_applied.specs.ByKey.{sorted_by_key}
-use Rattle.ds_applied.proofs.DistinctKeys.{KeysDiffer-after, same_key-itself}
+use Rattle.ds_model.proofs.AncestorResults.{HaveAncestor, ancestor_result, ancestor_items}
+use Rattle.ds_model.proofs.GroupReads.{get_seen}
+use Rattle.ds_applied.specs.AppliedLists.{AppliedParts, Follows, entries_by}
 use Rattle.ds_applied.proofs.FollowLaws.{list_up_to}
-use Rattle.ds_applied.proofs.FoundByKey.{entity_of-sorted}
-
--- ---- one group
-
--- the shard's entities, cut to a group, are those of the strong view
-pub group_seen : (journal : List Commit) (m shards : ℕ) (g : KeyParts)
-    → cut g (after (entry_writes (shard_list (take m journal) (shard_of g shards) shards))) ≡ cut g (strong_view journal m)
-group_seen journal m shards g =
-    cut_view g (entry_writes (shard_list (take m journal) (shard_of g shards) shards))
-    ∙ ap after (own_entries g shards (take m journal))
-    ∙ sym (cut_view g (writes_of (take m journal)))
-
--- an entity is found by its key in its group
-pub found_in_group : (k : KeyParts) (es : List EntityParts) → entity_of es k ≡ entity_of (cut (root_of k) es) k
-found_in_group k [] = refl
-found_in_group k (e ∷ es) = by (found_in_group k es) (same_key e.key k) refl (in_group (root_of k) e) refl where
-  by : entity_of es k ≡ entity_of (cut (root_of k) es) k → (a : Bool) → same_key e.key k ≡ a → (b : Bool) → in_group (root_of k) e ≡ b
-      → cond a (Some e) (entity_of es k) ≡ entity_of (cond b (e ∷ cut (root_of k) es) (cut (root_of k) es)) k
-  by later true same true own = sym (ap (λ c. cond c (Some e) (entity_of (cut (root_of k) es) k)) same)
-  by later true same false own =
-      absurd (apart (sym own ∙ ap (λ (l : KeyParts). same_key (root_of l) (root_of k)) (same_key-equal e.key k same) ∙ same_key-itself
-      (root_of k))) where
-        apart : false ≡ true → ⊥
-        apart e = cc
-  by later false other true own = later ∙ sym (ap (λ c. cond c (Some e) (entity_of (cut (root_of k) es) k)) other)
-  by later false other false own = later
 
 -- A get: what is found by a key in its shard, at the entries of the first m commits, is what the strong view has.
 pub strong_get : (journal : List Commit) (a : AppliedParts) (m : ℕ) (k : KeyParts) → Follows journal a → m ≤ a.commits
@@ -49,11 +22,28 @@ pub strong_get : (journal : List Commit) (a : AppliedParts) (m : ℕ) (k : KeyPa
     → entity_of (shard_view a.lists (shard_of (root_of k) a.shards) (entries_by journal a.shards (shard_of (root_of k) a.shards) m)) k
     ≡ entity_of (strong_view journal m) k
 strong_get journal a m k follows within below =
-    let g : KeyParts = root_of k in
-    let shard : ℕ = shard_of g a.shards in
-    let own : List Entry = shard_list (take m journal) shard a.shards in
-    ap (λ (es : List Entry). entity_of (sorted_by_key (after (entry_writes es))) k) (list_up_to journal a shard m follows below within)
-    ∙ entity_of-sorted (after (entry_writes own)) k (KeysDiffer-after (entry_writes own))
-    ∙ found_in_group k (after (entry_writes own))
-    ∙ ap (λ es. entity_of es k) (group_seen journal m a.shards g)
-    ∙ sym (found_in_group k (strong_view journal m))
+    let shard : ℕ = shard_of (root_of k) a.shards in
+    get_seen journal (list_of a.lists shard) (entries_by journal a.shards shard m) m a.shards k
+    (list_up_to journal a shard m follows below within)
+
+module _ (journal : List Commit) (a : AppliedParts) (m : ℕ) (ancestor : KeyParts) (follows : Follows journal a) (within : m ≤ a.commits)
+    (below : shard_of (root_of ancestor) a.shards < a.shards) (some : 1 ≤ length ancestor.elems) where
+  -- A query with an ancestor has over the entities of its group's shard the results that it has over the strong view.
+  pub strong_result : (n : Normal) (w : Window) → HaveAncestor ancestor n.branches
+      → result n w (shard_view a.lists (shard_of (root_of ancestor) a.shards)
+      (entries_by journal a.shards (shard_of (root_of ancestor) a.shards) m))
+      ≡ result n w (strong_view journal m)
+  strong_result n w has =
+      let shard : ℕ = shard_of (root_of ancestor) a.shards in
+      ancestor_result journal (list_of a.lists shard) (entries_by journal a.shards shard m) m a.shards ancestor
+      (list_up_to journal a shard m follows below within) some n w has
+
+  -- And the same is told of its rows.
+  pub strong_items : (n : Normal) (w : Window) (columns : List Column) (selected : Select) → HaveAncestor ancestor n.branches
+      → items_of columns selected (shard_view a.lists (shard_of (root_of ancestor) a.shards)
+      (entries_by journal a.shards (shard_of (root_of ancestor) a.shards) m)) (result n w (strong_view journal m)).rows
+      ≡ items_of columns selected (strong_view journal m) (result n w (strong_view journal m)).rows
+  strong_items n w columns selected has =
+      let shard : ℕ = shard_of (root_of ancestor) a.shards in
+      ancestor_items journal (list_of a.lists shard) (entries_by journal a.shards shard m) m a.shards ancestor
+      (list_up_to journal a shard m follows below within) some n w columns selected has

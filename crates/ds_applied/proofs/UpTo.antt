@@ -12,8 +12,8 @@ use Rattle.ds_log.specs.declared.Entry.{Entry}
 use Rattle.ds_log.specs.declared.Write.{Write}
 use Rattle.ds_log.specs.Logs.{groups_of, group_writes, commit_entries, entries_from, shard_list}
 use Rattle.ds_log.specs.Shards.{shard_of}
-use Rattle.ds_applied.proofs.AllOf.{all-append, all-filter}
-use Rattle.ds_applied.proofs.FollowLaws.{shard_list-append, later_entries, taken}
+use Rattle.ds_model.proofs.AllOf.{all-append, all-filter}
+use Rattle.ds_log.specs.ShardLaws.{shard_list-append, later_entries, taken}
 
 -- ---- a list of which a first part passes a test and the rest fails it
 

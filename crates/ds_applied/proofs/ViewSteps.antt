@@ -5,7 +5,7 @@ use Rattle.std.proofs.lemmas.List.{take_more, take_all, length-map}
 use Rattle.ds_base.specs.Entities.{EntityParts}
 use Rattle.ds_log.specs.declared.Entry.{Entry}
 use Rattle.ds_model.specs.Sessions.{list_of}
-use Rattle.ds_applied.specs.AppliedLists.{AppliedParts, ShardParts, entries_of, applied_of, AreCounts, left_by, shard_views}
+use Rattle.ds_applied.specs.AppliedLists.{AppliedParts, AppliedShard, entries_of, applied_of, AreCounts, left_by, shard_views}
 use Rattle.ds_applied.specs.ByKey.{joined}
 use Rattle.ds_applied.proofs.CountSteps.{list_index, view_of}
 
@@ -72,16 +72,16 @@ AreCounts-push (k ∷ lists) (d ∷ counts) l c are low = (are.0, AreCounts-push
 AreCounts-push [] (d ∷ counts) l c are low = absurd are
 AreCounts-push (k ∷ lists) [] l c are low = absurd are
 
-entries-push : (ss : List ShardParts) (s : ShardParts) → entries_of (ss ++ s ∷ []) ≡ entries_of ss ++ s.entries ∷ []
+entries-push : (ss : List AppliedShard) (s : AppliedShard) → entries_of (ss ++ s ∷ []) ≡ entries_of ss ++ s.entries ∷ []
 entries-push [] s = refl
 entries-push (t ∷ ss) s = ap (λ ls. t.entries ∷ ls) (entries-push ss s)
 
-applied-push : (ss : List ShardParts) (s : ShardParts) → applied_of (ss ++ s ∷ []) ≡ applied_of ss ++ s.applied ∷ []
+applied-push : (ss : List AppliedShard) (s : AppliedShard) → applied_of (ss ++ s ∷ []) ≡ applied_of ss ++ s.applied ∷ []
 applied-push [] s = refl
 applied-push (t ∷ ss) s = ap (λ ns. t.applied ∷ ns) (applied-push ss s)
 
 -- one shard's count more
-pub counts_more : (ss : List ShardParts) (i : ℕ) (s : ShardParts) (counts : List ℕ) (c : ℕ) → i < length ss → s ≡ get_or ss i s
+pub counts_more : (ss : List AppliedShard) (i : ℕ) (s : AppliedShard) (counts : List ℕ) (c : ℕ) → i < length ss → s ≡ get_or ss i s
     → c ≡ s.applied
     → s.applied ≤ length s.entries → counts ≡ applied_of (take i ss) → AreCounts (entries_of (take i ss)) counts
     → (counts ++ c ∷ [] ≡ applied_of (take (i + 1) ss)) × AreCounts (entries_of (take (i + 1) ss)) (counts ++ c ∷ [])
@@ -96,17 +96,17 @@ counts_more ss i s counts c below is count within so_far are =
 
 -- ---- one shard among all
 
-module _ (ss : List ShardParts) (commits : ℕ) (a : AppliedParts) (view : view_of ss commits ≡ a) where
-  pub list_here : (i : ℕ) (s : ShardParts) → i < length ss → s ≡ get_or ss i s → s.entries ≡ list_of a.lists i
+module _ (ss : List AppliedShard) (commits : ℕ) (a : AppliedParts) (view : view_of ss commits ≡ a) where
+  pub list_here : (i : ℕ) (s : AppliedShard) → i < length ss → s ≡ get_or ss i s → s.entries ≡ list_of a.lists i
   list_here i s below is = list_index ss i s below is ∙ ap (λ (p : AppliedParts). list_of p.lists i) view
 
   pub counted_here : (counts : List ℕ) (i : ℕ) → AreCounts a.lists counts → i < length counts → i < length ss
   counted_here counts i are below =
       let listed : length (entries_of ss) ≡ length counts = ap (λ (p : AppliedParts). length p.lists) view
       ∙ AreCounts-length a.lists counts are in
-      omega (arith, below, listed, length-map ss (λ (s : ShardParts). s.entries))
+      omega (arith, below, listed, length-map ss (λ (s : AppliedShard). s.entries))
 
-  pub count_within : (counts : List ℕ) (i : ℕ) (s : ShardParts) → AreCounts a.lists counts → i < length counts → s ≡ get_or ss i s
+  pub count_within : (counts : List ℕ) (i : ℕ) (s : AppliedShard) → AreCounts a.lists counts → i < length counts → s ≡ get_or ss i s
       → get_or counts i 0 ≤ length s.entries
   count_within counts i s are below is =
       subst (λ es. get_or counts i 0 ≤ length es) (sym (list_here i s (counted_here counts i are below) is))

@@ -7,9 +7,10 @@ use Rattle.ds_log.specs.declared.Entry.{Entry}
 use Rattle.ds_log.specs.declared.Write.{Write}
 use Rattle.ds_log.specs.After.{after}
 use Rattle.ds_log.specs.Logs.{entry_writes, shard_list}
-use Rattle.ds_model.specs.Sessions.{list_of, raised_at}
+pub use Rattle.ds_model.specs.ByKey.{left_by, shard_view, shard_views}
+use Rattle.ds_model.specs.Sessions.{raised_at}
 use Rattle.ds_model.specs.Worlds.{shard_lists}
-use Rattle.ds_applied.specs.ByKey.{sorted_by_key}
+use Rattle.ds_model.specs.ByKey.{sorted_by_key}
 
 pub record AppliedParts : Type 0 where
   -- the number of shards
@@ -30,20 +31,6 @@ pub record Follows (journal : List Commit) (a : AppliedParts) : Type 0 where
 abbrev pub entries_by : List Commit → ℕ → ℕ → ℕ → ℕ
 entries_by journal shards shard m = length (shard_list (take m journal) shard shards)
 
--- the entities that the first entries of a list leave, by key
-abbrev pub left_by : List Entry → ℕ → List EntityParts
-left_by entries count = sorted_by_key (after (entry_writes (take count entries)))
-
--- the entities of one shard, at a count of its entries, by key
-abbrev pub shard_view : List (List Entry) → ℕ → ℕ → List EntityParts
-shard_view lists shard count = left_by (list_of lists shard) count
-
--- the entities of all shards at a count per shard: those of one shard by key, behind those of the shards before it
-abbrev pub shard_views : List (List Entry) → List ℕ → List EntityParts
-shard_views [] counts = []
-shard_views (entries ∷ lists) [] = []
-shard_views (entries ∷ lists) (count ∷ counts) = left_by entries count ++ shard_views lists counts
-
 -- one count per list, none above the list's length
 abbrev pub AreCounts : List (List Entry) → List ℕ → Type 0
 AreCounts [] [] = ⊤
@@ -58,16 +45,16 @@ Raised shard count a b = (k : ℕ) × ((k ≤ count) × (b ≡ record a { counts
 
 -- what a shard keeps: its entries, how many of them are applied, and how many writes of the next entry, which is begun where an
 -- application ended for want of memory; `spare` entries can be put behind its own without memory
-pub record ShardParts : Type 0 where
+pub record AppliedShard : Type 0 where
   pub entries : List Entry
   pub applied : ℕ
   pub begun : ℕ
   pub spare : ℕ
 
-abbrev pub entries_of : List ShardParts → List (List Entry)
+abbrev pub entries_of : List AppliedShard → List (List Entry)
 entries_of = map (λ s. s.entries)
 
-abbrev pub applied_of : List ShardParts → List ℕ
+abbrev pub applied_of : List AppliedShard → List ℕ
 applied_of = map (λ s. s.applied)
 
 -- the writes of the entry at a place, counted from 0; none behind the last

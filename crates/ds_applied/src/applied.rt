@@ -7,11 +7,11 @@ ghost use Rattle.ds_model.specs.Sessions.{count_of, counted_place, list_of, last
 ghost use Rattle.ds_applied.specs.AppliedLists.{AppliedParts, Follows, AreCounts, Raised, entries_by, shard_view, shard_views};
 ghost use Rattle.ds_applied.specs.Routing.{added};
 
-use crate::routing::{make_room, put_all, route};
+use crate::routing::{make_room, put_all};
 use crate::shard::Shard;
 use crate::visible::{AllVisible, Visible};
 use ds_base::{Counts, NoMemory};
-use ds_log::Commit;
+use ds_log::{Commit, route};
 use std::alloc::Global;
 use std::marker::Model;
 

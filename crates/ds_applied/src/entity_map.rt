@@ -8,7 +8,7 @@ ghost use Rattle.ds_base.specs.KeyOrder.{key_cmp};
 ghost use Rattle.ds_log.specs.After.{after, apply_write};
 ghost use Rattle.ds_log.specs.Logs.{entry_writes};
 ghost use Rattle.ds_model.specs.Results.{entity_of};
-ghost use Rattle.ds_applied.specs.ByKey.{sorted_by_key};
+ghost use Rattle.ds_base.specs.EntityOrder.{sorted_by_key};
 
 use ds_base::{Entity, Key, NoMemory, TryCopy};
 use ds_log::{Entry, Write};

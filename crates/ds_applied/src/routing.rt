@@ -1,47 +1,12 @@
 //! The entries of one commit, each put behind those of its shard.
-ghost use Rattle.std.specs.Prelude.{◌≡◌, ◌+◌, ◌≤◌, ◌<◌, length, map, All, IfOk, OnOk};
-ghost use Rattle.ds_base.specs.Limits.{most_shards};
-ghost use Rattle.ds_log.specs.Logs.{commit_entries};
-ghost use Rattle.ds_applied.specs.AppliedLists.{ShardParts, entries_of, applied_of};
-ghost use Rattle.ds_applied.specs.Routing.{IsRouted, HasRoom, added, entry_of};
+ghost use Rattle.std.specs.Prelude.{◌≡◌, length, map, All, OnOk};
+ghost use Rattle.ds_log.specs.Routing.{IsRouted, entry_of};
+ghost use Rattle.ds_applied.specs.AppliedLists.{AppliedShard, entries_of, applied_of};
+ghost use Rattle.ds_applied.specs.Routing.{HasRoom, added};
 
 use crate::shard::Shard;
 use ds_base::NoMemory;
-use ds_log::{Commit, Entry, group_writes, groups_of, shard_of};
-use std::alloc::Global;
-
-/// An entry, and the shard of its group, counted from 0.
-#[derive(Drop)]
-pub(crate) struct Routed {
-    pub(crate) shard: u32,
-    pub(crate) entry: Entry,
-}
-
-/// The entries of commit `number`, one per group that it writes, each with its shard out of `shards`.
-pub(crate) fn route(
-    alloc: Global,
-    number: u64,
-    commit: &Commit,
-    shards: u32,
-) -> Result<Vec<Routed>, NoMemory>
-    requires least { 1 ≤ shards }
-    requires most { shards ≤ most_shards }
-    ensures entries { IfOk result (λ routed. map entry_of routed.items ≡ commit_entries number commit.now) }
-    ensures shards { IfOk result (λ routed. All (IsRouted shards) routed.items) }
-{
-    let mut routed = Vec::new(alloc);
-    for group in groups_of(alloc, &commit.writes)? {
-        let shard = shard_of(alloc, &group, shards)?;
-        let writes = group_writes(alloc, &group, &commit.writes)?;
-        let entry = Entry {
-            commit: number,
-            group,
-            writes,
-        };
-        routed.push(Routed { shard, entry })?;
-    }
-    Ok(routed)
-}
+use ds_log::Routed;
 
 /// Makes room for so many entries in each shard. A refusal changes nothing else.
 pub(crate) fn make_room(shards: &mut Vec<Shard>, entries: usize) -> Result<(), NoMemory>

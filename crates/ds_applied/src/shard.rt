@@ -3,7 +3,7 @@ ghost use Rattle.std.specs.Prelude.{◌≡◌, ◌+◌, ◌≤◌, ◌<◌, ◌�
 ghost use Rattle.ds_log.specs.declared.Commit.{Commit};
 ghost use Rattle.ds_log.specs.Logs.{shard_list};
 ghost use Rattle.ds_model.specs.Sessions.{last_commit};
-ghost use Rattle.ds_applied.specs.AppliedLists.{ShardParts, writes_at, left_by};
+ghost use Rattle.ds_applied.specs.AppliedLists.{AppliedShard, writes_at, left_by};
 
 use crate::entity_map::EntityMap;
 use crate::visible::Visible;
@@ -24,9 +24,9 @@ pub(crate) struct Shard {
 impl Model for Shard {
     ghost use Rattle.std.specs.Prelude.{◌-◌};
     ghost use Rattle.std.specs.Vec.{vec_len, vec_capacity};
-    ghost use Rattle.ds_applied.specs.AppliedLists.{ShardParts, IsShard};
+    ghost use Rattle.ds_applied.specs.AppliedLists.{AppliedShard, IsShard};
 
-    ghost Value = { ShardParts };
+    ghost Value = { AppliedShard };
 
     ghost view = { λ s. record {
       entries = s.entries.items;

@@ -4,7 +4,8 @@ ghost use Rattle.std.specs.Option.{option_copied};
 ghost use Rattle.ds_base.specs.Entities.{EntityParts};
 ghost use Rattle.ds_log.specs.declared.Entry.{Entry};
 ghost use Rattle.ds_model.specs.Results.{entity_of};
-ghost use Rattle.ds_applied.specs.ByKey.{joined, sorted_by_key, KeysDiffer};
+ghost use Rattle.ds_applied.specs.ByKey.{joined, KeysDiffer};
+ghost use Rattle.ds_base.specs.EntityOrder.{sorted_by_key};
 ghost use Rattle.ds_applied.specs.AppliedLists.{left_by};
 
 use crate::entity_map::EntityMap;

@@ -12,8 +12,9 @@ ghost use Rattle.ds_log.specs.Ids.{AreIssued, unissued_id};
 ghost use Rattle.ds_journal.specs.Books.{BookParts, IsBook, IsCommitAnswer};
 
 use crate::draft::Draft;
+use crate::ids::{check_id, check_left};
 use crate::refusals::{CommitCause, CommitRefused, IdNotIssued, IdsExhausted};
-use ds_base::limits::{FIRST_DRAWN_ID, MAX_COMMITS, MAX_ID};
+use ds_base::limits::{FIRST_DRAWN_ID, MAX_COMMITS};
 use ds_base::{Key, NoMemory};
 use ds_log::{Commit, Conflict, Heads, Journal, Touch};
 use std::alloc::{AllocError, Global};
@@ -143,8 +144,9 @@ impl Book {
         Ok(self.append(draft))
     }
 
-    /// Appends a draft that has no conflict, and for which there is room.
-    fn append(&mut self, draft: Draft) -> u64
+    /// Appends a draft that has no conflict by `check`, and for which `make_room` made room, as commit |J| + 1 of a journal J, and gives
+    /// that number. It takes no memory, and time by the written groups alone.
+    pub fn append(&mut self, draft: Draft) -> u64
         requires touched_before { All (λ t. t.place ≤ length self.old.journal) draft.touched }
         requires issued { AreIssued self.old.next draft.writes }
         requires serial { conflict_of self.old.journal draft.touched ≡ None }
@@ -171,9 +173,7 @@ impl Book {
         ensures told { IfErr result (λ refused. refused.next ≡ self.old.next) }
         ensures err { OnErr result (self.new ≡ self.old) }
     {
-        if count > MAX_ID - self.next {
-            return Err(IdsExhausted { next: self.next });
-        }
+        check_left(self.next, count)?;
         let first = self.next;
         self.next += count;
         Ok(first)
@@ -184,14 +184,7 @@ impl Book {
     pub fn check_id(&self, id: u64) -> Result<(), IdNotIssued>
         ensures { result_err result ≡ option_map (λ i. record { id = i; next = self.now.next }) (unissued_id self.now.next id) }
     {
-        if FIRST_DRAWN_ID <= id && self.next <= id {
-            Err(IdNotIssued {
-                id,
-                next: self.next,
-            })
-        } else {
-            Ok(())
-        }
+        check_id(self.next, id)
     }
 
     /// Raises the id counter to `next`, at most 2^63 - 1. It takes no memory.

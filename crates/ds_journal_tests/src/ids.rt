@@ -4,6 +4,7 @@ ghost use Rattle.ds_base.specs.Keys.{ends_in_id};
 ghost use Rattle.ds_journal.specs.Drafts.{is_one_put};
 
 use ds_base::{Elem, Elems, Entity, Ident, Key, NoMemory, Properties, TextString};
+use ds_journal::ids::{check_left, check_path};
 use ds_journal::{Book, Draft, IdNotIssued, IdsExhausted};
 use ds_log::{Touches, Write, Writes};
 use std::alloc::Global;
@@ -44,6 +45,14 @@ fn draws_ids_in_turn(alloc: Global) -> bool {
     before && small && drawn && after && exhausted && more && book.next() == FIRST + 11
 }
 
+/// The same by the counter alone, as a step tells it.
+fn tells_by_the_counter(alloc: Global) -> Result<bool, NoMemory> {
+    let path = numbered_path(alloc)?;
+    let left = check_left(FIRST, 9_223_372_036_854_775_807 - FIRST).is_ok();
+    let none = check_left(9_223_372_036_854_775_807, 1).is_err();
+    Ok(left && none && check_path(0, path.as_slice()).is_ok())
+}
+
 /// The counter ends at 2^63 - 1, which is never drawn.
 fn draws_to_the_end(alloc: Global) -> bool {
     let mut book = Book::make(alloc);
@@ -57,6 +66,7 @@ fn ids_are_drawn_in_turn(rt: HostRuntime) -> Result<(), Fail> {
     let alloc = rt.alloc();
     assert!(rt; draws_ids_in_turn(alloc));
     assert!(rt; draws_to_the_end(alloc));
+    assert!(rt; tells_by_the_counter(alloc)?);
     Ok(())
 }
 

@@ -1,6 +1,7 @@
 //! A journal as shards take it.
 use crate::made::{deletes, is_named, touches};
-use ds_log::{Commit, Entry, Journal, project};
+use ds_base::NoMemory;
+use ds_log::{Commit, Entry, Journal, ShardCommits, project, shard_entries};
 use std::alloc::Global;
 use std::test::Fail;
 
@@ -47,5 +48,32 @@ fn two_shards_share_a_journal(rt: HostRuntime) -> Result<(), Fail> {
     assert!(rt; are_entries(even.as_slice(), &[(1, "b", 1), (2, "b", 1)]));
     let odd = project(alloc, &journal, 1, 2)?;
     assert!(rt; are_entries(odd.as_slice(), &[(1, "a", 1), (3, "a", 1), (3, "c", 2)]));
+    Ok(())
+}
+
+/// The entries of one commit for a shard are those with which its list goes on.
+#[test]
+fn a_commit_gives_a_shard_its_entries(rt: HostRuntime) -> Result<(), Fail> {
+    let alloc = rt.alloc();
+    let last = commit(alloc, &["c", "a", "c"])?;
+    let odd = shard_entries(alloc, 3, &last, 1, 2)?;
+    assert!(rt; are_entries(odd.as_slice(), &[(3, "a", 1), (3, "c", 2)]));
+    Ok(())
+}
+
+/// Of the entries of commits 1, 3 and 3 one is of the first two commits.
+fn counts_entries(alloc: Global) -> Result<bool, NoMemory> {
+    let mut commits = ShardCommits::new(alloc);
+    commits.make_room(3)?;
+    commits.push(1);
+    commits.push(3);
+    commits.push(3);
+    let counted = commits.up_to(0) == 0 && commits.up_to(2) == 1 && commits.up_to(3) == 3;
+    Ok(counted && commits.commit_of(0) == 0 && commits.commit_of(2) == 3)
+}
+
+#[test]
+fn entries_are_counted_by_their_commits(rt: HostRuntime) -> Result<(), Fail> {
+    assert!(rt; counts_entries(rt.alloc())?);
     Ok(())
 }

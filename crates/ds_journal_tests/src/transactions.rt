@@ -105,8 +105,7 @@ fn takes_500_writes(alloc: Global) -> Result<bool, Fail> {
         }
     }
     let refused = is_too_many_writes(txn.delete(key(alloc, "a")?));
-    let parts = txn.parts(alloc)?;
-    Ok(refused && txn.writes() == 500 && parts.writes.len() == 500)
+    Ok(refused && txn.may_write().is_err() && txn.writes() == 500)
 }
 
 #[test]

@@ -7,5 +7,10 @@ pub mod Heads
 pub mod Ids
 pub mod JournalLaws
 pub mod Logs
+pub mod Routing
+pub mod ShardCommits
+pub mod ShardLaws
 pub mod Shards
 pub mod Touches
+pub mod UpTo
+pub mod UpToLaws

@@ -30,6 +30,10 @@ group_writes g ws = filter (λ w. same_key (group_of w) g) ws
 abbrev pub commit_entries : ℕ → Commit → List Entry
 commit_entries n c = map (λ g. record { commit = n; group = g; writes = group_writes g c.writes }) (groups_of c.writes)
 
+-- the entries that commit n gives one shard out of so many
+abbrev pub shard_entries : ℕ → Commit → ℕ → ℕ → List Entry
+shard_entries n c shard shards = filter (λ e. shard_of e.group shards == shard) (commit_entries n c)
+
 -- the entries of commits numbered from n
 abbrev pub entries_from : ℕ → List Commit → List Entry
 entries_from n [] = []

@@ -3,17 +3,19 @@
 //! A journal is a list of commits, numbered from 1. Each commit gives one log entry per entity group that it writes, to the
 //! shard of that group. The definitions stand in `specs/`: `Logs` (groups, shard lists), `Shards` (which shard a group
 //! belongs to), `After` (what a list of writes leaves), `Touches` (the groups that a transaction touched), `Conflicts` (when
-//! a commit conflicts, and what a serial journal is), `Ids` (which ids a written key may have) and `Heads` (the last commit
-//! of each group). What is proved of them stands apart, in the files whose names end in `Laws` or `Steps`.
+//! a commit conflicts, and what a serial journal is), `Ids` (which ids a written key may have), `Heads` (the last commit of
+//! each group), `Routing` (entries with their shards) and `UpTo` (which entries are of the first commits). What is proved of them
+//! stands apart, in the files whose names end in `Laws` or `Steps`.
 //!
-//! `hash` computes the hash that tells shards apart, `shard` the shard of a group, `projection` a shard's list, and `heads`
-//! keeps what a conflict is seen by.
+//! `hash` computes the hash that tells shards apart, `shard` the shard of a group, `projection` the entries that a commit gives the
+//! shards, `shard_commits` counts those of the first commits, and `heads` keeps what a conflict is seen by.
 #![tactic(auto)]
 
 pub mod hash;
 pub mod heads;
 pub mod projection;
 pub mod shard;
+pub mod shard_commits;
 
 ghost use Rattle.std.specs.Prelude.{◌≡◌};
 ghost use Rattle.ds_log.specs.Logs.{key_of};
@@ -21,8 +23,9 @@ ghost use Rattle.ds_log.specs.Logs.{key_of};
 use ds_base::{Entity, Key, NoMemory, Sequence, TryCopy};
 pub use hash::fnv1a;
 pub use heads::Heads;
-pub use projection::{group_writes, groups_of, project};
+pub use projection::{Routed, group_writes, groups_of, project, route, shard_entries};
 pub use shard::shard_of;
+pub use shard_commits::ShardCommits;
 use std::alloc::Global;
 
 /// A write of one entity.

@@ -1,10 +1,11 @@
 //! The log entries that commits give, and a shard's list of them.
-ghost use Rattle.std.specs.Prelude.{◌≡◌, ◌≤◌, ◌==◌, ◌++◌, ◌+◌, ◌↔◌, filter, take, IsTrue, IfOk, OnOk};
+ghost use Rattle.std.specs.Prelude.{◌≡◌, ◌≤◌, ◌++◌, ◌∷◌, ◌+◌, ◌↔◌, [], List, All, length, map, take, IsTrue, IfOk, OnOk};
 ghost use Rattle.ds_base.specs.Keys.{root_of};
 ghost use Rattle.ds_base.specs.KeyOrder.{same_key};
 ghost use Rattle.ds_base.specs.Limits.{most_shards};
-ghost use Rattle.ds_log.specs.Logs.{groups_of, group_writes, commit_entries, shard_list};
-ghost use Rattle.ds_log.specs.Shards.{shard_of};
+ghost use Rattle.ds_log.specs.declared.Commit.{Commit};
+ghost use Rattle.ds_log.specs.Logs.{groups_of, group_writes, commit_entries, shard_entries, shard_list};
+ghost use Rattle.ds_log.specs.Routing.{IsRouted, entry_of};
 
 use crate::shard::shard_of;
 use crate::{Commit, Entries, Entry, Journal, Write, Writes};
@@ -32,6 +33,27 @@ pub fn project(
     Ok(Entries::from(entries))
 }
 
+/// The entries that commit `number` gives a shard, counted from 0, out of `shards`, which are from 1 to 16: one for each group of that
+/// shard that it writes, by root key. Appending the commit to a journal appends just these to the shard's list. A refusal is want of
+/// memory.
+pub fn shard_entries(
+    alloc: Global,
+    number: u64,
+    commit: &Commit,
+    shard: u32,
+    shards: u32,
+) -> Result<Entries, NoMemory>
+    requires least { 1 ≤ shards }
+    requires most { shards ≤ most_shards }
+    ensures value { IfOk result (λ entries. entries ≡ shard_entries number commit.now shard shards) }
+    ensures appended { (journal : List Commit) → number ≡ length journal + 1 → IfOk result (λ entries.
+        shard_list (journal ++ commit.now ∷ []) shard shards ≡ shard_list journal shard shards ++ entries) }
+{
+    let mut entries = Vec::new(alloc);
+    push_entries(alloc, number, commit, shard, shards, &mut entries)?;
+    Ok(Entries::from(entries))
+}
+
 /// Puts the entries of commit `number` for a shard at the end.
 fn push_entries(
     alloc: Global,
@@ -43,20 +65,57 @@ fn push_entries(
 ) -> Result<(), NoMemory>
     requires least { 1 ≤ shards }
     requires most { shards ≤ most_shards }
-    ensures { OnOk result (entries.new.items ≡ entries.old.items ++ filter (λ e. shard_of e.group shards == shard)
-        (commit_entries number commit.now)) }
+    ensures { OnOk result (entries.new.items ≡ entries.old.items ++ shard_entries number commit.now shard shards) }
 {
     for group in groups_of(alloc, &commit.writes)? {
         if shard_of(alloc, &group, shards)? == shard {
-            let writes = group_writes(alloc, &group, &commit.writes)?;
-            entries.push(Entry {
-                commit: number,
-                group,
-                writes,
-            })?;
+            entries.push(entry_for(alloc, number, group, &commit.writes)?)?;
         }
     }
     Ok(())
+}
+
+/// An entry, and the shard of its group, counted from 0.
+#[derive(Drop)]
+pub struct Routed {
+    /// The shard of the entry's group.
+    pub shard: u32,
+    /// The entry.
+    pub entry: Entry,
+}
+
+/// The entries that commit `number` gives all shards, one for each group that it writes, by root key, each with its shard out of
+/// `shards`, which are from 1 to 16. A refusal is want of memory.
+pub fn route(
+    alloc: Global,
+    number: u64,
+    commit: &Commit,
+    shards: u32,
+) -> Result<Vec<Routed>, NoMemory>
+    requires least { 1 ≤ shards }
+    requires most { shards ≤ most_shards }
+    ensures entries { IfOk result (λ routed. map entry_of routed.items ≡ commit_entries number commit.now) }
+    ensures shards { IfOk result (λ routed. All (IsRouted shards) routed.items) }
+{
+    let mut routed = Vec::new(alloc);
+    for group in groups_of(alloc, &commit.writes)? {
+        let shard = shard_of(alloc, &group, shards)?;
+        let entry = entry_for(alloc, number, group, &commit.writes)?;
+        routed.push(Routed { shard, entry })?;
+    }
+    Ok(routed)
+}
+
+/// What writes of commit `number` write to one group.
+fn entry_for(alloc: Global, number: u64, group: Key, writes: &Writes) -> Result<Entry, NoMemory>
+    ensures { IfOk result (λ e. e ≡ record { commit = number; group = group; writes = group_writes group writes.now }) }
+{
+    let writes = group_writes(alloc, &group, writes)?;
+    Ok(Entry {
+        commit: number,
+        group,
+        writes,
+    })
 }
 
 /// The groups that are written, each once, by root key.

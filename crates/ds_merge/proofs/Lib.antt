@@ -1,4 +1,5 @@
-pub mod FirstLaws
-pub mod MarkLaws
-pub mod PageLaws
-pub mod PlaceOrder
+pub mod MergedOrder
+pub mod PartFirsts
+pub mod ShardResults
+pub mod UnitedFirsts
+pub mod UnitedResults

@@ -1,4 +1,1 @@
-pub mod FirstRows
-pub mod Marks
 pub mod Merging
-pub mod Slots

@@ -1,18 +1,15 @@
-//! Rows of several lists united: the first row of each result, and of these what a window gives.
+//! Rows of several lists united: the page of them that a window gives.
 //!
-//! It stands on `ds_query` (rows and windows) and on the definitions of `ds_model`. Begin with `merging`, whose calls give a page of
-//! rows; `marks` tells what makes two rows one result, and `pages` skips and takes. The definitions stand in `specs/`: `Merging` (rows with
-//! their places, and a page of them) and `Marks`.
+//! It stands on `ds_pages` (rows with their places, and pages of them) and on the definitions of `ds_model`. Begin with `merging`, which
+//! unites lists; `extending` puts the rows of a branch into the merged columns before.
+//!
+//! Two laws of `proofs/` say that shards can be answered one by one: `ShardResults` (of a query of one branch the page is told by the first
+//! results of each shard, as many as are skipped and taken) and `UnitedResults` (of a query of several branches by the results of each
+//! branch over each shard, put into the merged columns).
 #![tactic(auto)]
 
-mod first_rows;
-mod firsts;
-mod mark_order;
-mod marks;
-pub mod merged;
+pub mod extending;
 pub mod merging;
-mod pages;
 
-pub use first_rows::FirstRows;
-pub use merged::Merged;
-pub use merging::{first_of_rows, merge};
+pub use extending::extended;
+pub use merging::{Merged, merge};

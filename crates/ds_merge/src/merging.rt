@@ -1,16 +1,15 @@
-//! Pages of rows.
-ghost use Rattle.std.specs.Prelude.{◌≡◌, ◌++◌, All, map, IfOk, OnOk};
-ghost use Rattle.std.specs.List.Sorted.{IsSorted, IsPermutation};
-ghost use Rattle.ds_query.specs.declared.row.Row.{Row};
-ghost use Rattle.ds_merge.specs.Merging.{IsPlaced, all_rows, merged_page, parts_of, place_cmp};
+//! The page of the rows of several lists.
+ghost use Rattle.std.specs.Prelude.{◌≡◌, All, map, IfOk};
+ghost use Rattle.ds_pages.specs.Pages.{all_rows, page_of_rows};
+ghost use Rattle.ds_pages.specs.Places.{IsPlaced, parts_of};
 
-use crate::firsts::firsts;
-use crate::marks::slots;
-use crate::merged::Merged;
-use crate::pages::page;
 use ds_base::{Columns, Names, NoMemory};
-use ds_query::{Row, RowLists, Window};
+use ds_pages::{RowPage, joined, page_of_rows};
+use ds_query::{RowLists, Window};
 use std::alloc::Global;
+
+/// A page of the results of several lists.
+pub type Merged = RowPage;
 
 /// The page of the rows of several lists: united in order, the first row of each result, skipped and taken by the window.
 ///
@@ -25,56 +24,8 @@ pub fn merge(
     window: &Window,
 ) -> Result<Merged, NoMemory>
     requires placed { All (IsPlaced merged.now) (all_rows lists) }
-    ensures { IfOk result (λ m. m ≡ merged_page merged.now projected.now window.now (map parts_of (all_rows lists))) }
+    ensures { IfOk result (λ page. page ≡ page_of_rows merged.now projected.now window.now (map parts_of (all_rows lists))) }
 {
     let rows = joined(alloc, lists)?;
-    first_of_rows(alloc, rows, merged, projected, window)
-}
-
-/// The rows of all lists, one list after another.
-fn joined(alloc: Global, lists: RowLists) -> Result<Vec<Row>, NoMemory>
-    ensures { IfOk result (λ rows. rows.items ≡ all_rows lists) }
-{
-    let mut rows = Vec::new(alloc);
-    for list in lists.into_vec() {
-        put_rows(list.into_vec(), &mut rows)?;
-    }
-    Ok(rows)
-}
-
-fn put_rows(list: Vec<Row>, rows: &mut Vec<Row>) -> Result<(), NoMemory>
-    ensures { OnOk result (rows.new.items ≡ rows.old.items ++ list.items) }
-{
-    for row in list {
-        rows.push(row)?;
-    }
-    Ok(())
-}
-
-/// The page of rows in any order: in the order of their places the first row of each result, skipped and taken by the window. n rows
-/// take the time n log n, and rows in order n. A refusal is want of memory.
-pub fn first_of_rows(
-    alloc: Global,
-    rows: Vec<Row>,
-    merged: &Columns,
-    projected: &Names,
-    window: &Window,
-) -> Result<Merged, NoMemory>
-    requires placed { All (IsPlaced merged.now) rows.items }
-    ensures { IfOk result (λ m. m ≡ merged_page merged.now projected.now window.now (map parts_of rows.items)) }
-{
-    let slots = slots(alloc, merged.as_slice(), projected.as_slice())?;
-    let sorted = sorted(rows)?;
-    let firsts = firsts(alloc, sorted, slots.as_slice())?;
-    page(alloc, firsts, window)
-}
-
-/// The rows in the order of their places. Ascending runs are kept and merged.
-fn sorted(rows: Vec<Row>) -> Result<Vec<Row>, NoMemory>
-    ensures sorted { IfOk result (λ r. IsSorted place_cmp r.items) }
-    ensures permutation { IfOk result (λ r. IsPermutation rows.items r.items) }
-{
-    let mut rows = rows;
-    rows.sort_by(|a, b| a.place.bytes.cmp(&b.place.bytes))?;
-    Ok(rows)
+    page_of_rows(alloc, rows, merged, projected, window)
 }

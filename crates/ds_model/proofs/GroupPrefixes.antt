@@ -21,7 +21,8 @@ use Rattle.ds_log.specs.declared.Write.{Write}
 use Rattle.ds_log.specs.After.{after}
 use Rattle.ds_log.specs.Conflicts.{writes_group}
 use Rattle.ds_log.specs.GroupLaws.{any-groups_of}
-use Rattle.ds_log.specs.Logs.{group_of, groups_of, group_writes, group_log, writes_of, entry_writes, commit_entries, entries_from, shard_list}
+use Rattle.ds_log.specs.Logs.{group_of, groups_of, group_writes, group_log, writes_of, entry_writes, commit_entries, entries_from}
+use Rattle.ds_log.specs.Logs.{shard_list}
 use Rattle.ds_log.specs.Shards.{shard_of}
 use Rattle.ds_model.specs.Views.{counted, global_view}
 use Rattle.ds_model.specs.Worlds.{shard_lists}

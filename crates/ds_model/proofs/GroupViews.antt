@@ -1,6 +1,7 @@
 -- What is seen of one entity group: what its own log leaves. A committed transaction read each of its groups as the group stood just
 -- before its commit.
-use Rattle.std.proofs.Common.{◌≡◌, ℕ, zero, suc, ◌+◌, ◌<◌, ◌≤◌, List, [], ◌∷◌, ◌++◌, length, take, drop, refl, ap, sym, ◌∙◌, subst, Bool, true, false}
+use Rattle.std.proofs.Common.{◌≡◌, ℕ, zero, suc, ◌+◌, ◌<◌, ◌≤◌, List, [], ◌∷◌, ◌++◌, length, take, drop, refl, ap, sym, ◌∙◌, subst, Bool}
+use Rattle.std.proofs.Common.{true, false}
 use Rattle.std.proofs.Common.{arith, Option, Some, None, cond, not}
 use Rattle.std.specs.Prelude.{filter, fold, slice_get, All, ◌||◌}
 use Rattle.std.specs.Option.{option_or, option_map}

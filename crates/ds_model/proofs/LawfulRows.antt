@@ -10,7 +10,8 @@ use Rattle.ds_bytes.specs.Rows.{IsRow}
 use Rattle.ds_cursor.specs.RowsOfColumns.{directions}
 use Rattle.ds_query.specs.declared.branch.Branch.{Branch}
 use Rattle.ds_rows.specs.IndexedValues.{indexed_values, each_way}
-use Rattle.ds_model.specs.Rows.{rows, entity_rows, value_columns, is_found, is_within, first_value}
+use Rattle.ds_model.specs.Rows.{rows, entity_rows, is_found, is_within, first_value}
+use Rattle.ds_query.specs.RowValues.{value_columns}
 
 -- the entity's key and its indexed values are written in bytes, as every reader makes them
 pub record IsEntityOfBytes (e : EntityParts) : Type 0 where

@@ -1,5 +1,6 @@
 -- An answer over a journal and its shards' lists is one over every journal and lists that begin with these.
-use Rattle.std.proofs.Common.{◌≡◌, ℕ, zero, suc, ◌+◌, ◌-◌, ◌<◌, ◌≤◌, List, [], ◌∷◌, ◌++◌, length, take, refl, ap, sym, ◌∙◌, subst, Bool, arith}
+use Rattle.std.proofs.Common.{◌≡◌, ℕ, zero, suc, ◌+◌, ◌-◌, ◌<◌, ◌≤◌, List, [], ◌∷◌, ◌++◌, length, take, refl, ap, sym, ◌∙◌, subst, Bool}
+use Rattle.std.proofs.Common.{arith}
 use Rattle.std.proofs.Common.{length-append, Option, Some, None}
 use Rattle.std.specs.Prelude.{slice_get, max, Result, Ok, Err, unwrap_or, ⊤}
 use Rattle.std.proofs.lemmas.List.{take-append-le}
@@ -34,7 +35,8 @@ use Rattle.ds_model.specs.Asked.{Search, Reading, search_of}
 use Rattle.ds_model.specs.Groups.{IsSeenPlace, StandsAt, place_in, touching_if, with_transaction}
 use Rattle.ds_model.specs.Refusals.{Places}
 use Rattle.ds_model.specs.Results.{entity_of}
-use Rattle.ds_model.specs.Sessions.{Session, Transaction, last_commit, list_of, counted_place, greater_counts, raised_at, saw_shard_count, saw_counts}
+use Rattle.ds_model.specs.Sessions.{Session, Transaction, last_commit, list_of, counted_place, greater_counts, raised_at, saw_shard_count}
+use Rattle.ds_model.specs.Sessions.{saw_counts}
 use Rattle.ds_model.specs.Sessions.{saw_entries, saw_place}
 use Rattle.ds_model.specs.Views.{strong_view, counted}
 use Rattle.ds_model.specs.Worlds.{World, entries_up_to}

@@ -1,6 +1,7 @@
 -- Pages: where each mark has one row, the pages of a query without offset, each started at the place that the page before it gave, the last
 -- one without a limit, are joined in order the whole result.
-use Rattle.std.proofs.Common.{◌≡◌, ℕ, zero, suc, ◌+◌, List, [], ◌∷◌, ◌++◌, take, drop, fold, refl, ap, sym, ◌∙◌, subst, Bool, true, false, cond}
+use Rattle.std.proofs.Common.{◌≡◌, ℕ, zero, suc, ◌+◌, List, [], ◌∷◌, ◌++◌, take, drop, fold, refl, ap, sym, ◌∙◌, subst, Bool, true, false}
+use Rattle.std.proofs.Common.{cond}
 use Rattle.std.proofs.Common.{arith, append_assoc, append-nil, Option, Some, None}
 use Rattle.std.specs.Prelude.{filter, All, ⊤, ◌&&◌, ◌||◌}
 use Rattle.std.specs.List.{list_any}
@@ -21,16 +22,19 @@ use Rattle.ds_base.specs.KeyOrderLaws.{bytes_cmp-same, key_cmp-total}
 use Rattle.ds_base.specs.Entities.{EntityParts}
 use Rattle.ds_base.specs.OrderLaws.{then-Equal}
 use Rattle.ds_base.specs.Sorting.{insert_by, sorted_by}
-use Rattle.ds_base.specs.SortingLaws.{NoneBefore, Ascends, Ascends-sorted_by, sorted_by-filter, IsPermutation-insert_by, IsPermutation-sorted_by}
+use Rattle.ds_base.specs.SortingLaws.{NoneBefore, Ascends, Ascends-sorted_by, sorted_by-filter, IsPermutation-insert_by}
+use Rattle.ds_base.specs.SortingLaws.{IsPermutation-sorted_by}
 use Rattle.ds_bytes.specs.Rows.{RowParts, IsRow}
 use Rattle.ds_bytes.specs.RowLaws.{row_bytes-ordered, row_bytes-reads_once}
-use Rattle.ds_cursor.specs.RowsOfColumns.{directions, key_descends}
+use Rattle.ds_cursor.specs.RowsOfColumns.{directions}
+use Rattle.ds_base.specs.KeyColumn.{key_descends}
 use Rattle.ds_query.specs.declared.branch.Branch.{Branch}
 use Rattle.ds_query.specs.declared.branch.Normal.{Normal}
 use Rattle.ds_query.specs.declared.branch.Window.{Window}
 use Rattle.ds_query.specs.declared.row.Place.{Place}
 use Rattle.ds_query.specs.Filters.{projected}
-use Rattle.ds_model.specs.Results.{result, branch_results, first_of_each, same_mark, projected_values, is_after, is_up_to, is_between, last_place}
+use Rattle.ds_model.specs.Results.{result, branch_results, first_of_each, same_mark, projected_values, is_after, is_up_to, is_between}
+use Rattle.ds_model.specs.Results.{last_place}
 use Rattle.ds_model.specs.Rows.{rows, compare_rows, place_of}
 use Rattle.ds_model.proofs.LawfulRows.{IsEntityOfBytes, rows_lawful}
 

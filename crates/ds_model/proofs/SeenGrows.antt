@@ -23,7 +23,8 @@ use Rattle.ds_model.specs.Answers.{UnlessRefused, RequestAnswers, AskedAnswers, 
 use Rattle.ds_model.specs.Asked.{Search, Reading, search_of}
 use Rattle.ds_model.specs.Groups.{touching, touching_if, writing, with_transaction}
 use Rattle.ds_model.specs.Refusals.{Places}
-use Rattle.ds_model.specs.Sessions.{Session, Transaction, saw_place, saw_counts, saw_shard_count, saw_entries, saw_next, next_above, greater_counts, raised_at}
+use Rattle.ds_model.specs.Sessions.{Session, Transaction, saw_place, saw_counts, saw_shard_count, saw_entries, saw_next, next_above}
+use Rattle.ds_model.specs.Sessions.{greater_counts, raised_at}
 use Rattle.ds_model.specs.Worlds.{World, entries_up_to}
 
 -- count by count, the second list is no lower

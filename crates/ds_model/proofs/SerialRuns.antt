@@ -1,7 +1,8 @@
 -- The journal of a legal run is one serial history: each of its commits is acknowledged, and nothing before one wrote a group that it
 -- touched after the group's touch place. So each reads what stood just before it, and of two transactions that touch one group at one place
 -- and write it at most one commits. Each line has one reply.
-use Rattle.std.proofs.Common.{◌≡◌, ℕ, zero, suc, ◌+◌, ◌-◌, ◌<◌, ◌≤◌, inl, inr, List, [], ◌∷◌, ◌++◌, length, take, drop, refl, ap, sym, ◌∙◌, subst}
+use Rattle.std.proofs.Common.{◌≡◌, ℕ, zero, suc, ◌+◌, ◌-◌, ◌<◌, ◌≤◌, inl, inr, List, [], ◌∷◌, ◌++◌, length, take, drop, refl, ap, sym, ◌∙◌}
+use Rattle.std.proofs.Common.{subst}
 use Rattle.std.proofs.Common.{arith, Bool, true, false, cond, Option, Some, None}
 use Rattle.std.specs.Prelude.{Result, Ok, Err, All, map, max, flat_map, filter, slice_get, ◌==◌, ◌||◌}
 use Rattle.std.specs.List.{range_with_len}
@@ -27,15 +28,16 @@ use Rattle.ds_reply.specs.declared.reply.Body.{Body}
 use Rattle.ds_reply.specs.declared.reply.Body.TheVariants as body
 use Rattle.ds_reply.specs.declared.reply.Reply.{Reply}
 use Rattle.ds_rounds.specs.Rounds.{NumberedLine}
-use Rattle.ds_model.specs.Answers.{Answers, CommitsAlone, WriteAnswers, CommitAnswers, TransactionAnswers, CallAnswers, SearchAnswers, commit_of}
-use Rattle.ds_model.specs.Asked.{Reading, Search, client_of}
-use Rattle.ds_model.specs.Legal.{Steps, RoundSteps, RoundsSteps, LegalBy, acknowledged, acknowledged_in, by_client, answered_lines}
+use Rattle.ds_model.specs.Answers.{Answers, CommitsAlone, WriteAnswers, CommitAnswers, TransactionAnswers, CallAnswers, SearchAnswers}
+use Rattle.ds_model.specs.Answers.{commit_of}
+use Rattle.ds_model.specs.Asked.{Reading, Search, asked, client_of}
+use Rattle.ds_model.specs.Legal.{ClientSteps, RoundSteps, RoundsSteps, Legal, acknowledged, acknowledged_in, by_client, answered_lines}
 use Rattle.ds_model.specs.Refusals.{Places}
 use Rattle.ds_model.specs.Sessions.{Session, Transaction, first_sessions, met, raised_to}
 use Rattle.ds_model.specs.Views.{strong_view}
 use Rattle.ds_model.specs.Worlds.{World, world_of}
 use Rattle.ds_model.proofs.GroupViews.{cut, nothing_between, transaction_reads}
-use Rattle.ds_model.proofs.OkReplies.{is_ok, OkAnswers, ReadingRefuses, ok_answers}
+use Rattle.ds_model.proofs.OkReplies.{is_ok, OkAnswers, ReadingRefuses, asked-refuses, ok_answers}
 
 -- ---- what an acknowledged commit is
 
@@ -129,7 +131,7 @@ reply_shown w s later reading refuses line reply a =
 -- ---- a whole run
 
 module _ (reading : Reading) (refuses : ReadingRefuses reading) (w : World) where
-  steps-held : (s : Session) (lines : List NumberedLine) (replies : List Reply) (after : Session) → Steps reading w s lines replies after → All (IsHeld w.journal) (flat_map acknowledged replies)
+  steps-held : (s : Session) (lines : List NumberedLine) (replies : List Reply) (after : Session) → ClientSteps reading w s lines replies after → All (IsHeld w.journal) (flat_map acknowledged replies)
   steps-held s [] [] after steps = All-nil (IsHeld w.journal)
   steps-held s [] (r ∷ replies) after steps = absurd steps
   steps-held s (l ∷ lines) [] after steps = absurd steps
@@ -161,13 +163,13 @@ at_range P first (suc n) (suc i) all within =
     subst P same (at_range P (first + 1) n i (All-tail P first (range_with_len (first + 1) n) all) (omega (arith, within)))
 
 module _ {definitions : List IndexDef} {shards : ℕ} {window : Option ℕ} {rounds : List (List NumberedLine)} {journal : List Commit} {replies : List Reply}
-    (reading : Reading) (refuses : ReadingRefuses reading) (legal : LegalBy reading definitions shards window rounds journal replies) where
+    (legal : Legal definitions shards window rounds journal replies) where
   -- The journal of a legal run is one serial history.
   pub legal_serial : IsSerial journal
   legal_serial i c is =
       let within : i < length journal = slice_get_within journal i c is in
       let all = All-permutation (IsHeld journal) (flat_map acknowledged replies) (range_with_len 1 (length journal)) legal.commits
-      (rounds-held reading refuses (world_of definitions shards window journal) rounds (first_sessions shards) replies legal.after legal.steps) in
+      (rounds-held (asked shards) (asked-refuses shards) (world_of definitions shards window journal) rounds (first_sessions shards) replies legal.after legal.steps) in
       let held : IsHeld journal (1 + i) = at_range (IsHeld journal) 1 (length journal) i all within in
       let same : 1 + i - 1 ≡ i = omega arith in
       let found : Some held.0 ≡ Some c = sym held.1 ∙ ap (slice_get journal) same ∙ is in
@@ -248,7 +250,7 @@ abbrev of_client : Reading → List NumberedLine → ℕ → List NumberedLine
 of_client reading round client = filter (λ line. client_of reading line.content == client) round
 
 module _ (reading : Reading) (w : World) where
-  steps-numbered : (s : Session) (lines : List NumberedLine) (replies : List Reply) (after : Session) → Steps reading w s lines replies after → reply_numbers replies ≡ line_numbers lines
+  steps-numbered : (s : Session) (lines : List NumberedLine) (replies : List Reply) (after : Session) → ClientSteps reading w s lines replies after → reply_numbers replies ≡ line_numbers lines
   steps-numbered s [] [] after steps = refl
   steps-numbered s [] (r ∷ replies) after steps = absurd steps
   steps-numbered s (l ∷ lines) [] after steps = absurd steps
@@ -283,7 +285,7 @@ module _ (reading : Reading) (w : World) where
       ∙ sym (map-append (λ (l : NumberedLine). l.number) (by_client reading round) (answered_lines reading rounds))
 
 -- Of a legal run the replies are one for each line that is answered, in the order of the lines by round, then client, then line.
-pub one_reply_each : {definitions : List IndexDef} {shards : ℕ} {window : Option ℕ} {rounds : List (List NumberedLine)} {journal : List Commit} {replies : List Reply} (reading : Reading) →
-    LegalBy reading definitions shards window rounds journal replies → reply_numbers replies ≡ line_numbers (answered_lines reading rounds)
-one_reply_each {definitions} {shards} {window} {rounds} {journal} {replies} reading legal =
-    rounds-numbered reading (world_of definitions shards window journal) rounds (first_sessions shards) replies legal.after legal.steps refl
+pub one_reply_each : {definitions : List IndexDef} {shards : ℕ} {window : Option ℕ} {rounds : List (List NumberedLine)} {journal : List Commit} {replies : List Reply} →
+    Legal definitions shards window rounds journal replies → reply_numbers replies ≡ line_numbers (answered_lines (asked shards) rounds)
+one_reply_each {definitions} {shards} {window} {rounds} {journal} {replies} legal =
+    rounds-numbered (asked shards) (world_of definitions shards window journal) rounds (first_sessions shards) replies legal.after legal.steps refl

@@ -1,6 +1,7 @@
 -- What a client finds of what was committed: a strong read tells nothing of commits behind its place and isn't below what its client has
 -- seen; a settled commit is counted by every later query; and after the sessions have met each client has seen what any had.
-use Rattle.std.proofs.Common.{◌≡◌, ℕ, zero, suc, ◌+◌, ◌≤◌, inl, inr, List, [], ◌∷◌, ◌++◌, length, take, drop, fold, refl, ap, sym, ◌∙◌, subst}
+use Rattle.std.proofs.Common.{◌≡◌, ℕ, zero, suc, ◌+◌, ◌≤◌, inl, inr, List, [], ◌∷◌, ◌++◌, length, take, drop, fold, refl, ap, sym, ◌∙◌}
+use Rattle.std.proofs.Common.{subst}
 use Rattle.std.proofs.Common.{arith, append_assoc, Bool, length-append, Option, Some, None}
 use Rattle.std.specs.Prelude.{Result, Ok, Err, All, map, max, filter, ⊤, ◌==◌}
 use Rattle.std.proofs.lemmas.List.{length-take-le, take-append-drop}
@@ -26,7 +27,7 @@ use Rattle.ds_rounds.specs.Rounds.{NumberedLine}
 use Rattle.ds_model.specs.Answers.{Answers, CallAnswers, SearchAnswers, TransactionAnswers, FoundOver, Finds, GetAnswers, CountsWithin}
 use Rattle.ds_model.specs.Asked.{Reading, Search, client_of}
 use Rattle.ds_model.specs.Groups.{StandsAt, place_in}
-use Rattle.ds_model.specs.Legal.{Steps, RoundSteps}
+use Rattle.ds_model.specs.Legal.{ClientSteps, RoundSteps}
 use Rattle.ds_model.specs.Refusals.{Places}
 use Rattle.ds_model.specs.Results.{entity_of}
 use Rattle.ds_model.specs.Sessions.{Session, Transaction, greater_counts, greatest_counts, met, raised_to}
@@ -284,7 +285,7 @@ met_has_seen k sessions t all own =
 -- ---- from round to round
 
 -- what a client has seen never shrinks from line to line
-pub steps_seen : (reading : Reading) (w : World) (s : Session) (lines : List NumberedLine) (replies : List Reply) (t : Session) → Steps reading w s lines replies t → HasSeen s t
+pub steps_seen : (reading : Reading) (w : World) (s : Session) (lines : List NumberedLine) (replies : List Reply) (t : Session) → ClientSteps reading w s lines replies t → HasSeen s t
 steps_seen reading w s [] [] t steps = subst (HasSeen s) (sym steps) (seen_same s)
 steps_seen reading w s [] (r ∷ replies) t steps = absurd steps
 steps_seen reading w s (l ∷ lines) [] t steps = absurd steps

@@ -4,6 +4,7 @@
 use Rattle.std.specs.Prelude.{ℕ, zero, ◌+◌, ◌*◌, min, List, [], ◌∷◌, Option, Some, None, ◌==◌, not, cond, length, filter, map, sum_by}
 use Rattle.ds_base.specs.declared.column.Column.{Column}
 use Rattle.ds_base.specs.Entities.{EntityParts}
+use Rattle.ds_base.specs.Least.{least_of}
 use Rattle.ds_bytes.specs.Rows.{RowParts}
 use Rattle.ds_query.specs.declared.branch.Branch.{Branch}
 use Rattle.ds_query.specs.declared.row.Place.{Place}
@@ -25,12 +26,6 @@ stop_at columns (Some most) found = cond (length found == most) (last_place colu
 abbrev pub part_rows : Branch → Option Place → Option Place → Option Place → List EntityParts → Part → List RowParts
 part_rows q start end stop entities part =
     filter (λ row. is_up_to stop (place_of q.columns row)) (filter (is_between q.columns start end) (rows (branch_of_part q part) entities))
-
--- the least of the numbers, of which there is at least one
-abbrev pub least_of : List ℕ → ℕ
-least_of [] = 0
-least_of (n ∷ []) = n
-least_of (n ∷ m ∷ ns) = min n (least_of (m ∷ ns))
 
 -- of the branch's parts the least number of such rows; none where no result is asked for
 abbrev pub least : Branch → Option Place → Option Place → Option ℕ → List EntityParts → ℕ

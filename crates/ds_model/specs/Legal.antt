@@ -23,11 +23,11 @@ use Rattle.ds_model.specs.Worlds.{World, world_of}
 use Rattle.ds_model.specs.Sessions.{Session, first_id, first_sessions, met}
 
 -- one client's replies, in the order of its lines
-abbrev pub Steps : Reading → World → Session → List NumberedLine → List Reply → Session → Type 0
-Steps reading w s [] [] after = after ≡ s
-Steps reading w s (line ∷ lines) (reply ∷ replies) after =
-    (next : Session) × Answers reading w s line reply next × Steps reading w next lines replies after
-Steps reading w s _ _ after = ⊥
+abbrev pub ClientSteps : Reading → World → Session → List NumberedLine → List Reply → Session → Type 0
+ClientSteps reading w s [] [] after = after ≡ s
+ClientSteps reading w s (line ∷ lines) (reply ∷ replies) after =
+    (next : Session) × Answers reading w s line reply next × ClientSteps reading w next lines replies after
+ClientSteps reading w s _ _ after = ⊥
 
 -- the replies of a round: by client, and then by line
 abbrev pub RoundSteps : Reading → World → List NumberedLine → ℕ → List Session → List Reply → List Session → Type 0
@@ -35,7 +35,7 @@ RoundSteps reading w round client [] replies after = (replies ≡ []) × (after 
 RoundSteps reading w round client (s ∷ sessions) replies [] = ⊥
 RoundSteps reading w round client (s ∷ sessions) replies (t ∷ after) =
     (own : List Reply) × (others : List Reply) × (replies ≡ own ++ others)
-    × Steps reading w s (filter (λ line. client_of reading line.content == client) round) own t
+    × ClientSteps reading w s (filter (λ line. client_of reading line.content == client) round) own t
     × RoundSteps reading w round (client + 1) sessions others after
 
 -- the replies of rounds: the sessions meet at the start of each
@@ -129,16 +129,12 @@ pub record IdsDrawn (reading : Reading) (rounds : List (List NumberedLine)) (rep
   pub accepted_below : All (λ id. id < bound) (flat_map accepted replies)
   pub printed_within : All (λ next. next ≤ bound) (flat_map printed_next replies)
 
--- One legal run, of lines that are read in this way: the replies of the rounds are steps of the sessions over one journal, from the
--- first sessions to those after the run; the journal holds the acknowledged commits, each once, and no other; and ids are drawn
+-- One legal run, of lines that are read by the tables of requests: the replies of the rounds are steps of the sessions over one journal,
+-- from the first sessions to those after the run; the journal holds the acknowledged commits, each once, and no other; and ids are drawn
 -- each once.
-pub record LegalBy (reading : Reading) (definitions : List IndexDef) (shards : ℕ) (window : Option ℕ)
+pub record Legal (definitions : List IndexDef) (shards : ℕ) (window : Option ℕ)
     (rounds : List (List NumberedLine)) (journal : List Commit) (replies : List Reply) : Type 0 where
   pub after : List Session
-  pub steps : RoundsSteps reading (world_of definitions shards window journal) rounds (first_sessions shards) replies after
+  pub steps : RoundsSteps (asked shards) (world_of definitions shards window journal) rounds (first_sessions shards) replies after
   pub commits : IsPermutation (flat_map acknowledged replies) (range_with_len 1 (length journal))
-  pub ids : IdsDrawn reading rounds replies
-
--- a legal run of lines that are read by the tables of requests
-abbrev pub Legal : List IndexDef → ℕ → Option ℕ → List (List NumberedLine) → List Commit → List Reply → Type 0
-Legal definitions shards = LegalBy (asked shards) definitions shards
+  pub ids : IdsDrawn (asked shards) rounds replies

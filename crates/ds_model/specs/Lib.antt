@@ -1,6 +1,7 @@
 pub mod Answers
 pub mod Asked
 pub mod Bounds
+pub mod ByKey
 pub mod Groups
 pub mod Legal
 pub mod Refusals

@@ -1,8 +1,8 @@
--- The rows of a branch over a list of entities: what an index that suits the branch would hold, and in which order.
-use Rattle.std.specs.Prelude.{ℕ, Bool, true, false, ◌&&◌, not, List, [], ◌∷◌, bytes_eq, filter, map, flat_map, Option, Some, None}
+-- The rows of a branch over a list of entities: what an index that suits the branch would hold. How they compare, and where they stand,
+-- is told by `ds_pages`.
+use Rattle.std.specs.Prelude.{ℕ, Bool, true, false, ◌&&◌, List, [], ◌∷◌, bytes_eq, filter, map, flat_map, Option, Some, None}
 use Rattle.std.specs.List.{list_all, list_any}
 use Rattle.std.specs.Ordering.{is_eq, match_ordering}
-use Rattle.std.specs.declared.cmp.Ordering.{Ordering}
 use Rattle.ds_base.specs.declared.column.Column.{Column}
 use Rattle.ds_base.specs.declared.index_value.IndexValue.{IndexValue}
 use Rattle.ds_base.specs.declared.index_value.IndexValue.TheVariants.{Key}
@@ -10,13 +10,13 @@ use Rattle.ds_base.specs.Keys.{KeyParts}
 use Rattle.ds_base.specs.KeyOrder.{is_ancestor}
 use Rattle.ds_base.specs.IndexOrder.{index_value_cmp}
 use Rattle.ds_base.specs.Entities.{EntityParts}
-use Rattle.ds_bytes.specs.Rows.{RowParts, row_cmp, row_bytes}
-use Rattle.ds_cursor.specs.RowsOfColumns.{directions, key_descends}
+use Rattle.ds_bytes.specs.Rows.{RowParts}
 use Rattle.ds_query.specs.declared.branch.Pair.{Pair}
 use Rattle.ds_query.specs.declared.branch.Bound.{Bound}
 use Rattle.ds_query.specs.declared.branch.Range.{Range}
 use Rattle.ds_query.specs.declared.branch.Branch.{Branch}
-use Rattle.ds_query.specs.Filters.{is_key_name}
+pub use Rattle.ds_pages.specs.Columns.{value_columns}
+pub use Rattle.ds_pages.specs.Places.{compare_rows, place_of}
 use Rattle.ds_rows.specs.IndexedValues.{kind_in, indexed_values, each_way}
 
 -- ---- which entities count
@@ -42,10 +42,6 @@ is_found q e =
     bytes_eq e.key.namespace q.namespace && has_kind q.kind e.key && is_under q.ancestor e.key && list_all (has_value e) q.equal
 
 -- ---- the rows of one entity
-
--- the columns other than `__key__`, wherever it stands: a row has a value for each
-abbrev pub value_columns : List Column → List Column
-value_columns = filter (λ c. not (is_key_name c.name))
 
 abbrev pub is_above : Option Bound → IndexValue → Bool
 is_above None v = true
@@ -78,13 +74,3 @@ entity_rows columns e =
 abbrev pub rows : Branch → List EntityParts → List RowParts
 rows q entities =
     filter (λ row. is_within q.range (first_value row)) (flat_map (entity_rows q.columns) (filter (is_found q) entities))
-
--- ---- their order
-
--- rows compare column by column, each in its direction; `__key__` is a column, so different rows never tie
-abbrev pub compare_rows : List Column → RowParts → RowParts → Ordering
-compare_rows columns = row_cmp (directions columns) (key_descends columns)
-
--- the place of a row: its columns as bytes, whose order is that of the rows
-abbrev pub place_of : List Column → RowParts → List ℕ
-place_of columns = row_bytes (directions columns) (key_descends columns)

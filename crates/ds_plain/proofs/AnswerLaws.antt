@@ -16,8 +16,9 @@ use Rattle.ds_query.specs.Filters.{projected}
 use Rattle.ds_query.specs.Lawful.{IsLawfulNormal}
 use Rattle.ds_model.specs.Rows.{rows}
 use Rattle.ds_model.specs.Results.{extended, united, first_rows, page_of, branch_results, is_between}
-use Rattle.ds_merge.specs.declared.merged.Merged.{Merged}
-use Rattle.ds_merge.specs.Merging.{IsPlaced, all_rows, placed, parts_of, merged_page, with_places}
+use Rattle.ds_pages.specs.declared.row_page.RowPage.{RowPage}
+use Rattle.ds_pages.specs.Pages.{all_rows, page_of_rows, with_places}
+use Rattle.ds_pages.specs.Places.{IsPlaced, placed, parts_of}
 use Rattle.ds_plain.specs.Answers.{branch_list, query_page}
 
 -- a row's place is told by the row
@@ -34,14 +35,14 @@ parts-united merged es (q ∷ qs) =
     map-append parts_of (branch_list merged es q) (all_rows (map (branch_list merged es) qs))
     ∙ (λ i. parts-placed merged (map (extended merged q) (rows q es)) i ++ parts-united merged es qs i)
 
-pub several_page : (n : Normal) (w : Window) (es : List EntityParts) (lists : List (List Row)) (names : List (List ℕ)) (m : Merged)
+pub several_page : (n : Normal) (w : Window) (es : List EntityParts) (lists : List (List Row)) (names : List (List ℕ)) (m : RowPage)
     → n.several ≡ true → lists ≡ map (branch_list n.merged es) n.branches → names ≡ []
-    → m ≡ merged_page n.merged names w (map parts_of (all_rows lists))
+    → m ≡ page_of_rows n.merged names w (map parts_of (all_rows lists))
     → m ≡ query_page n w es
 several_page n w es lists names m s all none page =
     page
-    ∙ (λ i. merged_page n.merged (none i) w (map parts_of (all_rows (all i))))
-    ∙ ap (merged_page n.merged [] w) (parts-united n.merged es n.branches)
+    ∙ (λ i. page_of_rows n.merged (none i) w (map parts_of (all_rows (all i))))
+    ∙ ap (page_of_rows n.merged [] w) (parts-united n.merged es n.branches)
     ∙ ap (λ b. with_places n.merged (page_of n.merged w
     (cond b (first_rows n.merged [] (united n es)) (flat_map (λ q. branch_results q w.start w.end es) n.branches)))) (sym s)
 
@@ -60,10 +61,10 @@ only [] q one e = absurd (omega arith)
 only (b ∷ []) q one e = ap (λ z. z ∷ []) (sym e)
 only (b ∷ c ∷ bs) q one e = absurd (omega arith)
 
-pub single_page : (n : Normal) (w : Window) (es : List EntityParts) (q : Branch) (names : List (List ℕ)) (given : List Row) (m : Merged)
+pub single_page : (n : Normal) (w : Window) (es : List EntityParts) (q : Branch) (names : List (List ℕ)) (given : List Row) (m : RowPage)
     → IsLawfulNormal n → n.several ≡ false → q ≡ get_or n.branches 0 q → names ≡ projected q.select
     → given ≡ map (placed q.columns) (filter (is_between q.columns w.start w.end) (rows q es))
-    → m ≡ merged_page q.columns names w (map parts_of given)
+    → m ≡ page_of_rows q.columns names w (map parts_of given)
     → m ≡ query_page n w es
 single_page n w es q names given m lawful s first named all page =
     let one : n.branches ≡ q ∷ [] = only n.branches q (lawful.single s) first in
@@ -72,9 +73,9 @@ single_page n w es q names given m lawful s first named all page =
     (subst (λ bs. All (λ (b : Branch). b.columns ≡ n.merged) bs) one (lawful.single_columns s)) in
     let results : List RowParts = branch_results q w.start w.end es in
     page
-    ∙ ap (merged_page q.columns names w)
+    ∙ ap (page_of_rows q.columns names w)
     (ap (map parts_of) all ∙ parts-placed q.columns (filter (is_between q.columns w.start w.end) (rows q es)))
-    ∙ ap (λ ns. merged_page q.columns ns w (filter (is_between q.columns w.start w.end) (rows q es))) named
+    ∙ ap (λ ns. page_of_rows q.columns ns w (filter (is_between q.columns w.start w.end) (rows q es))) named
     ∙ ap (λ cs. with_places cs (page_of cs w results)) columns
     ∙ ap (λ rs. with_places n.merged (page_of n.merged w rs)) (sym (append-nil results))
     ∙ ap (λ bs. with_places n.merged (page_of n.merged w (flat_map (λ b. branch_results b w.start w.end es) bs))) (sym one)

@@ -10,7 +10,8 @@ use Rattle.ds_base.specs.declared.index_value.IndexValue.{IndexValue}
 use Rattle.ds_bytes.specs.Rows.{RowParts}
 use Rattle.ds_query.specs.declared.branch.Branch.{Branch}
 use Rattle.ds_rows.specs.IndexedValues.{indexed_values, each_way}
-use Rattle.ds_model.specs.Rows.{entity_rows, is_within, first_value, value_columns}
+use Rattle.ds_model.specs.Rows.{entity_rows, is_within, first_value}
+use Rattle.ds_query.specs.RowValues.{value_columns}
 use Rattle.ds_plain.specs.declared.found.Found.{Found}
 use Rattle.ds_plain.specs.FoundRows.{found_parts, found_of, is_in}
 

@@ -7,10 +7,11 @@ use Rattle.ds_base.specs.declared.column.Column.{Column}
 use Rattle.ds_base.specs.declared.index_value.IndexValue.{IndexValue}
 use Rattle.ds_base.specs.Entities.{EntityParts}
 use Rattle.ds_bytes.specs.Rows.{RowParts}
-use Rattle.ds_cursor.specs.RowsOfColumns.{directions}
+use Rattle.ds_pages.specs.Columns.{directions}
 use Rattle.ds_query.specs.declared.branch.Branch.{Branch}
 use Rattle.ds_rows.specs.IndexedValues.{indexed_values, each_way}
-use Rattle.ds_model.specs.Rows.{rows, entity_rows, value_columns, is_found, is_within, first_value}
+use Rattle.ds_model.specs.Rows.{rows, entity_rows, is_found, is_within, first_value}
+use Rattle.ds_query.specs.RowValues.{value_columns}
 use Rattle.ds_plain.specs.declared.found.Found.{Found}
 use Rattle.ds_plain.specs.FoundRows.{found_parts, IsLong}
 
@@ -77,11 +78,3 @@ of_parts columns (f ∷ fs) p =
 
 pub found_long : (q : Branch) (es : List EntityParts) (fs : List Found) → map found_parts fs ≡ rows q es → All (IsLong q.columns) fs
 found_long q es fs e = of_parts q.columns fs (subst (λ rs. All (IsLongRow q.columns) rs) (sym e) (rows_long q es))
-
--- ---- rows in the merged columns
-
-pub extended_long : (columns : List Column) (f : Column → IndexValue) (vs : List IndexValue)
-    → vs ≡ map f (value_columns columns) → length vs ≡ length (directions columns)
-extended_long columns f vs e =
-    ap (λ (ws : List IndexValue). length ws) e ∙ length-map (value_columns columns) f
-    ∙ sym (length-map (value_columns columns) (λ c. c.descending))

@@ -7,17 +7,14 @@ use Rattle.ds_query.specs.declared.branch.Normal.{Normal}
 use Rattle.ds_query.specs.declared.branch.Window.{Window}
 use Rattle.ds_query.specs.declared.row.Row.{Row}
 use Rattle.ds_model.specs.Rows.{rows}
-use Rattle.ds_model.specs.Results.{result, extended}
-use Rattle.ds_merge.specs.declared.merged.Merged.{Merged}
-use Rattle.ds_merge.specs.Merging.{placed, with_places}
-use Rattle.ds_plain.specs.declared.plain.Plain.{Plain}
-
--- a page that isn't told whose it is
-abbrev pub page_parts : Plain → Merged
-page_parts p = record { rows = p.rows; next = p.next }
+use Rattle.ds_model.specs.Results.{result}
+use Rattle.ds_pages.specs.declared.row_page.RowPage.{RowPage}
+use Rattle.ds_pages.specs.Extended.{extended}
+use Rattle.ds_pages.specs.Pages.{with_places}
+use Rattle.ds_pages.specs.Places.{placed}
 
 -- the page of a query over a list of entities, its rows with their places among the merged columns
-abbrev pub query_page : Normal → Window → List EntityParts → Merged
+abbrev pub query_page : Normal → Window → List EntityParts → RowPage
 query_page n w entities = with_places n.merged (result n w entities)
 
 -- the rows of a branch in the merged columns, with their places there

@@ -4,7 +4,7 @@ use Rattle.ds_base.specs.declared.column.Column.{Column}
 use Rattle.ds_base.specs.declared.index_value.IndexValue.{IndexValue}
 use Rattle.ds_base.specs.Keys.{KeyParts}
 use Rattle.ds_bytes.specs.Rows.{RowParts}
-use Rattle.ds_cursor.specs.RowsOfColumns.{directions}
+use Rattle.ds_pages.specs.Columns.{directions}
 use Rattle.ds_query.specs.declared.branch.Range.{Range}
 use Rattle.ds_model.specs.Rows.{first_value, is_within}
 use Rattle.ds_plain.specs.declared.found.Found.{Found}

@@ -1,24 +1,22 @@
 //! The page of a query.
-ghost use Rattle.std.specs.Prelude.{◌≡◌, ◌++◌, ◌&&◌, [], map, filter, length, List, All, IfOk, OnOk, true, false};
-ghost use Rattle.ds_base.specs.declared.column.Column.{Column};
+ghost use Rattle.std.specs.Prelude.{◌≡◌, ◌&&◌, [], map, filter, All, IfOk, true, false};
 ghost use Rattle.ds_query.specs.Filters.{projected};
 ghost use Rattle.ds_query.specs.Lawful.{IsLawfulNormal};
-ghost use Rattle.ds_cursor.specs.RowsOfColumns.{directions as value_directions, key_descends};
 ghost use Rattle.ds_model.specs.Rows.{rows};
-ghost use Rattle.ds_model.specs.Results.{is_between, is_after, is_up_to};
-ghost use Rattle.ds_merge.specs.Merging.{IsPlaced, all_rows, placed};
-ghost use Rattle.ds_plain.specs.FoundRows.{found_parts};
-ghost use Rattle.ds_plain.specs.Answers.{page_parts, query_page, branch_list};
+ghost use Rattle.ds_pages.specs.Columns.{directions as value_directions, key_descends};
+ghost use Rattle.ds_pages.specs.Pages.{all_rows, is_between, is_after, is_up_to};
+ghost use Rattle.ds_pages.specs.Places.{IsPlaced, placed};
+ghost use Rattle.ds_plain.specs.Answers.{query_page, branch_list};
 
-use crate::extending::extended;
-use crate::found::{Found, found_rows};
-use crate::places::{Directions, directions_of, place_of};
-use crate::plain::Plain;
+use crate::found::found_rows;
 use ds_base::{Columns, Entities, Entity, Names, NoMemory};
-use ds_merge::{Merged, first_of_rows, merge};
+use ds_pages::{Directions, RowPage, directions_of, extended_values, joined, page_of_rows, placed};
 use ds_query::{Branch, Normal, Place, Row, RowList, RowLists, Select, Window};
 use std::alloc::Global;
 use std::cmp::Ordering;
+
+/// A page of a query's results: the row of each, with its place among the merged columns, and where the next page begins.
+pub type Plain = RowPage;
 
 /// What the query finds over the entities, as the window gives it: the rows in order with their places, and the next place.
 ///
@@ -32,7 +30,7 @@ pub fn answer(
     window: &Window,
 ) -> Result<Plain, NoMemory>
     requires lawful { IsLawfulNormal normal.now }
-    ensures { IfOk result (λ p. page_parts p ≡ query_page normal.now window.now entities.now) }
+    ensures { IfOk result (λ p. p ≡ query_page normal.now window.now entities.now) }
 {
     let mut lent = Vec::with_capacity(alloc, entities.len())?;
     for entity in entities.as_slice() {
@@ -49,17 +47,13 @@ pub fn answer_of(
     window: &Window,
 ) -> Result<Plain, NoMemory>
     requires lawful { IsLawfulNormal normal.now }
-    ensures { IfOk result (λ p. page_parts p ≡ query_page normal.now window.now (map (λ e. e.now) entities.now)) }
+    ensures { IfOk result (λ p. p ≡ query_page normal.now window.now (map (λ e. e.now) entities.now)) }
 {
-    let page = if normal.several {
-        several(alloc, entities, normal, window)?
+    if normal.several {
+        several(alloc, entities, normal, window)
     } else {
-        single(alloc, entities, normal, window)?
-    };
-    Ok(Plain {
-        rows: page.rows,
-        next: page.next,
-    })
+        single(alloc, entities, normal, window)
+    }
 }
 
 /// The page of a query of several branches: their rows united, and of each key the first.
@@ -68,16 +62,17 @@ fn several(
     entities: &[&Entity],
     normal: &Normal,
     window: &Window,
-) -> Result<Merged, NoMemory>
+) -> Result<Plain, NoMemory>
     requires several { normal.now.several ≡ true }
     ensures { IfOk result (λ m. m ≡ query_page normal.now window.now (map (λ e. e.now) entities.now)) }
 {
     let lists = branch_lists(alloc, entities, normal)?;
+    let rows = joined(alloc, lists)?;
     let none = Names::new(alloc);
-    merge(alloc, lists, &normal.merged, &none, window)
+    page_of_rows(alloc, rows, &normal.merged, &none, window)
 }
 
-/// The rows of each branch in the merged columns, with their places there: what `merge` unites. Where a column is none of the
+/// The rows of each branch in the merged columns, with their places there. Where a column is none of the
 /// branch's its value is the least that the branch asks of the property. The lists stand in no order. A refusal is want of memory.
 pub fn branch_lists(
     alloc: Global,
@@ -112,30 +107,10 @@ fn branch_list(
 {
     let mut rows = Vec::new(alloc);
     for found in found_rows(alloc, entities, branch)? {
-        let row = extended(alloc, merged.as_slice(), branch, found)?;
-        rows.push(placed(alloc, directions, row)?)?;
+        let values = extended_values(alloc, merged.as_slice(), branch, &found.values)?;
+        rows.push(placed(alloc, directions, found.key, values)?)?;
     }
     Ok(RowList::from(rows))
-}
-
-/// The row with its place.
-fn placed(alloc: Global, directions: &Directions, row: Found) -> Result<Row, NoMemory>
-    requires { length row.values ≡ length directions.now.values.items }
-    ensures { (columns : List Column) → directions.now.values.items ≡ value_directions columns → directions.now.key ≡ key_descends columns
-        → IfOk result (λ r. (r ≡ placed columns (found_parts row)) × IsPlaced columns r) }
-{
-    let place = place_of(
-        alloc,
-        directions.values.as_slice(),
-        directions.key,
-        row.values.as_slice(),
-        &row.key,
-    )?;
-    Ok(Row {
-        key: row.key,
-        values: row.values,
-        place,
-    })
 }
 
 /// The page of a query of one branch.
@@ -144,7 +119,7 @@ fn single(
     entities: &[&Entity],
     normal: &Normal,
     window: &Window,
-) -> Result<Merged, NoMemory>
+) -> Result<Plain, NoMemory>
     requires lawful { IsLawfulNormal normal.now }
     requires single { normal.now.several ≡ false }
     ensures { IfOk result (λ m. m ≡ query_page normal.now window.now (map (λ e. e.now) entities.now)) }
@@ -153,7 +128,7 @@ fn single(
     let rows = rows_between(alloc, entities, branch, window)?;
     let none = Names::new(alloc);
     let names = projected(&branch.select, &none);
-    first_of_rows(alloc, rows, &branch.columns, names, window)
+    page_of_rows(alloc, rows, &branch.columns, names, window)
 }
 
 /// The names of a projection; none otherwise.
@@ -167,8 +142,9 @@ fn projected<'a>(select: &'a Select, none: &'a Names) -> &'a Names
     }
 }
 
-/// The rows of a branch between the window's places: after the start, up to the end.
-fn rows_between(
+/// The rows of a branch between the window's places, after the start and up to the end, each with its place among the branch's
+/// columns. They stand in no order. A refusal is want of memory.
+pub fn rows_between(
     alloc: Global,
     entities: &[&Entity],
     branch: &Branch,
@@ -181,7 +157,7 @@ fn rows_between(
     let directions = directions_of(alloc, branch.columns.as_slice())?;
     let mut rows = Vec::new(alloc);
     for found in found_rows(alloc, entities, branch)? {
-        let row = placed(alloc, &directions, found)?;
+        let row = placed(alloc, &directions, found.key, found.values)?;
         if !is_between(&row.place, window) {
             continue;
         }

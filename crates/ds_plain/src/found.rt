@@ -1,31 +1,30 @@
 //! The rows of one branch.
 ghost use Rattle.std.specs.Prelude.{◌≡◌, ◌++◌, ◌∷◌, [], map, filter, flat_map, length, All, IfOk, OnOk};
 ghost use Rattle.ds_base.specs.Entities.{EntityParts};
-ghost use Rattle.ds_cursor.specs.RowsOfColumns.{directions};
+ghost use Rattle.ds_pages.specs.Columns.{directions};
 ghost use Rattle.ds_model.specs.Rows.{value_columns, entity_rows, first_value, is_within, rows};
 ghost use Rattle.ds_rows.specs.IndexedValues.{indexed_values};
 ghost use Rattle.ds_plain.specs.FoundRows.{found_parts, found_of, is_in, IsLong};
 
 use crate::matching::{is_found, is_within};
-use crate::places::is_key_name;
 use crate::ways::each_way;
-use ds_base::{Column, Entity, IndexValue, IndexValues, Key, NoMemory, TryCopy};
+use ds_base::{Column, Entity, IndexValue, IndexValues, Key, NoMemory, TryCopy, is_key_name};
 use ds_query::{Branch, Range};
 use ds_rows::indexed_values;
 use std::alloc::Global;
 
 /// A row of a branch, without its place.
 #[derive(Drop)]
-pub struct Found {
+pub(crate) struct Found {
     /// The entity's key.
-    pub key: Key,
+    pub(crate) key: Key,
     /// One indexed value for each column other than `__key__`.
-    pub values: IndexValues,
+    pub(crate) values: IndexValues,
 }
 
 /// The rows of the branch: of each entity that counts one for each way to take one indexed value per column, the first column's value
 /// within the range. They stand in no order that is promised. A refusal is want of memory.
-pub fn found_rows(
+pub(crate) fn found_rows(
     alloc: Global,
     entities: &[&Entity],
     branch: &Branch,

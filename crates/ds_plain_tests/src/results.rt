@@ -3,10 +3,10 @@ ghost use Rattle.ds_query.specs.Lawful.{IsLawfulNormal};
 
 use crate::asked::query;
 use crate::written::entities;
-use ds_base::{Entities, Ident, Key, Names, NoMemory};
-use ds_merge::merge;
-use ds_plain::{Plain, answer, branch_lists};
-use ds_query::{Normal, Place, Row, Window, normalize};
+use ds_base::{Columns, Entities, Ident, Key, Names, NoMemory};
+use ds_merge::{extended, merge};
+use ds_plain::{Plain, answer, branch_lists, rows_between};
+use ds_query::{Branch, Normal, Place, Row, RowList, Window, normalize};
 use std::alloc::Global;
 use std::test::Fail;
 
@@ -179,5 +179,62 @@ fn finds_and_pages(rt: HostRuntime) -> Result<(), Fail> {
     for row in &FOUND {
         assert!(rt; is_found(rt.alloc(), row)?, "{} of {}", row.1, row.0);
     }
+    Ok(())
+}
+
+fn has_first_value(row: &Row, branch: &Branch) -> bool {
+    match branch.equal.get(0) {
+        Some(pair) => match row.values.get(0) {
+            Some(value) => *value == pair.value,
+            None => false,
+        },
+        None => false,
+    }
+}
+
+/// Whether the branch has one row, which has in the merged columns the value that the branch asks.
+fn is_extended(
+    alloc: Global,
+    entities: &Entities,
+    merged: &Columns,
+    branch: &Branch,
+) -> Result<bool, NoMemory> {
+    let mut lent = Vec::with_capacity(alloc, entities.len())?;
+    for entity in entities.as_slice() {
+        lent.push(entity)?;
+    }
+    let rows = rows_between(alloc, lent.as_slice(), branch, &from(None, 0, None))?;
+    let list = extended(alloc, merged, branch, RowList::from(rows))?;
+    match list.get(0) {
+        Some(row) => Ok(list.len() == 1 && has_first_value(row, branch)),
+        None => Ok(false),
+    }
+}
+
+/// Whether each branch of a query is so.
+fn are_extended(alloc: Global, written: &str, asked: &str) -> Result<bool, Fail> {
+    let entities = entities(alloc, written)?;
+    let query = query(alloc, asked)?;
+    if !query.is_lawful() {
+        return Ok(false);
+    }
+    match normalize(alloc, &query) {
+        Ok(normal) => each_extended(alloc, &entities, &normal),
+        Err(_) => Ok(false),
+    }
+}
+
+fn each_extended(alloc: Global, entities: &Entities, normal: &Normal) -> Result<bool, Fail> {
+    for branch in normal.branches.as_slice() {
+        if !is_extended(alloc, entities, &normal.merged, branch)? {
+            return Ok(false);
+        }
+    }
+    Ok(true)
+}
+
+#[test]
+fn extends_the_rows_of_a_branch(rt: HostRuntime) -> Result<(), Fail> {
+    assert!(rt; are_extended(rt.alloc(), FEW, "in 5,4; asc")?);
     Ok(())
 }

@@ -225,6 +225,17 @@ impl Txn {
         }
     }
 
+    /// Whether one more write is taken: refused, with `TooManyWrites`, exactly where there are 500. It takes no memory.
+    pub fn may_write(&self) -> Result<(), WriteCause>
+        ensures { result_err result ≡ write_refusal self.now }
+    {
+        if self.writes.len() >= MAX_WRITES {
+            Err(WriteCause::TooManyWrites)
+        } else {
+            Ok(())
+        }
+    }
+
     /// Makes room for one write, where one more is taken.
     fn room_for_write(&mut self) -> Result<(), WriteCause>
         ensures ok { OnOk result (0 < self.new.write_spare) }
@@ -235,9 +246,7 @@ impl Txn {
         ensures writes { self.new.writes ≡ self.old.writes }
         ensures touch_room { self.new.touch_spare ≡ self.old.touch_spare }
     {
-        if self.writes.len() >= MAX_WRITES {
-            return Err(WriteCause::TooManyWrites);
-        }
+        self.may_write()?;
         match self.writes.reserve(1) {
             Ok(()) => Ok(()),
             Err(_) => Err(WriteCause::NoMemory),

@@ -1,7 +1,8 @@
 use Rattle.std.proofs.Common.{◌≡◌, length, map}
 use Rattle.std.specs.Prelude.{All}
 use Rattle.ds_applied.specs.AppliedLists.{entries_of, applied_of}
-use Rattle.ds_applied.specs.Routing.{IsRouted, HasRoom, added, entry_of}
+use Rattle.ds_log.specs.Routing.{IsRouted, entry_of}
+use Rattle.ds_applied.specs.Routing.{HasRoom, added}
 use Rattle.ds_applied.proofs.routing.put_all.Given as goal
 
 -- what is left leads from the lists so far to those of all

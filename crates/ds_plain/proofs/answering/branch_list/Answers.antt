@@ -1,7 +1,7 @@
 use Rattle.std.proofs.Common.{◌≡◌, List, ◌∷◌, map, sym, ap, ◌∙◌}
-use Rattle.ds_model.specs.Results.{extended}
+use Rattle.ds_pages.specs.Extended.{extended, extended_values}
 use Rattle.ds_query.specs.declared.row.Row.{Row}
-use Rattle.ds_merge.specs.Merging.{IsPlaced, placed}
+use Rattle.ds_pages.specs.Places.{IsPlaced, placed}
 use Rattle.ds_plain.specs.Answers.{branch_list}
 use Rattle.ds_plain.specs.declared.found.Found.{Found}
 use Rattle.ds_plain.specs.FoundRows.{found_parts}
@@ -16,8 +16,8 @@ loop-found-preserved c =
     let row = c.in_ok-placed.field-0 in
     let stands = c.in_ok-placed.ensures merged c.requires.values c.requires.key in
     let is : row ≡ placed merged (extended merged q (found_parts c.in-Some.found)) =
-    stands.0 ∙ ap (placed merged)
-    (c.in_ok-row.ensures.row ∙ ap (λ ms. extended ms q (found_parts c.in-Some.found)) c.as_slice.ensures) in
+    stands.0 ∙ ap (λ vs. placed merged (record { values = vs; key = c.in-Some.found.key }))
+    (c.in_ok-values.ensures.values ∙ ap (λ ms. extended_values ms q c.in-Some.found.values) c.as_slice.ensures) in
     let rest = c.next.new.self.rest.items in
     record {
       rows = pushed F c.loop-found.rows.items c.push.new.self.items c.loop-found.found-iterator.rest.items rest c.in-Some.found row

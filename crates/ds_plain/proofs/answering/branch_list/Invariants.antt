@@ -2,7 +2,7 @@
 use Rattle.std.proofs.Common.{◌≡◌, ◌++◌, map}
 use Rattle.std.specs.Prelude.{All}
 use Rattle.ds_model.specs.Results.{extended}
-use Rattle.ds_merge.specs.Merging.{IsPlaced, placed}
+use Rattle.ds_pages.specs.Places.{IsPlaced, placed}
 use Rattle.ds_plain.specs.FoundRows.{found_parts}
 use Rattle.ds_plain.specs.Answers.{branch_list}
 use Rattle.ds_plain.proofs.answering.branch_list.Given as goal

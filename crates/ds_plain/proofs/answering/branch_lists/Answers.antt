@@ -1,6 +1,7 @@
 use Rattle.std.proofs.Common.{◌++◌, ◌∷◌, [], ◌<◌, map, length, get_or, sym, ap, subst, ◌∙◌}
 use Rattle.std.specs.Prelude.{All}
-use Rattle.ds_merge.specs.Merging.{IsPlaced, all_rows}
+use Rattle.ds_pages.specs.Pages.{all_rows}
+use Rattle.ds_pages.specs.Places.{IsPlaced}
 use Rattle.ds_plain.specs.Answers.{branch_list}
 use Rattle.ds_plain.proofs.AnswerLaws.{placed_more, seen_more}
 use Rattle.ds_plain.proofs.answering.branch_lists.Goals as goal

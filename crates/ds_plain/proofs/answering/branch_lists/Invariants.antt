@@ -1,7 +1,8 @@
 -- The lists of the branches so far.
 use Rattle.std.proofs.Common.{◌≡◌, map, take}
 use Rattle.std.specs.Prelude.{All}
-use Rattle.ds_merge.specs.Merging.{IsPlaced, all_rows}
+use Rattle.ds_pages.specs.Pages.{all_rows}
+use Rattle.ds_pages.specs.Places.{IsPlaced}
 use Rattle.ds_plain.specs.Answers.{branch_list}
 use Rattle.ds_plain.proofs.answering.branch_lists.Given as goal
 

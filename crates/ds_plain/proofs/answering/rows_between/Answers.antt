@@ -1,10 +1,10 @@
 use Rattle.std.proofs.Common.{◌&&◌, List, ◌∷◌, map, cond, sym, ap, ◌∙◌}
 use Rattle.std.specs.Prelude.{filter}
-use Rattle.ds_cursor.specs.RowsOfColumns.{directions, key_descends}
+use Rattle.ds_pages.specs.Columns.{directions, key_descends}
 use Rattle.ds_model.specs.Rows.{rows}
 use Rattle.ds_model.specs.Results.{is_between, is_after, is_up_to}
 use Rattle.ds_query.specs.declared.row.Row.{Row}
-use Rattle.ds_merge.specs.Merging.{IsPlaced, placed}
+use Rattle.ds_pages.specs.Places.{IsPlaced, placed}
 use Rattle.ds_plain.specs.declared.found.Found.{Found}
 use Rattle.ds_plain.specs.FoundRows.{found_parts, IsLong}
 use Rattle.ds_plain.proofs.AnswerLaws.{pushed, skipped, all_pushed, all_left}

@@ -3,7 +3,7 @@ use Rattle.std.proofs.Common.{◌≡◌, ◌++◌, map}
 use Rattle.std.specs.Prelude.{All, filter}
 use Rattle.ds_model.specs.Rows.{rows}
 use Rattle.ds_model.specs.Results.{is_between}
-use Rattle.ds_merge.specs.Merging.{IsPlaced, placed}
+use Rattle.ds_pages.specs.Places.{IsPlaced, placed}
 use Rattle.ds_plain.specs.FoundRows.{found_parts, IsLong}
 use Rattle.ds_plain.proofs.answering.rows_between.Given as goal
 

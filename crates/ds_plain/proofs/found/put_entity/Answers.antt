@@ -1,6 +1,6 @@
 use Rattle.std.proofs.Common.{◌++◌, ◌∷◌, [], map, ap, ◌∙◌, arith}
 use Rattle.std.specs.Prelude.{filter}
-use Rattle.ds_model.specs.Rows.{value_columns}
+use Rattle.ds_query.specs.RowValues.{value_columns}
 use Rattle.ds_rows.specs.IndexedValues.{indexed_values}
 use Rattle.ds_plain.specs.FoundRows.{found_of, is_in}
 use Rattle.ds_plain.proofs.FoundLaws.{way_put, ways_put, none}

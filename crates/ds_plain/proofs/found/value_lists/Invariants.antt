@@ -1,6 +1,6 @@
 -- The lists so far and those of the columns that are left are all.
 use Rattle.std.proofs.Common.{◌≡◌, ◌++◌, drop, map}
-use Rattle.ds_model.specs.Rows.{value_columns}
+use Rattle.ds_query.specs.RowValues.{value_columns}
 use Rattle.ds_rows.specs.IndexedValues.{indexed_values}
 use Rattle.ds_plain.proofs.found.value_lists.Given as goal
 

@@ -1,6 +1,6 @@
 use Rattle.std.proofs.Common.{◌≡◌, ◌<◌, ◌+◌, ◌∙◌, ap, subst, sym}
 use Rattle.std.specs.Prelude.{OnOk, OnErr}
-use Rattle.ds_applied.specs.AppliedLists.{AppliedParts, ShardParts}
+use Rattle.ds_applied.specs.AppliedLists.{AppliedParts, AppliedShard}
 use Rattle.ds_applied.proofs.CountSteps.{one_applied, none_applied}
 use Rattle.ds_applied.proofs.applied.Applied.apply_one.Goals as goal
 
@@ -9,8 +9,8 @@ returns-clause-ok c =
     one_applied c.self.inside.shards.items c.self.inside.commits c.args.shard c.index_mut.result.now c.apply_one.new.self
     c.apply_one.result c.args.self.now
     (subst (λ (p : AppliedParts). c.args.shard < p.shards) (sym c.self.view_is) c.requires.shard)
-    (c.apply_one.ensures.entries ∙ ap (λ (s : ShardParts). s.entries) c.index_mut.ensures.value) c.self.view_is
-    (subst (λ (s : ShardParts). OnOk c.apply_one.result
+    (c.apply_one.ensures.entries ∙ ap (λ (s : AppliedShard). s.entries) c.index_mut.ensures.value) c.self.view_is
+    (subst (λ (s : AppliedShard). OnOk c.apply_one.result
     (c.apply_one.new.self.applied ≡ s.applied + 1)) c.index_mut.ensures.value c.apply_one.ensures.ok)
 
 pub returns-clause-err : goal.returns-clause-err
@@ -18,6 +18,6 @@ returns-clause-err c =
     none_applied c.self.inside.shards.items c.self.inside.commits c.args.shard c.index_mut.result.now c.apply_one.new.self
     c.apply_one.result c.args.self.now
     (subst (λ (p : AppliedParts). c.args.shard < p.shards) (sym c.self.view_is) c.requires.shard)
-    (c.apply_one.ensures.entries ∙ ap (λ (s : ShardParts). s.entries) c.index_mut.ensures.value) c.self.view_is
-    (subst (λ (s : ShardParts). OnErr c.apply_one.result
+    (c.apply_one.ensures.entries ∙ ap (λ (s : AppliedShard). s.entries) c.index_mut.ensures.value) c.self.view_is
+    (subst (λ (s : AppliedShard). OnErr c.apply_one.result
     (c.apply_one.new.self.applied ≡ s.applied)) c.index_mut.ensures.value c.apply_one.ensures.err)

@@ -4,7 +4,7 @@ use Rattle.std.specs.Map.{lookup}
 use Rattle.ds_base.specs.KeyOrder.{key_cmp}
 use Rattle.ds_model.specs.Results.{entity_of}
 use Rattle.ds_applied.specs.ByKey.{entities_in}
-use Rattle.ds_applied.proofs.FoundByKey.{entity_of-keyed}
+use Rattle.ds_model.proofs.FoundByKey.{entity_of-keyed}
 use Rattle.ds_applied.proofs.entity_map.EntityMap.get.Goals as goal
 
 pub returns : goal.returns

@@ -1,0 +1,5 @@
+pub mod FirstLaws
+pub mod MarkLaws
+pub mod PageLaws
+pub mod PlaceLaws
+pub mod PlaceOrder
