@@ -1,5 +1,6 @@
 -- What happens in a run over single events: the steps that were taken, what there was before and after each, and what was said.
-use Rattle.std.specs.Prelude.{◌≡◌, ℕ, ◌+◌, List, [], ◌∷◌, ◌++◌, Option, Some, None, flat_map, map, replicate, slice_get, slice_set, unwrap_or}
+use Rattle.std.specs.Prelude.{◌≡◌, ℕ, ◌+◌, List, [], ◌∷◌, ◌++◌, Option, Some, None, flat_map, map, replicate, slice_get, slice_set}
+use Rattle.std.specs.Prelude.{unwrap_or}
 use Rattle.std.specs.Option.{option_map}
 use Rattle.ds_base.specs.Limits.{greatest_client}
 use Rattle.ds_log.specs.declared.Commit.{Commit}

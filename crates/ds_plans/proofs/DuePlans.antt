@@ -38,14 +38,15 @@ use Rattle.ds_plans.specs.declared.effect.Effect.{Effect}
 use Rattle.ds_plans.specs.declared.effect.Effect.TheVariants as effect
 use Rattle.ds_plans.specs.declared.effect.Plan.{Plan}
 use Rattle.ds_base.specs.declared.results.Seen.TheVariants as seen
-use Rattle.ds_applied.specs.ByKey.{sorted_by_key}
+use Rattle.ds_base.specs.EntityOrder.{sorted_by_key}
 use Rattle.ds_protocol.specs.declared.preparing.Ready.{Ready}
 use Rattle.ds_protocol.specs.declared.searching.Search.{Search}
 use Rattle.ds_protocol.specs.Quiet.{IsQuiet}
 use Rattle.ds_protocol.specs.Searches.{IsSearchOf, search_parts}
 use Rattle.ds_plans.specs.Answered.{IsPlan}
 use Rattle.ds_plans.specs.Queries.{IsPrepared, told_over}
-use Rattle.ds_plans.specs.Due.{GatheredParts, IsDue, IsDuePlan, IsGathered, AreViewed, AreCovering, counts_applied, ids_of, ids_from, is_pending}
+use Rattle.ds_plans.specs.Due.{GatheredParts, IsDue, IsDuePlan, IsGathered, AreViewed, AreCovering, counts_applied, ids_of, ids_from}
+use Rattle.ds_plans.specs.Due.{is_pending}
 use Rattle.ds_plans.specs.Effects.{store_after, session_after}
 use Rattle.ds_plans.specs.Reads.{IsPulled}
 use Rattle.ds_plans.specs.States.{StoreParts, StateParts, IsSession, IsState, AreUpTo, world}

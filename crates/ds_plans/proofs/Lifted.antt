@@ -16,7 +16,7 @@ use Rattle.ds_model.specs.Legal.{drawn_by_call}
 use Rattle.ds_model.specs.Sessions.{Session}
 use Rattle.ds_model.specs.Worlds.{shard_lists}
 use Rattle.ds_model.proofs.LongerJournals.{AreLonger, body-grown}
-use Rattle.ds_applied.proofs.FollowLaws.{shard_list-append, later_entries}
+use Rattle.ds_log.specs.ShardLaws.{shard_list-append, later_entries}
 use Rattle.ds_protocol.specs.Saying.{no_memory_reply}
 use Rattle.ds_plans.specs.declared.effect.Effect.{Effect}
 use Rattle.ds_plans.specs.Answered.{CallAnswered, IsPlan}

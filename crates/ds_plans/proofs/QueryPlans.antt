@@ -31,12 +31,15 @@ use Rattle.ds_request.specs.declared.call.Call.{Call}
 use Rattle.ds_request.specs.declared.call.Call.TheVariants as call
 use Rattle.ds_reply.specs.declared.reply.Body.{Body}
 use Rattle.ds_reply.specs.declared.reply.Body.TheVariants as body
-use Rattle.ds_merge.specs.Merging.{placed, with_places}
+use Rattle.ds_pages.specs.Pages.{with_places}
+use Rattle.ds_pages.specs.Places.{placed}
 use Rattle.ds_applied.specs.AppliedLists.{AppliedParts, AreCounts, Follows, shard_view, shard_views}
-use Rattle.ds_applied.specs.ByKey.{KeysDiffer, sorted_by_key}
+use Rattle.ds_applied.specs.ByKey.{KeysDiffer}
+use Rattle.ds_base.specs.EntityOrder.{sorted_by_key}
 use Rattle.ds_applied.proofs.GlobalResults.{global_result, global_items}
-use Rattle.ds_applied.proofs.GlobalViews.{global_differ}
-use Rattle.ds_applied.proofs.StrongResults.{HaveAncestor, strong_result, strong_items, normal_have}
+use Rattle.ds_applied.proofs.GlobalResults.{global_differ}
+use Rattle.ds_applied.proofs.StrongViews.{strong_result, strong_items}
+use Rattle.ds_model.proofs.AncestorResults.{HaveAncestor, normal_have}
 use Rattle.ds_model.specs.Answers.{BodyAnswers, CountsWithin, Finds, FoundOver, RequestAnswers, cursor_of, window_of}
 use Rattle.ds_model.specs.Asked
 use Rattle.ds_model.specs.Asked.{search_of}

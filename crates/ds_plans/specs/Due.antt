@@ -1,5 +1,6 @@
 -- What an open request has gathered by the steps of its client, and what its reply is once nothing is missing.
-use Rattle.std.specs.Prelude.{◌≡◌, ◌⊎◌, ℕ, ◌+◌, ◌≤◌, ◌<◌, Bool, true, List, [], ◌∷◌, ◌++◌, Option, Some, None, Ok, IfSome, length, All, ⊤, cond, nat_lt}
+use Rattle.std.specs.Prelude.{◌≡◌, ◌⊎◌, ℕ, ◌+◌, ◌≤◌, ◌<◌, Bool, true, List, [], ◌∷◌, ◌++◌, Option, Some, None, Ok, IfSome, length, All, ⊤}
+use Rattle.std.specs.Prelude.{cond, nat_lt}
 use Rattle.std.specs.List.{range_with_len}
 use Rattle.ds_base.specs.Limits.{first_drawn_id}
 use Rattle.ds_log.specs.declared.Commit.{Commit}

@@ -6,7 +6,7 @@ ghost use Rattle.ds_query.specs.Lawful.{IsLawfulNormal};
 ghost use Rattle.ds_request.specs.declared.call.Call.{Call};
 ghost use Rattle.ds_request.specs.Lawful.{IsLawfulCall};
 ghost use Rattle.ds_applied.specs.AppliedLists.{AreCounts, shard_views};
-ghost use Rattle.ds_applied.specs.ByKey.{sorted_by_key};
+ghost use Rattle.ds_base.specs.EntityOrder.{sorted_by_key};
 ghost use Rattle.ds_protocol.specs.Finishing.{AreByKey};
 ghost use Rattle.ds_protocol.specs.Quiet.{IsQuiet};
 ghost use Rattle.ds_protocol.specs.Searches.{IsLawfulSearch, IsSearchOf};

@@ -1,16 +1,18 @@
 -- Windows between ends, and what texts that are no cursors refuse.
-use Rattle.std.proofs.Common.{◌≡◌, ℕ, ◌≤◌, ◌<◌, arith, length, get_or, Bool, true, false, List, [], ◌∷◌, Option, Some, None, Ok, refl, ap, sym, ◌∙◌, subst}
+use Rattle.std.proofs.Common.{◌≡◌, ℕ, ◌≤◌, ◌<◌, arith, length, get_or, Bool, true, false, List, [], ◌∷◌, Option, Some, None, Ok, refl, ap}
+use Rattle.std.proofs.Common.{sym, ◌∙◌, subst}
 use Rattle.ds_query.specs.declared.branch.Branch.{Branch}
 use Rattle.ds_query.specs.declared.branch.Window.{Window}
 use Rattle.ds_query.specs.declared.field.Field.{Field}
 use Rattle.ds_query.specs.declared.field.Field.TheVariants as field
 use Rattle.ds_query.specs.declared.row.Place.{Place}
 use Rattle.ds_query.specs.Lawful.{IsPlaceless}
-use Rattle.ds_cursor.specs.Cursors.{CursorParts, CursorIs, PartsAre, OfBranch, IsPlaceOf, parts_of, is_of_branch}
+use Rattle.ds_cursor.specs.Cursors.{CursorParts, CursorIs, PartsAre, OfBranch, IsPlaceIn, parts_of, is_of_branch}
 use Rattle.ds_reply.specs.declared.reply.Body.{Body}
 use Rattle.ds_model.specs.Answers.{place_found, window_of}
 use Rattle.ds_model.specs.Asked.{Search}
-use Rattle.ds_model.specs.Refusals.{Told, Nothing, Refused, BeforeFirst, Behind, Places, PlaceRead, PlacesRead, IfUnrefused, cursor_refusal, first_refusal}
+use Rattle.ds_model.specs.Refusals.{Told, Nothing, Refused, BeforeFirst, Behind, Places, PlaceRead, PlacesRead, IfUnrefused, cursor_refusal}
+use Rattle.ds_model.specs.Refusals.{first_refusal}
 use Rattle.ds_protocol.specs.declared.cursors.End.{End}
 use Rattle.ds_protocol.specs.declared.cursors.End.TheVariants as end
 use Rattle.ds_protocol.specs.Cursors.{told, IsEndRefused, WindowRead, WindowRefused, window_between}
@@ -19,13 +21,13 @@ use Rattle.ds_protocol.specs.Preparing.{ArePlacesOf}
 -- ---- one end
 
 -- a text is a cursor only of a place in rows of the branch's columns
-pub place_lawful : (q : Branch) (text : List ℕ) (place : Option Place) → CursorIs q text (Ok place) → IsPlaceOf q.columns place
+pub place_lawful : (q : Branch) (text : List ℕ) (place : Option Place) → CursorIs q text (Ok place) → IsPlaceIn q.columns place
 place_lawful q text place is = by (parts_of text) is where
-  by_branch : (b : Bool) (parts : CursorParts) → OfBranch b q.columns parts.place (Ok place) → IsPlaceOf q.columns place
+  by_branch : (b : Bool) (parts : CursorParts) → OfBranch b q.columns parts.place (Ok place) → IsPlaceIn q.columns place
   by_branch false parts e = cc
   by_branch true parts stands = stands.lawful
 
-  by : (o : Option CursorParts) → PartsAre q o (Ok place) → IsPlaceOf q.columns place
+  by : (o : Option CursorParts) → PartsAre q o (Ok place) → IsPlaceIn q.columns place
   by None e = cc
   by (Some parts) of = by_branch (is_of_branch q parts) parts of
 
@@ -74,8 +76,8 @@ window_unread branches search several = record {
   by (q ∷ r ∷ bs) not_one = (refl, refl)
 
 -- its places are rows of the branch's columns
-pub window_places : (q : Branch) (start e : End) (offset : ℕ) (limit : Option ℕ) → IsPlaceOf q.columns (place_found (told start))
-    → IsPlaceOf q.columns (place_found (told e)) → ArePlacesOf (window_between start e offset limit) q
+pub window_places : (q : Branch) (start e : End) (offset : ℕ) (limit : Option ℕ) → IsPlaceIn q.columns (place_found (told start))
+    → IsPlaceIn q.columns (place_found (told e)) → ArePlacesOf (window_between start e offset limit) q
 window_places q start end.Nothing offset limit from to = record { start = from; end = tt }
 window_places q start end.BeforeFirst offset limit from to = record { start = from; end = tt }
 window_places q start (end.Behind place) offset limit from to = record { start = from; end = to }

@@ -4,9 +4,8 @@ use Rattle.std.specs.Prelude.{bytes_eq, Some, None}
 use Rattle.std.proofs.lemmas.List.{drop_more, drop-drop}
 use Rattle.ds_base.specs.declared.column.Column.{Column}
 use Rattle.ds_base.specs.declared.index_value.IndexValue.{IndexValue}
-use Rattle.ds_query.specs.Filters.{is_key_name}
-use Rattle.ds_model.specs.Rows.{value_columns}
-use Rattle.ds_model.specs.Results.{value_named}
+use Rattle.ds_base.specs.KeyColumn.{is_key_name}
+use Rattle.ds_query.specs.RowValues.{value_columns, value_named}
 
 none : (name : List ℕ) (cs : List Column) → value_named name cs [] ≡ None
 none name [] = refl

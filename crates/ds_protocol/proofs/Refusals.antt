@@ -14,7 +14,8 @@ use Rattle.ds_query.specs.Filters.{is_several}
 use Rattle.ds_query.specs.declared.refusal.QueryRefused.{QueryRefused}
 use Rattle.ds_query.specs.declared.refusal.QueryRefused.TheVariants as query
 use Rattle.ds_query.specs.Normals.{normal_of, normal_form, unless_reason, few_branches}
-use Rattle.ds_query.specs.Reasons.{first_that_holds, reason_of, has_wrong_key, has_unindexed, lacks_kind, two_inequalities, equal_and_range, later_reasons}
+use Rattle.ds_query.specs.Reasons.{first_that_holds, reason_of, has_wrong_key, has_unindexed, lacks_kind, two_inequalities, equal_and_range}
+use Rattle.ds_query.specs.Reasons.{later_reasons}
 use Rattle.std.specs.List.{list_any}
 use Rattle.std.specs.Prelude.{cond}
 use Rattle.ds_query.specs.Lawful.{SuitsSeveral}
@@ -22,7 +23,8 @@ use Rattle.ds_planner.specs.Missing.{missing_of}
 use Rattle.ds_reply.specs.declared.reply.Body.{Body}
 use Rattle.ds_reply.specs.declared.reply.Body.TheVariants as body
 use Rattle.ds_model.specs.Asked.{Search, has_cursors}
-use Rattle.ds_model.specs.Refusals.{Nothing, PlacesRead, IfUnrefused, first_refusal, cursor_refusal, missing_body, missing_refusal, normal_refusal, ancestor_refusal, ancestor_group_refusal, form_refusal, search_refusal}
+use Rattle.ds_model.specs.Refusals.{Nothing, PlacesRead, IfUnrefused, first_refusal, cursor_refusal, missing_body, missing_refusal}
+use Rattle.ds_model.specs.Refusals.{normal_refusal, ancestor_refusal, ancestor_group_refusal, form_refusal, search_refusal}
 use Rattle.ds_model.specs.Sessions.{Session, Transaction}
 use Rattle.ds_protocol.specs.Cursors.{WindowRead, WindowRefused}
 use Rattle.ds_protocol.specs.Preparing.{IsInside, IsReady, IsRefused}

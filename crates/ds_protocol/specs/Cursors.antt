@@ -3,7 +3,7 @@ use Rattle.std.specs.Prelude.{◌≡◌, ℕ, List, [], ◌∷◌, Option, Some,
 use Rattle.ds_query.specs.declared.field.Field.{Field}
 use Rattle.ds_query.specs.declared.branch.Branch.{Branch}
 use Rattle.ds_query.specs.declared.branch.Window.{Window}
-use Rattle.ds_cursor.specs.Cursors.{IsPlaceOf}
+use Rattle.ds_cursor.specs.Cursors.{IsPlaceIn}
 use Rattle.ds_reply.specs.declared.reply.Body.{Body}
 use Rattle.ds_query.specs.declared.field.Field.TheVariants as field
 use Rattle.ds_model.specs.Answers.{place_found, window_of}
@@ -21,7 +21,7 @@ told (end.Behind place) = Behind place
 -- the end is what the text stands for, and its place is one in rows of the branch's columns
 pub record IsEnd (q : Branch) (text : Option (List ℕ)) (e : End) : Type 0 where
   pub read : PlaceRead q text (told e)
-  pub place : IsPlaceOf q.columns (place_found (told e))
+  pub place : IsPlaceIn q.columns (place_found (told e))
 
 -- the text is no cursor of the branch, and this is told of it
 pub record IsEndRefused (q : Branch) (f : Field) (text : Option (List ℕ)) (b : Body) : Type 0 where

@@ -5,7 +5,7 @@ use Rattle.ds_query.specs.declared.branch.Branch.{Branch}
 use Rattle.ds_query.specs.declared.branch.Normal.{Normal}
 use Rattle.ds_query.specs.declared.branch.Window.{Window}
 use Rattle.ds_query.specs.Normals.{normal_form}
-use Rattle.ds_cursor.specs.Cursors.{IsPlaceOf}
+use Rattle.ds_cursor.specs.Cursors.{IsPlaceIn}
 use Rattle.ds_planner.specs.declared.planning.PlanRefused.{PlanRefused}
 use Rattle.ds_planner.specs.declared.planning.PlanRefused.TheVariants as refused
 use Rattle.ds_reply.specs.declared.reply.Body.{Body}
@@ -21,8 +21,8 @@ IsInside inside s = is_some s.transaction ≡ inside
 
 -- the places of a window are rows of the branch's columns
 pub record ArePlacesOf (w : Window) (q : Branch) : Type 0 where
-  pub start : IsPlaceOf q.columns w.start
-  pub end : IsPlaceOf q.columns w.end
+  pub start : IsPlaceIn q.columns w.start
+  pub end : IsPlaceIn q.columns w.end
 
 -- Nothing but its group is left to refuse the search in such a session: its form is fine, its texts are cursors, and each branch has an
 -- index. The normal form and the window are the search's.

@@ -2,9 +2,9 @@
 ghost use Rattle.std.specs.Prelude.{◌≡◌, ◌++◌, ◌∷◌, [], List, map, IfOk, unwrap_or, Some};
 ghost use Rattle.std.specs.Option.{option_copied};
 ghost use Rattle.ds_base.specs.declared.index_value.IndexValue.TheVariants.{Null};
-ghost use Rattle.ds_query.specs.Filters.{is_key_name};
-ghost use Rattle.ds_model.specs.Results.{items_of, item_of, projected_values, value_named, entity_of};
-ghost use Rattle.ds_model.specs.Rows.{value_columns};
+ghost use Rattle.ds_base.specs.KeyColumn.{is_key_name};
+ghost use Rattle.ds_model.specs.Results.{items_of, item_of, projected_values, entity_of};
+ghost use Rattle.ds_query.specs.RowValues.{value_named, value_columns};
 ghost use Rattle.ds_protocol.specs.Finishing.{AreByKey, row_parts, found, found_of};
 ghost use Rattle.ds_protocol.specs.Quiet.{IsQuiet};
 
@@ -13,7 +13,7 @@ use crate::finding::entity_of;
 use crate::searching::Search;
 use ds_base::{
     Column, Columns, Entity, IndexValue, IndexValues, Item, Names, NoMemory, Results, Seen,
-    TextString, TryCopy,
+    TextString, TryCopy, is_key_name,
 };
 use ds_query::{Normal, Place, Row, RowList, Select};
 use ds_reply::Body;
@@ -177,10 +177,4 @@ fn value_named<'a>(
         slot += 1;
     }
     None
-}
-
-fn is_key_name(name: &TextString) -> bool
-    ensures { result ≡ is_key_name name.now }
-{
-    name.text() == "__key__"
 }

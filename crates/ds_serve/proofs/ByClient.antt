@@ -1,5 +1,6 @@
 -- From a round's lines, answered one after another, to what a legal run says of a round.
-use Rattle.std.proofs.Common.{◌≡◌, ℕ, zero, suc, ◌+◌, ◌-◌, ◌<◌, ◌≤◌, ◌⊎◌, inl, inr, List, [], ◌∷◌, ◌++◌, length, refl, ap, sym, ◌∙◌, subst, arith, Option, Some, None, length-append, append_assoc, map}
+use Rattle.std.proofs.Common.{◌≡◌, ℕ, zero, suc, ◌+◌, ◌-◌, ◌<◌, ◌≤◌, ◌⊎◌, inl, inr, List, [], ◌∷◌, ◌++◌, length, refl, ap, sym, ◌∙◌, subst}
+use Rattle.std.proofs.Common.{arith, Option, Some, None, length-append, append_assoc, map}
 use Rattle.std.specs.Prelude.{flat_map, All, Ok, Err, Result, slice_get, slice_set}
 use Rattle.std.specs.List.{range_with_len}
 use Rattle.std.proofs.lemmas.List.Elements.{All-nil, All-cons}
@@ -13,7 +14,7 @@ use Rattle.ds_rounds.specs.Rounds.{NumberedLine}
 use Rattle.ds_model.specs.Answers.{Answers, BodyAnswers}
 use Rattle.ds_model.specs.Asked.{asked}
 use Rattle.ds_model.specs.Worlds.{World, world_of}
-use Rattle.ds_model.specs.Legal.{RoundSteps, Steps, by_client, drawn_by, drawn_in}
+use Rattle.ds_model.specs.Legal.{RoundSteps, ClientSteps, by_client, drawn_by, drawn_in}
 use Rattle.ds_model.specs.Sessions.{Session, met, raised_to}
 use Rattle.ds_core.specs.Cores.{CoreParts}
 use Rattle.ds_serve.specs.declared.asked.Asked.{Asked}
@@ -73,7 +74,7 @@ turn-answers shards w front s others next line a reply asks own turn = by_reques
 -- ---- one client
 
 abbrev ClientRan : ℕ → World → List Session → Session → List Session → List NumberedLine → List Reply → List Session → Type 0
-ClientRan shards w front s others lines replies after = (t : Session) × (after ≡ front ++ t ∷ others) × Steps (asked shards) w s lines replies t
+ClientRan shards w front s others lines replies after = (t : Session) × (after ≡ front ++ t ∷ others) × ClientSteps (asked shards) w s lines replies t
 
 turns-client : (shards : ℕ) (w : World) (client : ℕ) (front : List Session) (s : Session) (others after : List Session) (lines : List NumberedLine) (own : List Asked) (replies : List Reply) → client ≡ length front → AreAsked shards client lines own →
     Turns w (front ++ s ∷ others) own replies after → ClientRan shards w front s others lines replies after

@@ -1,12 +1,13 @@
 -- How a run ends: each end is a legal run of the rounds that were run.
-use Rattle.std.proofs.Common.{◌≡◌, ◌≢◌, ◌⊎◌, inl, inr, ℕ, ◌+◌, ◌<◌, List, [], ◌∷◌, ◌++◌, length, drop, refl, ap, sym, ◌∙◌, subst, arith, Bool, true, false, Option, Some, None, length-append, append_assoc}
+use Rattle.std.proofs.Common.{◌≡◌, ◌≢◌, ◌⊎◌, inl, inr, ℕ, ◌+◌, ◌<◌, List, [], ◌∷◌, ◌++◌, length, drop, refl, ap, sym, ◌∙◌, subst, arith}
+use Rattle.std.proofs.Common.{Bool, true, false, Option, Some, None, length-append, append_assoc}
 use Rattle.std.specs.Prelude.{IfSome, IsSome, Ok, Err, take}
 use Rattle.std.specs.Io.KnownBytes.{Appends, Consumes}
 use Rattle.std.proofs.lemmas.List.{append-nil}
 use Rattle.ds_base.specs.Limits.{most_input_bytes}
 use Rattle.ds_io.specs.FaultLaws.{Rose-next_count}
 use Rattle.ds_io.specs.Faults.{Rose, next_count}
-use Rattle.ds_io.specs.KnownBytesLaws.{Appends-none, Consumes-end, Consumes-none, Consumes-then}
+use Rattle.std.proofs.KnownBytes.{Appends-nil, Consumes-nil, Consumes-trans, Consumes-whole}
 use Rattle.ds_rounds.specs.Reading.{HasRead, MayFollow, ReaderParts, ReadsRound}
 use Rattle.ds_rounds.specs.ReadingLaws.{read_all, read_round, read_until_fault, read_until_limit}
 use Rattle.ds_rounds.specs.Rounds.{NumberedLine, ended_rounds, lines_of_round, rounds_in}
@@ -52,7 +53,7 @@ given {first} {now} {bytes} {rounds} {reader} so_far = by_stage reader.stage ref
   }
   by_stage stage.Ended is = record {
     ended = true;
-    at_the_end = λ e. Consumes-end first now bytes so_far.told (so_far.at_the_end is);
+    at_the_end = λ e. Consumes-whole first now bytes (λ all. all ≡ bytes) so_far.told (so_far.at_the_end is) refl;
     behind = rounds_in true reader.number (reader.buffered ++ []);
     first_ones = of_end true (subst (λ s. MayFollow s true []) (sym is) (refl, refl));
   }
@@ -111,18 +112,20 @@ end_met stage.Failed now going reading ended = absurd (going refl)
 -- the input has ended
 pub ends_done : {words : List (List ℕ)} {content : List ℕ → Option (List ℕ)} {left_first left next held_first held : Option (List ℕ)} {old new : ReaderParts} {s : CoreParts} → HasServed words content left_first left held_first held old s → ReadsRound old new left next (Ok None) → IsLegalRun words content status.Done left_first next s.journal held_first held []
 ends_done {words} {content} {left_first} {left} {next} {held_first} {held} {old} {new} {s} before call =
-    ends status.Done before.setting (before.bytes ++ call.read) true before.set_up before.has_run (Consumes-then left_first left next before.bytes call.read before.has_read.told call.told) (λ is. at_the_end)
+    ends status.Done before.setting (before.bytes ++ call.read) true before.set_up before.has_run (Consumes-trans left_first left next before.bytes call.read before.has_read.told call.told) (λ is. at_the_end)
     (refl, subst (λ n. n < most_input_bytes) (counted_more old new before.bytes call.read before.counted call.counted) call.outcome.2, sym (read_all before.has_read call))
     (all_wrote held_first held before.text before.wrote) where
       met_before : old.stage ≡ stage.Ended → IfSome left_first (λ all. all ≡ before.bytes ++ call.read)
       met_before ended =
           let same : before.bytes ≡ before.bytes ++ call.read = sym (append-nil before.bytes) ∙ ap (λ bs. before.bytes ++ bs) (sym (call.past_the_end ended).0) in
-          subst (λ (bs : List ℕ). IfSome left_first (λ all. all ≡ bs)) same (Consumes-end left_first left before.bytes before.has_read.told (before.has_read.at_the_end ended))
+          subst (λ (bs : List ℕ). IfSome left_first (λ all. all ≡ bs)) same (Consumes-whole left_first left before.bytes (λ all. all ≡ before.bytes) before.has_read.told (before.has_read.at_the_end ended) refl)
 
       at_the_end : IfSome left_first (λ all. all ≡ before.bytes ++ call.read)
       at_the_end =
           end_met old.stage (IfSome left_first (λ all. all ≡ before.bytes ++ call.read)) before.has_read.going
-          (λ reading. Consumes-end left_first next (before.bytes ++ call.read) (Consumes-then left_first left next before.bytes call.read before.has_read.told call.told) (call.to_the_end reading call.outcome.1))
+          (λ reading.
+          Consumes-whole left_first next (before.bytes ++ call.read) (λ all. all ≡ before.bytes ++ call.read)
+          (Consumes-trans left_first left next before.bytes call.read before.has_read.told call.told) (call.to_the_end reading call.outcome.1) refl)
           met_before
 
 -- no further round was read
@@ -133,7 +136,7 @@ ends_refused {words} {content} {left_first} {left} {next} {held_first} {held} {o
 
   ended : (read : List ℕ) (how : Status) → WasSetUp how before.rounds (IsSetting words content before.setting) → Consumes left next read → WereRun how false (before.bytes ++ read) before.rounds → IsLegalRun words content how left_first next s.journal held_first held []
   ended read how set_up told run =
-      ends how before.setting (before.bytes ++ read) false set_up before.has_run (Consumes-then left_first left next before.bytes read before.has_read.told told) (λ is. false_true is) run (all_wrote held_first held before.text before.wrote)
+      ends how before.setting (before.bytes ++ read) false set_up before.has_run (Consumes-trans left_first left next before.bytes read before.has_read.told told) (λ is. false_true is) run (all_wrote held_first held before.text before.wrote)
 
   by_cause : (cause : RoundRefused) → ReadsRound old new left next (Err cause) → IsLegalRun words content (status_of cause) left_first next s.journal held_first held []
   by_cause refused.ReadFault call =
@@ -158,7 +161,7 @@ ends_at_once how words content s left held journal unsent run set_up same_status
     subst (λ (o : Option (List Commit)). IfSome o (λ journal. IsLegalRun words content s left left journal held held unsent)) (sym same_journal)
     (subst (λ (t : Status). IsLegalRun words content t left left [] held held unsent) (sym same_status)
     (subst (λ (rest : List ℕ). IsLegalRun words content how left left [] held held rest) (sym none)
-    (ends how none_set [] false set_up (run_nothing none_set.defs none_set.shards) (Consumes-none left) (λ is. false_true is) run (all_wrote held held [] (Appends-none held)))))
+    (ends how none_set [] false set_up (run_nothing none_set.defs none_set.shards) (Consumes-nil left) (λ is. false_true is) run (all_wrote held held [] (Appends-nil held)))))
 
 -- what is given at the end of a run
 pub told-end : (words : List (List ℕ)) (content : List ℕ → Option (List ℕ)) (how s : Status) (left rest held held_next : Option (List ℕ)) (journal : List Commit) (given_journal : Option (List Commit)) (unsent given_unsent : List ℕ) → s ≡ how → given_journal ≡ Some journal → given_unsent ≡ unsent →

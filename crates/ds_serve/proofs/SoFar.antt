@@ -1,5 +1,6 @@
 -- Rounds that were run one after another, and the legal run that they are.
-use Rattle.std.proofs.Common.{◌≡◌, ℕ, ◌+◌, ◌-◌, ◌<◌, ◌≤◌, List, [], ◌∷◌, ◌++◌, length, refl, ap, sym, ◌∙◌, subst, arith, Option, Some, None, length-append, append_assoc}
+use Rattle.std.proofs.Common.{◌≡◌, ℕ, ◌+◌, ◌-◌, ◌<◌, ◌≤◌, List, [], ◌∷◌, ◌++◌, length, refl, ap, sym, ◌∙◌, subst, arith, Option, Some, None}
+use Rattle.std.proofs.Common.{length-append, append_assoc}
 use Rattle.std.specs.Prelude.{flat_map, All, IsPermutation, Ok, Result}
 use Rattle.std.specs.List.{range_with_len}
 use Rattle.std.specs.Io.KnownBytes.{Appends}
@@ -8,7 +9,7 @@ use Rattle.std.proofs.lemmas.Grind.{flat_map-append}
 use Rattle.std.proofs.lemmas.List.Elements.{All-nil, All-append, All-weaker}
 use Rattle.std.proofs.lemmas.List.Sorted.{IsPermutation-refl}
 use Rattle.ds_base.specs.Limits.{first_drawn_id, greatest_client}
-use Rattle.ds_io.specs.KnownBytesLaws.{Appends-none, Appends-then}
+use Rattle.std.proofs.KnownBytes.{Appends-nil, Appends-trans}
 use Rattle.ds_rounds.specs.Reading.{ReaderParts, ReadsRound, first_reader}
 use Rattle.ds_rounds.specs.ReadingLaws.{read_nothing, read_round}
 use Rattle.ds_rounds.specs.Rounds.{NumberedLine, lines_of_round}
@@ -19,7 +20,8 @@ use Rattle.ds_reply.specs.Replies.{reply_text, replies_text}
 use Rattle.ds_log.specs.declared.Commit.{Commit}
 use Rattle.ds_model.specs.Asked.{Reading, asked}
 use Rattle.ds_model.specs.Worlds.{World, world_of}
-use Rattle.ds_model.specs.Legal.{Legal, RoundSteps, RoundsSteps, acknowledged, accepted, printed_next, answered_lines, by_client, drawn_by, drawn_in}
+use Rattle.ds_model.specs.Legal.{Legal, RoundSteps, RoundsSteps, acknowledged, accepted, printed_next, answered_lines, by_client, drawn_by}
+use Rattle.ds_model.specs.Legal.{drawn_in}
 use Rattle.ds_model.specs.Sessions.{Session, first_session, first_sessions, met}
 use Rattle.ds_core.specs.Cores.{CoreParts}
 use Rattle.ds_serve.specs.declared.settings.Setting.{Setting}
@@ -145,7 +147,7 @@ served_nothing words content setting left held is_set = record {
   has_read = read_nothing left;
   counted = refl;
   has_run = run_nothing setting.defs setting.shards;
-  wrote = Appends-none held;
+  wrote = Appends-nil held;
 }
 
 pub counted_more : (old new : ReaderParts) (bytes read : List ℕ) → old.taken ≡ length bytes → new.taken ≡ old.taken + length read → new.taken ≡ length (bytes ++ read)
@@ -162,5 +164,5 @@ served_round {words} {content} {left_first} {left} {next} {held_first} {held} {h
   has_read = read_round before.has_read call;
   counted = counted_more old new before.bytes call.read before.counted call.counted;
   has_run = run_more before.setting.defs before.setting.shards before.rounds (lines_of_round round) s t before.text text before.has_run ran;
-  wrote = Appends-then held_first held held_next before.text text before.wrote wrote;
+  wrote = Appends-trans held_first held held_next before.text text before.wrote wrote;
 }

@@ -1,6 +1,7 @@
 -- What each step of a run leaves, told of the state before and after it: the words of the proof of the main theorem, which itself
 -- doesn't speak of them.
-use Rattle.std.specs.Prelude.{◌≡◌, ℕ, ◌+◌, ◌-◌, ◌<◌, ◌≤◌, ◌⊎◌, List, [], ◌∷◌, ◌++◌, Option, Result, Ok, Err, Some, drop, length, flat_map, sum_by, slice_get, slice_set, All, ⊤}
+use Rattle.std.specs.Prelude.{◌≡◌, ℕ, ◌+◌, ◌-◌, ◌<◌, ◌≤◌, ◌⊎◌, List, [], ◌∷◌, ◌++◌, Option, Result, Ok, Err, Some, drop, length, flat_map}
+use Rattle.std.specs.Prelude.{sum_by, slice_get, slice_set, All, ⊤}
 use Rattle.std.specs.List.{range_with_len}
 use Rattle.std.specs.Io.KnownBytes.{Appends}
 use Rattle.ds_base.specs.Limits.{first_drawn_id, greatest_client}
@@ -18,7 +19,8 @@ use Rattle.ds_reply.specs.Replies.{reply_text, replies_text}
 use Rattle.ds_log.specs.declared.Commit.{Commit}
 use Rattle.ds_model.specs.Answers.{BodyAnswers}
 use Rattle.ds_model.specs.Asked.{asked}
-use Rattle.ds_model.specs.Legal.{RoundSteps, RoundsSteps, acknowledged, accepted, printed_next, drawn_by, drawn_in, by_client, answered_lines}
+use Rattle.ds_model.specs.Legal.{RoundSteps, RoundsSteps, acknowledged, accepted, printed_next, drawn_by, drawn_in, by_client}
+use Rattle.ds_model.specs.Legal.{answered_lines}
 use Rattle.ds_model.specs.Sessions.{Session, first_sessions, met}
 use Rattle.ds_model.specs.Worlds.{World, world_of}
 use Rattle.ds_protocol.specs.Saying.{no_memory_reply}

@@ -1,5 +1,6 @@
 -- What a run of the server is: the main theorem's words.
-use Rattle.std.specs.Prelude.{◌≡◌, ℕ, ◌+◌, ◌<◌, ◌≤◌, ◌⊎◌, List, [], ◌∷◌, ◌++◌, Bool, true, false, Option, Some, None, IfSome, IsSomeAnd, length, ⊤}
+use Rattle.std.specs.Prelude.{◌≡◌, ℕ, ◌+◌, ◌<◌, ◌≤◌, ◌⊎◌, List, [], ◌∷◌, ◌++◌, Bool, true, false, Option, Some, None, IfSome, IsSomeAnd}
+use Rattle.std.specs.Prelude.{length, ⊤}
 use Rattle.std.specs.Io.KnownBytes.{Appends, Consumes}
 use Rattle.ds_base.specs.Limits.{most_input_bytes}
 use Rattle.ds_io.specs.Faults.{Rose, next_count}

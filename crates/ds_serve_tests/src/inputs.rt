@@ -7,8 +7,8 @@ use std::alloc::{AllocError, Global};
 use std::test::Fail;
 
 /// Inputs, each with its replies: a carriage return before each newline; empty lines at the beginning, twice in a row, of
-/// blanks, and at the end; no last newline; nothing; and empty lines alone.
-const CUT: [(&[u8], &[u8]); 6] = [
+/// blanks, and at the end; no last newline; nothing; empty lines alone; and a byte order mark, which is no part of a line of JSON.
+const CUT: [(&[u8], &[u8]); 7] = [
     (
         b"{\"op\":\"settle\"}\r\n\r\n{\"op\":\"settle\"}\r\n",
         b"{\"applied\":[0],\"client\":0,\"line\":1,\"ok\":\"settle\",\"place\":0}\n{\"applied\":[0],\"client\":0,\"line\":3,\"ok\":\"settle\",\"place\":0}\n",
@@ -23,6 +23,10 @@ const CUT: [(&[u8], &[u8]); 6] = [
     ),
     (b"", b""),
     (b"\n\n\n", b""),
+    (
+        b"\xef\xbb\xbf{\"op\":\"settle\"}\n",
+        b"{\"client\":0,\"error\":1,\"line\":1,\"name\":\"BadJson\"}\n",
+    ),
     (FIRST, REPLIES),
 ];
 
@@ -45,6 +49,19 @@ fn tells_commits_and_calls_the_gate(rt: HostRuntime) -> Result<(), Fail> {
     let ended = served(&rt, rt.alloc(), FIRST, STEADY)?;
     assert!(rt; commits(&ended) == Some(1));
     assert!(rt; ended.begun == 6 && ended.done == 6);
+    Ok(())
+}
+
+#[test]
+fn calls_the_gate_for_each_client(rt: HostRuntime) -> Result<(), Fail> {
+    let text = b"{\"op\":\"settle\"}\n{\"client\":3,\"op\":\"settle\"}\n";
+    let ended = served(&rt, rt.alloc(), text, STEADY)?;
+    assert!(rt; ended.begun == 3_003 && ended.done == 3_003);
+    Ok(())
+}
+
+#[test]
+fn begins_no_run_with_too_many_shards(rt: HostRuntime) -> Result<(), Fail> {
     let words = words(rt.alloc(), "17")?;
     let usage = served_with(&rt, rt.alloc(), words.as_slice(), FIRST, STEADY)?;
     assert!(rt; usage.run.status == Status::Usage);

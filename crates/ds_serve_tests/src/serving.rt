@@ -66,7 +66,7 @@ pub const STEADY: Outside = Outside {
     failing_write: 0,
 };
 
-/// How a run ended, the bytes that were taken, and the lines whose answers began and ended, summed.
+/// How a run ended, the bytes that were taken, and what the gate summed before and after the answers.
 #[derive(Drop)]
 pub struct Ended {
     pub run: Run,
@@ -75,7 +75,7 @@ pub struct Ended {
     pub done: u64,
 }
 
-/// A gate that sums the lines that it is called for.
+/// A gate that sums the lines that it is called for, and a thousand for each client's number.
 #[derive(Drop)]
 struct Summing {
     begun: AtomicU64,
@@ -83,13 +83,18 @@ struct Summing {
 }
 
 impl Gate for Summing {
-    fn before(&self, _client: u32, line: u64) {
-        self.begun.fetch_add(line, Ordering::SeqCst);
+    fn before(&self, client: u32, line: u64) {
+        self.begun
+            .fetch_add(summand(client, line), Ordering::SeqCst);
     }
 
-    fn after(&self, _client: u32, line: u64) {
-        self.done.fetch_add(line, Ordering::SeqCst);
+    fn after(&self, client: u32, line: u64) {
+        self.done.fetch_add(summand(client, line), Ordering::SeqCst);
     }
+}
+
+fn summand(client: u32, line: u64) -> u64 {
+    u64::from(client).wrapping_mul(1000).wrapping_add(line)
 }
 
 /// The words that the server is started with, but for the number of shards.

@@ -42,10 +42,11 @@ fn replies_before(round: usize) -> u64 {
     }
 }
 
-/// Counts the bytes that it takes.
+/// Counts the bytes that it takes, and how often it is flushed.
 #[derive(Drop)]
 struct Counting<'a> {
     taken: &'a AtomicU64,
+    flushes: &'a AtomicU64,
 }
 
 impl Sink for Counting<'_> {
@@ -59,6 +60,7 @@ impl Sink for Counting<'_> {
     }
 
     fn flush(&mut self) -> Result<(), Failed> {
+        self.flushes.fetch_add(1, Ordering::SeqCst);
         Ok(())
     }
 }
@@ -66,6 +68,7 @@ impl Sink for Counting<'_> {
 #[test]
 fn writes_a_round_before_it_reads_the_next(rt: HostRuntime) -> Result<(), Fail> {
     let taken = AtomicU64::new(0);
+    let flushes = AtomicU64::new(0);
     let words = words(rt.alloc(), "1")?;
     let mut files = no_files(rt.alloc());
     let mut input = Waiting {
@@ -73,7 +76,10 @@ fn writes_a_round_before_it_reads_the_next(rt: HostRuntime) -> Result<(), Fail> 
         taken: &taken,
         faults: 0,
     };
-    let mut output = Counting { taken: &taken };
+    let mut output = Counting {
+        taken: &taken,
+        flushes: &flushes,
+    };
     let run = serve(
         &rt,
         rt.alloc(),
@@ -85,5 +91,6 @@ fn writes_a_round_before_it_reads_the_next(rt: HostRuntime) -> Result<(), Fail> 
     );
     assert!(rt; run.status == Status::Done);
     assert!(rt; taken.load(Ordering::SeqCst) == 238);
+    assert!(rt; flushes.load(Ordering::SeqCst) == 3);
     Ok(())
 }

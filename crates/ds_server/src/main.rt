@@ -6,14 +6,14 @@
 
 use ds_io::{NoGate, StdFiles, StdSink, StdSource};
 use ds_serve::{Status, serve};
-use std::alloc::AllocError;
-use std::env;
-use std::io::Write;
+use std::io::{ErrorKind, Write};
 use std::process::ExitCode;
+use std::{env, io};
 
 fn main(rt: HostRuntime) -> ExitCode {
-    let Ok(words) = words(&rt) else {
-        return end(&rt, Status::NoMemory);
+    let words = match words(&rt) {
+        Ok(words) => words,
+        Err(error) => return end(&rt, unread(&error)),
     };
     let mut files = StdFiles::new(&rt);
     let mut input = StdSource::new(rt.stdin());
@@ -30,16 +30,24 @@ fn main(rt: HostRuntime) -> ExitCode {
     end(&rt, run.status)
 }
 
-/// The words behind the program's name. An error is want of memory.
-fn words(rt: &HostRuntime) -> Result<Vec<String>, AllocError> {
+/// The words behind the program's name. An error of the kind `InvalidData` tells that one isn't UTF-8; any other is want of
+/// memory.
+fn words(rt: &HostRuntime) -> io::Result<Vec<String>> {
     let mut words = Vec::new(rt.alloc());
-    let Ok(all) = env::args(rt) else {
-        return Err(AllocError);
-    };
-    for word in all.skip(1) {
-        words.push(word)?;
+    for word in env::args(rt)?.skip(1) {
+        if words.push(word).is_err() {
+            return Err(io::Error::from(ErrorKind::OutOfMemory));
+        }
     }
     Ok(words)
+}
+
+/// How a run ends whose words could not be had: a word that isn't UTF-8 leaves the form of the words, as any other that does.
+fn unread(error: &io::Error) -> Status {
+    match error.kind() {
+        ErrorKind::InvalidData => Status::Usage,
+        _ => Status::NoMemory,
+    }
 }
 
 /// Tells on standard error how the run ended, unless all went well, and gives the number of its status.

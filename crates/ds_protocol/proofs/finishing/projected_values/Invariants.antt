@@ -2,8 +2,7 @@
 use Rattle.std.proofs.Common.{◌≡◌, map, take}
 use Rattle.std.specs.Prelude.{unwrap_or}
 use Rattle.ds_base.specs.declared.index_value.IndexValue.TheVariants.{Null}
-use Rattle.ds_model.specs.Rows.{value_columns}
-use Rattle.ds_model.specs.Results.{value_named}
+use Rattle.ds_query.specs.RowValues.{value_columns, value_named}
 use Rattle.ds_protocol.proofs.finishing.projected_values.Given as goal
 
 abbrev pub invariant-loop-name : goal.invariant-loop-name

@@ -1,7 +1,6 @@
 -- The name wasn't among the columns so far, and `slot` of them have values.
 use Rattle.std.proofs.Common.{◌≡◌, ◌≤◌, drop}
-use Rattle.ds_model.specs.Rows.{value_columns}
-use Rattle.ds_model.specs.Results.{value_named}
+use Rattle.ds_query.specs.RowValues.{value_columns, value_named}
 use Rattle.ds_protocol.proofs.finishing.value_named.Given as goal
 
 abbrev pub invariant-loop-column : goal.invariant-loop-column

@@ -1,10 +1,10 @@
 use Rattle.std.proofs.Common.{take, ◌∙◌, arith, refl}
-use Rattle.ds_io.specs.KnownBytesLaws.{Appends-none}
+use Rattle.std.proofs.KnownBytes.{Appends-nil}
 use Rattle.ds_serve.proofs.Written.{written_more}
 use Rattle.ds_serve.proofs.output.write_all.Goals as goal
 
 pub write-init : goal.write-init
-write-init g c = (omega arith, Appends-none (g.O.Sink.held c.args.output.now), refl)
+write-init g c = (omega arith, Appends-nil (g.O.Sink.held c.args.output.now), refl)
 
 pub write-preserved : goal.write-preserved
 write-preserved g c = (

@@ -4,7 +4,8 @@ use Rattle.ds_plans.proofs.DuePlans.{due_of}
 use Rattle.std.proofs.Common.{◌≡◌, true}
 use Rattle.std.specs.Prelude.{is_some}
 use Rattle.ds_plans.proofs.ToldPlans.{commit-is}
-use Rattle.ds_plans.proofs.state.State.commit_due.Goals.{then-is_commit-via-then-is_commit, then-is_commit-via-else-is_commit+then-not-in_transaction}
+use Rattle.ds_plans.proofs.state.State.commit_due.Goals.{then-is_commit-via-then-is_commit}
+use Rattle.ds_plans.proofs.state.State.commit_due.Goals.{then-is_commit-via-else-is_commit+then-not-in_transaction}
 use Rattle.ds_plans.proofs.state.State.commit_due.Goals as goal
 
 pub returns-then-is_commit-clause-plan : goal.returns-then-is_commit-clause-plan

@@ -7,7 +7,7 @@ use Rattle.ds_plans.proofs.Plans.{memory_as}
 use Rattle.std.proofs.Common.{refl}
 use Rattle.ds_base.specs.declared.results.Seen.TheVariants as seen
 use Rattle.ds_applied.specs.AppliedLists.{shard_views}
-use Rattle.ds_applied.specs.ByKey.{sorted_by_key}
+use Rattle.ds_base.specs.EntityOrder.{sorted_by_key}
 use Rattle.ds_plans.specs.declared.effect.Effect.TheVariants as effect
 use Rattle.ds_plans.specs.Told.{AreViewsOf}
 use Rattle.ds_plans.proofs.ToldPlans.{kept-told, search-numbers}
