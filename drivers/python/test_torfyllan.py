@@ -123,6 +123,8 @@ class Requests(WithServer):
         self.assertEqual(other.get(Key("T", "a", namespace="one")).entity.key.namespace, "one")
         self.client.settle()
         self.assertEqual((one.query("T", select="keys").results, other.query("T").results), ([Key("T", "a")], []))
+        found = other.query("T", namespace="one", filters=[("ref", "=", Key("T", "b", namespace="one"))], select="keys")
+        self.assertEqual((found.results, other.server), ([Key("T", "a", namespace="one")], self.server))
         with self.assertRaises(torfyllan.BadRequest):
             self.server.client(3, namespace="a b").query("T")
 
@@ -163,7 +165,10 @@ class Transactions(WithServer):
                 self.counted(self.client)
                 other.put(Key("C", "c"), n=9)
         self.assertEqual((caught.exception.group, caught.exception.commit), (Key("C", "c"), 1))
-        self.assertIn("commit of client 0, commit 1, group Key('C', 'c')", str(caught.exception))
+        said = str(caught.exception)
+        self.assertIn("the group Key('C', 'c'), which the transaction touched, was written meanwhile: put of Key('C', 'c'), commit 1 of client 1 at ", said)
+        self.assertRegex(said, r"test_torfyllan\.py:\d+\. Nothing of the transaction is written")
+        self.assertIn("(Conflict, error 13: commit of client 0, line ", said)
 
     def test_shards_apply_apart(self):
         with Server() as server:
@@ -193,8 +198,16 @@ class Rounds(WithServer):
         self.assertEqual(sorted(put.reply.commit for put in puts), list(range(1, 17)))
         self.assertEqual([read.reply.entity["n"] for read in reads], list(range(16)))
 
-    def test_a_refusal_in_a_round_is_kept_for_its_line(self):
-        with self.server.round() as round:
+    def test_a_refusal_is_raised_at_the_end_of_a_round(self):
+        with self.assertRaises(torfyllan.BadQuery) as caught:
+            with self.server.round() as round:
+                good = round.client(1).put(Key("T", "a"))
+                bad = [round.client(0).query("T", filters=[("a", "=", 1), ("a", ">", 0)]) for _ in range(3)]
+        self.assertIn("2 more of the round were refused", str(caught.exception))
+        self.assertEqual((good.reply.commit, bad[2].refused.reason), (1, "equal_and_range"))
+
+    def test_a_refusal_in_a_round_is_kept_for_its_line_where_this_is_asked(self):
+        with self.server.round(raises=False) as round:
             bad = round.client(0).query("T", filters=[("a", "=", 1), ("a", ">", 0)])
             good = round.client(1).put(Key("T", "a"))
             with self.assertRaises(torfyllan.TorfyllanError):
@@ -274,13 +287,13 @@ class Failures(unittest.TestCase):
         for words in ({"shards": 17}, {"appliers": 9}, {"window": 0}, {"indexes": "- kind: T\n"}):
             with self.assertRaises(ValueError):
                 Server(**words).start()
-        with self.assertRaises(ServerFailed) as caught:
+        with self.assertRaises(torfyllan.IndexFileError) as caught:
             Server(indexes="no_such_index.yaml").start()
         self.assertIn("no_such_index.yaml", str(caught.exception))
-        with self.assertRaises(ServerFailed) as caught:
+        with self.assertRaises(torfyllan.IndexFileError) as caught:
             Server(indexes="indexes:\n- kind: T\n  order: yes\n").start()
-        self.assertIn("before its first reply, with status 2", str(caught.exception))
-        self.assertIn("index file: line 3", str(caught.exception))
+        self.assertEqual(caught.exception.line, 3)
+        self.assertIn("line 3: order: yes\n    expected `kind:`, `ancestor:` or `properties:`, and not `order:`", str(caught.exception))
 
     def test_a_server_is_stopped_and_stays_so(self):
         with Server() as server:

@@ -1,0 +1,25 @@
+"""The exceptions that are no refusals of the server."""
+from typing import Any
+
+
+class TorfyllanError(Exception):
+    """What this package raises, beside TypeError and ValueError for wrong arguments."""
+
+
+class ServerFailed(TorfyllanError):
+    """The server died, sent what is no reply, or sent nothing in time. It can't be used any more."""
+
+
+class BlockEnded(TorfyllanError):
+    """An operation in a transaction's `with` block, behind the end of the transaction."""
+
+
+class IndexFileError(TorfyllanError, ValueError):
+    """An index file that can't be read, or says what the server has no form for; `line` is its number in the file."""
+
+    def __init__(self, text: str, line: int = 0) -> None:
+        super().__init__(text)
+        self.line = line
+
+    def __reduce__(self) -> Any:
+        return type(self), (str(self), self.line)

@@ -1,0 +1,419 @@
+"""The server, as a test has it: its clients, its rounds, and how it is started."""
+import collections
+import os
+import tempfile
+import threading
+from typing import Any, Collection, Deque, Dict, List, Optional, Sequence, Set, Tuple, Type, Union
+
+from . import indexes as index_files
+from .client import Client
+from .consistency import Consistency
+from .drawing import Drawing
+from .errors import ServerFailed, TorfyllanError
+from .journal import Journal, Session, Site, Write, calling_site
+from .lines import line_of, rounds_of
+from .log import Log, Recorder
+from .process import Process, Tell, found_program, tell_on_stderr
+from .refusals import MissingIndex, Refused, refusal
+from .replies import Reply
+from .rounds import Asked, Pending, Round
+from .shards import FIRST_DRAWN, LAST_ID, even_start
+from .values import Key
+from .wire import key_in, lists_of
+
+# A report of pytest shows the test's own lines, and none of these.
+__tracebackhide__ = True
+
+CLIENTS = 16
+"""How many clients a server has; they are numbered from 0."""
+
+_STALE_KEPT = 100
+
+
+class Server:
+    """A server as a context manager.
+
+    `indexes` is the name of an index file, or its text, in any form that App Engine's tools read; where it isn't given there are no composite
+    indexes. `auto_index` adds the entry of each `MissingIndex` to that file. `shards` is 1 to 16: a get, and a query with an ancestor,
+    first apply what waits in the shard of their group, so with one shard any of them shows every earlier write to all queries; with the
+    sixteen that are the default here a stale read stays stale for longer. `appliers` is the number of background appliers: with none, which
+    is the default, a write is applied when a test says so, by `settle`, `apply` or a read that is up to date, and so each run of a test shows
+    the same. `window` is the number of versions that are kept.
+
+    `consistency` is `"explicit"` (as just told), `"strong"` (each write is applied before its call returns), or a share from 0 to 1 of the writes
+    that are applied so, drawn by `seed`. `many` names properties that are lists in each reply, as `"Task.tags"`, or `"tags"` of every kind.
+    `log` is the name of a file, as `run.jsonl`, that keeps the talk (see `torfyllan.log.Log`). `draw` is the name of a file, as `run.html`: a page
+    that shows the run is written there when the server ends.
+
+    `program` is the program, or a list of it and its first words; else it is what the environment's TORFYLLAN names, or `run` of the repository that
+    this package stands in, which builds the server the first time: `start_timeout` seconds are given to it, and `tell` is called with
+    the progress, which goes to standard error where it isn't given. A reply that doesn't come within `timeout` seconds is a `ServerFailed`.
+
+    Several threads may use it, a client number each: their rounds are sent one after another.
+    """
+
+    def __init__(
+        self,
+        *,
+        indexes: Union[str, "os.PathLike[str]", None] = None,
+        auto_index: bool = False,
+        shards: int = 16,
+        appliers: int = 0,
+        window: Optional[int] = None,
+        consistency: Union[str, float] = "explicit",
+        seed: int = 0,
+        many: Collection[Any] = (),
+        log: Optional[str] = None,
+        draw: Union[str, "os.PathLike[str]", None] = None,
+        program: Any = None,
+        timeout: float = 60.0,
+        start_timeout: float = 7200.0,
+        tell: Optional[Tell] = None,
+    ) -> None:
+        for name, value, least, most in (("shards", shards, 1, 16), ("appliers", appliers, 0, 8), ("window", window, 1, 65_536)):
+            if value is not None and (not isinstance(value, int) or not least <= value <= most):
+                raise ValueError(f"{name} is {least} to {most:,}, and not {value!r}")
+        self.shards = shards
+        self.appliers = appliers
+        self.window = window
+        self._program: Optional[Sequence[str]] = [os.fspath(program)] if isinstance(program, (str, os.PathLike)) else program
+        self._indexes = index_files.Given(indexes, auto_index)
+        self._consistency = Consistency(consistency, seed)
+        self._many_of_all = set(lists_of(many))
+        self._recorders: List[Recorder] = [*([Log(log)] if log is not None else []), *([Drawing(draw)] if draw is not None else [])]
+        self._timeout = timeout
+        self._start_timeout = start_timeout
+        self._tell = tell or tell_on_stderr
+        self._lock = threading.RLock()
+        self._folder: Optional["tempfile.TemporaryDirectory[str]"] = None
+        self._process: Optional[Process] = None
+        self._image: Optional[Dict[str, Any]] = None
+        self._clients: Dict[Tuple[int, str], Client] = {}
+        self._forget()
+
+    def _forget(self) -> None:
+        """What is known of a run, as before its first line."""
+        self._line = 1
+        self._journal = Journal(self.shards)
+        self._sessions = [Session() for _ in range(CLIENTS)]
+        self._many: Dict[str, Set[Tuple[str, str]]] = {}
+        self._due: Dict[Key, None] = {}
+        self._settle_due = False
+        self._consistency.restart()
+        self._stale: Deque[Tuple[Client, Dict[str, Any], Reply, Site]] = collections.deque(maxlen=_STALE_KEPT)
+
+    # -- starting and stopping
+
+    def __enter__(self) -> "Server":
+        return self.start()
+
+    def __exit__(self, kind: Optional[Type[BaseException]], error: Optional[BaseException], trace: Any) -> None:
+        if kind is None:
+            self.stop()
+        else:
+            self.kill()
+
+    @property
+    def is_alive(self) -> bool:
+        """Whether the program is running."""
+        return self._process is not None and self._process.is_alive
+
+    def start(self) -> "Server":
+        """Starts the program, and waits until it has answered a first line. A wrong index file is an `IndexFileError`."""
+        if self._process is not None:
+            raise TorfyllanError("this server has been started before: make another one, or call reset()")
+        self._indexes.read()
+        program = list(self._program or found_program())
+        self._folder = tempfile.TemporaryDirectory(prefix="torfyllan-")
+        try:
+            self._launch([*program, *self._words()], None)
+        except BaseException:
+            self.kill()
+            raise
+        assert self._process is not None
+        self._image = self._process.image()
+        return self
+
+    def _plain_words(self) -> List[str]:
+        given = (("--shards", self.shards), ("--appliers", self.appliers), ("--window", self.window))
+        return [word for name, value in given if value is not None for word in (name, str(value))]
+
+    def _words(self) -> List[str]:
+        assert self._folder is not None
+        words = self._plain_words()
+        if self._indexes.text is not None:
+            name = os.path.join(self._folder.name, "index.yaml")
+            with open(name, "w", encoding="utf-8") as file:
+                file.write(self._indexes.text)
+            words += ["--indexes", name]
+        return words
+
+    def _launch(self, words: Sequence[str], executable: Optional[str]) -> None:
+        """Starts the program, and has a first line answered."""
+        assert self._folder is not None
+        self._forget()
+        self._process = Process(words, os.path.join(self._folder.name, "stderr"), executable)
+        for recorder in self._recorders:
+            recorder.begin(self._plain_words(), self._indexes.text)
+        try:
+            self._ask_round([(self.client(0), {"client": 0, "op": "settle"})], seconds=self._start_timeout, tell=self._tell)
+        except ServerFailed as failed:
+            self._indexes.explain(str(failed))
+            raise
+
+    def reset(self) -> None:
+        """Starts the program anew, within some hundredths of a second: no entity, commit or open transaction is left, ids are drawn from
+        the first on, and the index file is read again. Clients that were made stay good."""
+        with self._lock:
+            if self._process is None or self._folder is None:
+                raise TorfyllanError("the server isn't running: start() it first")
+            self._process.kill()
+            self._end_recorders()
+            self._indexes.read()
+            words = self._words()
+            try:
+                if self._image is not None and os.path.exists(self._image["executable"]):
+                    self._launch(self._image["words"], self._image["executable"])
+                else:
+                    self._launch([*(self._program or found_program()), *words], None)
+            except BaseException:
+                self.kill()
+                raise
+
+    def stop(self) -> None:
+        """Ends the input, and waits for the server's end. A status that isn't 0 is a `ServerFailed`."""
+        if self._process is None or self._folder is None:
+            return
+        try:
+            self._process.stop(self._timeout)
+        finally:
+            self._close()
+
+    def kill(self) -> None:
+        """Ends the server at once."""
+        if self._process is not None:
+            self._process.kill()
+        self._close()
+
+    def _close(self) -> None:
+        if self._folder is not None:
+            self._end_recorders()
+            self._folder.cleanup()
+            self._folder = None
+
+    def _end_recorders(self) -> None:
+        for recorder in self._recorders:
+            recorder.end()
+
+    # -- clients and rounds
+
+    def client(self, number: int = 0, *, namespace: str = "") -> Client:
+        """A client of this number, from 0 to 15. All that it names without a namespace stands in this one."""
+        if not 0 <= number < CLIENTS:
+            raise ValueError(f"clients are numbered from 0 to {CLIENTS - 1}, and not {number}")
+        return self._clients.setdefault((number, namespace), Client(self, number, namespace))
+
+    def clients(self) -> List[Client]:
+        """The clients that were made."""
+        return list(self._clients.values())
+
+    def round(self, *, raises: bool = True) -> Round:
+        """A round of several clients' lines. With `raises=False` no refusal is raised at its end: each is the `refused` of its line."""
+        return Round(self, raises)
+
+    def _long_round(self) -> Round:
+        """Lines that are sent as one round, or as several where they are too many."""
+        return Round(self, split=True)
+
+    def reserve_ids(self, above: int) -> None:
+        """Sees to it that ids up to this one, which entities of another store have, can be put, and that the server draws only greater ones."""
+        if not 1 <= above < LAST_ID:
+            raise ValueError(f"ids are 1 to {LAST_ID - 1}, and not {above}")
+        if above < FIRST_DRAWN:
+            return
+        with self._lock:
+            client = self.client(0)
+            first = client.allocate_ids(1).first
+            if first < above:
+                client.allocate_ids(above - first)
+
+    def _even_ids(self) -> None:
+        """Draws ids so that the groups of those that come next have the shards that they have on a new server."""
+        with self._lock:
+            first = self.client(0).allocate_ids(1).first
+            start = even_start(first + 1)
+            if start is not None and start > first + 1:
+                self.client(0).allocate_ids(start - first - 1)
+
+    def _note_many(self, namespace: str, kind: str, name: str) -> None:
+        self._many.setdefault(namespace, set()).add((kind, name))
+
+    # -- a round
+
+    def _ask_round(
+        self,
+        asked: Sequence[Asked],
+        pendings: Optional[Sequence[Pending]] = None,
+        sites: Optional[Sequence[Site]] = None,
+        split: bool = False,
+        seconds: Optional[float] = None,
+        tell: Optional[Tell] = None,
+    ) -> Sequence[Pending]:
+        """Sends lines as one round, or where `split` as several, and gives each its reply."""
+        pendings = pendings if pendings is not None else [Pending() for _ in asked]
+        sites = sites if sites is not None else [calling_site()] * len(asked)
+        with self._lock:
+            if asked and (self._process is None or self._folder is None):
+                never = "the server isn't running: start() it, or use it in a `with` block"
+                raise ServerFailed(self._process.why if self._process is not None else never)
+            lines, owners = self._lines(asked)
+            for first, end in rounds_of(lines, split):
+                members = self._exchange(lines[first:end], seconds or self._timeout, tell)
+                self._take(asked, pendings, sites, owners[first:end], members)
+                self._apply_due()
+        return pendings
+
+    def _lines(self, asked: Sequence[Asked]) -> Tuple[List[bytes], List[Optional[int]]]:
+        """The lines to send, and to which of the asked each belongs; a settle that the consistency adds behind a write belongs to none."""
+        lines: List[bytes] = []
+        owners: List[Optional[int]] = []
+        open_now = {number: session.is_open for number, session in enumerate(self._sessions)}
+        for place, (client, members) in enumerate(asked):
+            op, number = members["op"], client.number
+            lines.append(line_of(members, client.namespace))
+            owners.append(place)
+            if op == "begin" or op in ("commit", "rollback"):
+                open_now[number] = op == "begin"
+            if self._consistency.is_strong and (op == "commit" or (op in ("put", "delete") and not open_now[number])):
+                lines.append(line_of({"client": number, "op": "settle"}, ""))
+                owners.append(None)
+        return lines, owners
+
+    def _exchange(self, lines: Sequence[bytes], seconds: float, tell: Optional[Tell]) -> List[Dict[str, Any]]:
+        """Sends a round, and gives the replies' members in the order of its lines."""
+        assert self._process is not None
+        first, self._line = self._line, self._line + len(lines) + 1
+        text = b"".join(line + b"\n" for line in lines) + b"\n"
+        numbers = range(first, first + len(lines))
+        try:
+            for recorder in self._recorders:
+                recorder.asked(text)
+            replied = self._process.talk(text, len(lines), seconds, tell)
+            for recorder in self._recorders:
+                recorder.answered(replied)
+            by_line = {reply.get("line"): reply for reply in map(self._process.reply_in, replied)}
+            missing = [number for number in numbers if number not in by_line]
+            if missing:
+                self._process.fail(f"line {missing[0]} got no reply")
+        except BaseException:
+            # Whatever went wrong in the middle of a round has ended the server.
+            self.kill()
+            raise
+        return [by_line[number] for number in numbers]
+
+    def _take(
+        self,
+        asked: Sequence[Asked],
+        pendings: Sequence[Pending],
+        sites: Sequence[Site],
+        owners: Sequence[Optional[int]],
+        members: Sequence[Dict[str, Any]],
+    ) -> None:
+        """Makes replies of the members, and keeps what they say of commits and transactions."""
+        writes: List[Write] = []
+        unsettled: Set[int] = set()
+        for owner, told in zip(owners, members):
+            if owner is None:
+                if "error" not in told:
+                    unsettled.discard(told["client"])
+                continue
+            client, sent = asked[owner]
+            reply = self._reply(client, sent, told)
+            write = self._hear(client, sent, reply, sites[owner])
+            if write is not None:
+                writes.append(write)
+                unsettled.add(client.number)
+            pendings[owner]._answer(reply, self._refused(client, sent, reply) if "error" in told else None)
+        self._draw(writes)
+        self._settle_due = self._settle_due or (self._consistency.is_strong and bool(unsettled))
+        self._journal.record(writes)
+        for owner in owners:
+            reply_or_none = pendings[owner]._reply if owner is not None else None
+            if owner is not None and reply_or_none is not None and "results" in reply_or_none._members and "applied" in reply_or_none._members:
+                client, sent = asked[owner]
+                reply_or_none._is_stale(self._journal, sent)
+                if reply_or_none._stale is not None:
+                    self._stale.append((client, sent, reply_or_none, sites[owner]))
+
+    def _reply(self, client: Client, sent: Dict[str, Any], told: Dict[str, Any]) -> Reply:
+        select = sent.get("select")
+        projected = isinstance(select, list)
+        if sent["op"] == "gql":
+            words = sent["text"].split(None, 2)
+            projected = len(words) > 1 and words[0].upper() == "SELECT" and not words[1].startswith("*")
+        return Reply(told, client.namespace, projected, self._many_of_all | self._many.get(client.namespace, set()))
+
+    def _hear(self, client: Client, sent: Dict[str, Any], reply: Reply, site: Site) -> Optional[Write]:
+        """Keeps what a reply says of the client's transaction; gives the commit that it tells."""
+        op, session, told = sent["op"], self._sessions[client.number], reply._members
+        if "error" in told:
+            if told["name"] in ("Conflict", "Expired"):
+                session.end(told["name"])
+            return None
+        if op == "begin":
+            session.begin(bool(sent.get("xg")), site)
+        elif op == "rollback":
+            session.end(op)
+        elif op == "commit":
+            written = tuple(session.written)
+            session.end(op)
+            return Write(told["commit"], client.number, op, written, site, told["line"])
+        elif op in ("put", "delete"):
+            key = _absolute(told["key"], client.namespace)
+            if "commit" in told:
+                return Write(told["commit"], client.number, op, (key,), site, told["line"])
+            session.written.append(key)
+            session.touched[told["key"].root] = None
+        elif session.is_open and (sent.get("key") or sent.get("ancestor")):
+            session.touched[key_in(sent.get("key") or sent["ancestor"], client.namespace).root] = None
+        return None
+
+    def _refused(self, client: Client, sent: Dict[str, Any], reply: Reply) -> Refused:
+        refused = refusal(reply, sent, client.namespace, self.shards)
+        session = self._sessions[client.number]
+        if refused.name == "Conflict":
+            refused.writer = self._journal.writer(reply.commit)
+        refused.begun = session.begun if session.is_open else None
+        refused.touched = tuple(session.touched)
+        if isinstance(refused, MissingIndex):
+            refused.added_to = self._indexes.add(refused.index_yaml)
+        return refused
+
+    # -- what the consistency applies
+
+    def _draw(self, writes: Sequence[Write]) -> None:
+        if self._consistency.share is None:
+            return
+        for write in writes:
+            for root in {key.root: None for key in write.keys}:
+                if self._consistency.draw(root.namespace or ""):
+                    self._due[root] = None
+
+    def _apply_due(self) -> None:
+        """Applies what the consistency says, by a client that has no open transaction; where all have one, it waits for the next round."""
+        if not self._due and not self._settle_due:
+            return
+        free = next((number for number, session in enumerate(self._sessions) if not session.is_open), None)
+        if free is None:
+            return
+        lines = [{"client": free, "op": "settle"}] if self._settle_due else []
+        for root in self._due:
+            parts: List[Any] = [root.namespace] if root.namespace else []
+            lines.append({"client": free, "op": "get", "key": parts + [list(root.path[0])]})
+        self._due, self._settle_due = {}, False
+        self._exchange([line_of(members, "") for members in lines], self._timeout, None)
+
+
+def _absolute(key: Key, namespace: str) -> Key:
+    """The key with its namespace written out."""
+    return key if key.namespace is not None else Key(*(word for pair in key.path for word in pair), namespace=namespace)
