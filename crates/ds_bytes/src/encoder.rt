@@ -1,4 +1,15 @@
-//! Keys and values as bytes.
+//! Keys and values as bytes, whose grammar this is; numbers are hexadecimal bytes.
+//!
+//!     key        = [03 text] {02 text identifier} 01       a namespace that isn't the default; each element's kind
+//!     identifier = 10 number | 20 text                     an id, or a name
+//!     value      = 10                                      null
+//!                | 20 number                               an integer, a date or a rating, raised by 2^63
+//!                | 30 00 | 30 01                           false, true
+//!                | 40 text | 50 key                        a string or byte string; a key
+//!     text       = {byte} 00 01                            each byte 00 as 00 ff
+//!     number     = 8 bytes, highest first
+//!
+//! A descending encoding is an ascending one with each byte taken from 255.
 ghost use Rattle.std.specs.Prelude.{◌≡◌, ◌+◌, ◌≤◌, ◌++◌, ◌∷◌, length, All, OnOk, OnErr, IsOk};
 ghost use Rattle.ds_bytes.specs.Encoding.{encoding, key_encoding, escaped, ancestor_of, eight_bytes, raised, ident_bytes, elem_bytes};
 ghost use Rattle.ds_bytes.specs.Encoding.{key_bytes, namespace_bytes, path_bytes, value_bytes};

@@ -1,13 +1,10 @@
 -- Which bytes are a row of these columns.
-use Rattle.std.specs.Prelude.{◌≡◌, ℕ, Bool, not, List, map, filter, length, All}
+use Rattle.std.specs.Prelude.{◌≡◌, ℕ, Bool, List, length, All}
 use Rattle.ds_base.specs.declared.column.Column.{Column}
 use Rattle.ds_bytes.specs.Lawful.{IsLawfulKey, IsLawfulValue}
 use Rattle.ds_bytes.specs.Rows.{RowParts, row_bytes}
-use Rattle.ds_base.specs.KeyColumn.{is_key_name, key_descends}
-
--- the directions of the columns other than `__key__`, for each of which a row has a value; true for a descending one
-abbrev pub directions : List Column → List Bool
-directions columns = map (λ c. c.descending) (filter (λ c. not (is_key_name c.name)) columns)
+use Rattle.ds_base.specs.KeyColumn.{key_descends}
+pub use Rattle.ds_query.specs.RowValues.{directions}
 
 -- One row in columns of these directions, and nothing behind it: a value for each column, and then the key.
 pub record IsRowIn (columns : List Bool) (descending_key : Bool) (bytes : List ℕ) : Type 0 where

@@ -79,13 +79,13 @@ fn parts_of<'a>(bytes: &'a [u8]) -> Option<Parts<'a>>
     ensures { result ≡ parts_of_bytes bytes.now }
 {
     match bytes {
-        [version, a, b, c, d, rest @ ..] => parts_with(*version, number_of(*a, *b, *c, *d), rest),
+        [version, a, b, c, d, rest @ ..] => parts_with(*version, number_from(*a, *b, *c, *d), rest),
         _ => None,
     }
 }
 
 /// The number whose bytes these are, highest first.
-fn number_of(a: u8, b: u8, c: u8, d: u8) -> usize
+fn number_from(a: u8, b: u8, c: u8, d: u8) -> usize
     ensures { result ≡ a * 2 ^ 24 + b * 2 ^ 16 + c * 2 ^ 8 + d }
 {
     a as usize * 0x100_0000 + b as usize * 0x1_0000 + c as usize * 0x100 + d as usize

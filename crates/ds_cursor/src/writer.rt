@@ -1,4 +1,13 @@
-//! Cursors as texts.
+//! Cursors as texts: base64 with padding of these bytes, over the texts, values and keys of `ds_bytes`; numbers are hexadecimal bytes.
+//!
+//!     cursor  = version length query place                 the length of the query bytes in 4 bytes, highest first
+//!     version = 01 | 02                                    02 where the query has a namespace that isn't the default
+//!     query   = [namespace] option(kind) option(ancestor) list(equality) range list(column) select
+//!     range   = 00 | 01 property bound bound               bound = 00 | 01 value (exclusive) | 02 value (inclusive)
+//!     column  = name 00 | name 01                          ascending, descending; an equality is a property and a value
+//!     select  = 00 | 01 | 02 list(name)                    entities, keys, a projection
+//!     place   = 00 | 01 row                                before the first row; behind a row, its columns and its key
+//!     option(x) = 00 | 01 x                                list(x) = {01 x} 00
 ghost use Rattle.std.specs.Prelude.{◌≡◌, ◌<◌, ◌≤◌, ◌^◌, ◌++◌, ◌∷◌, length, take, drop, IfOk, OnOk};
 ghost use Rattle.std.specs.Option.{option_copied};
 ghost use Rattle.base64.specs.Engines.{standard};

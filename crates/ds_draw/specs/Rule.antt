@@ -58,4 +58,5 @@ Looks step me found after = (me.0.counter ≤ found) × (found < 2 ^ 63) × (aft
 -- what an exchange tells: the number found isn't below the seat's counter; where it is the expected one the seat drew,
 -- and else it was a look
 abbrev pub Draws : {S : Type 0} → Step S → Me S Known → ℕ → Me S Known → Type 0
-Draws step me found after = (me.0.counter ≤ found) × (found ≡ step.first → after ≡ (drew me.0 step.first step.second, me.1)) × (found ≢ step.first → after ≡ (looked me.0 found, me.1))
+Draws step me found after = (me.0.counter ≤ found) × (found ≡ step.first → after ≡ (drew me.0 step.first step.second, me.1))
+    × (found ≢ step.first → after ≡ (looked me.0 found, me.1))

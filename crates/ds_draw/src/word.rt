@@ -48,7 +48,11 @@ impl Word {
         requires word { seat.old.word ≡ self.now.name }
         requires some { 0 < count }
         requires limit { at + count < 2 ^ 63 }
-        ensures drawn { seat.new ≡ record { word = seat.old.word; draws = seat.old.draws ++ numbers at (at + count); counter = at + count } }
+        ensures drawn { seat.new ≡ record {
+          word = seat.old.word;
+          draws = seat.old.draws ++ numbers at (at + count);
+          counter = at + count;
+        } }
         ensures risen { seat.old.counter ≤ at }
     {
         for _ in rt.forever() {
@@ -67,7 +71,8 @@ impl Word {
         requires some { 0 < count }
         requires limit { at + count < 2 ^ 63 }
         ensures word { seat.new.word ≡ seat.old.word }
-        ensures draws { MatchBool result (seat.new.draws ≡ seat.old.draws ++ numbers at (at + count)) ((seat.new.draws ≡ seat.old.draws) × (seat.new.counter ≢ at)) }
+        ensures draws { MatchBool result (seat.new.draws ≡ seat.old.draws ++ numbers at (at + count))
+            ((seat.new.draws ≡ seat.old.draws) × (seat.new.counter ≢ at)) }
         ensures counter { IsTrue result → (seat.new.counter ≡ at + count) × (seat.old.counter ≤ at) }
         ensures risen { seat.old.counter ≤ seat.new.counter }
     {

@@ -9,6 +9,14 @@
 //! `collecting` walks over them, `kept` has what was
 //! reached, and `reading` reads a row back. The definitions that the contracts cite are in `specs/`, what a
 //! query finds in those of `ds_model`; `laws` has what is claimed of plans and their scans, as calls that do nothing.
+//!
+//! A caller plans a branch once and asks each shard by that plan, within steps that one ledger counts:
+//!
+//!     let plan = ds_planner::plan(alloc, &branch, &defs)?;
+//!     let tables = shard.tables();
+//!     let rows = answer(alloc, &tables, shard.count(), &branch, &defs, &plan, start, end, Some(most), &mut steps)?;
+//!
+//! The rows have their places, so `ds_pages` makes a page of them, and `ds_merge` one of those of several shards or branches.
 #![tactic(auto)]
 
 mod answering;

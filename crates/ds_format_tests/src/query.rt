@@ -292,7 +292,8 @@ const FORMS: [(&str, &str); 24] = [
     ),
     (
         "kind T; where a in 1 2; where b != 5; where c in 7 8",
-        "a=1 c=7 <5 b+ __key__+ / a=1 c=8 <5 b+ __key__+ / a=1 c=7 >5 b+ __key__+ / a=1 c=8 >5 b+ __key__+ / a=2 c=7 <5 b+ __key__+ / a=2 c=8 <5 b+ __key__+ / a=2 c=7 >5 b+ __key__+ / a=2 c=8 >5 b+ __key__+ / b+ __key__+ several",
+        "a=1 c=7 <5 b+ __key__+ / a=1 c=8 <5 b+ __key__+ / a=1 c=7 >5 b+ __key__+ / a=1 c=8 >5 b+ __key__+ \
+        / a=2 c=7 <5 b+ __key__+ / a=2 c=8 <5 b+ __key__+ / a=2 c=7 >5 b+ __key__+ / a=2 c=8 >5 b+ __key__+ / b+ __key__+ several",
     ),
     (
         "kind T; where p in 1 2; where q > 0; order p desc; order q asc",

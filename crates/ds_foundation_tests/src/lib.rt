@@ -17,5 +17,3 @@ mod lanes;
 mod rounds;
 #[cfg(test)]
 mod words;
-#[cfg(test)]
-mod zigzag;

@@ -11,8 +11,8 @@ use Rattle.ds_gql.specs.declared.statement.Statement.{Statement}
 use Rattle.ds_gql.specs.declared.draft.Phase.{Phase}
 use Rattle.ds_gql.specs.declared.draft.Phase.TheVariants as phase
 use Rattle.ds_gql.specs.declared.draft.Draft.{Draft}
-use Rattle.ds_gql.specs.declared.token.Mark.TheVariants as mark
-use Rattle.ds_gql.specs.Pieces.{Piece, fixed, name, is}
+use Rattle.ds_tokens.specs.declared.token.Mark.TheVariants as mark
+use Rattle.ds_tokens.specs.Pieces.{Piece, fixed, name, is}
 use Rattle.ds_gql.specs.Steps.{step, empty, complete, selected, count_of}
 use Rattle.ds_base.specs.KeyColumn.{key_name}
 use Rattle.ds_gql.specs.Sentences.{What, everything, keys, names, Limits, none, limit, limit_offset, pair, offset, Sentence, comma, led_by}
@@ -23,8 +23,8 @@ use Rattle.ds_gql.proofs.GoingOn.{shown_of, open_of}
 use Rattle.ds_gql.proofs.Rests.{shows, after_limits, AreCounts, or_else, Led, SelectedRest, WhatRest, Rest}
 use Rattle.ds_gql.proofs.BackSteps.{back}
 use Rattle.ds_gql.proofs.PieceLemmas.{is_mark}
-use Rattle.ds_gql.proofs.PrintingLaws.{printed_as, said_by}
-use Rattle.ds_gql.proofs.TokenLaws.{both}
+use Rattle.ds_gql.proofs.Choices.{both}
+use Rattle.ds_gql.proofs.SaidStatements.{said_statement, said_by}
 
 -- ---- the end of a text ends the reading
 
@@ -134,7 +134,7 @@ module _ (given : Bindings) (st : Statement) where
       let v : Shown = record (selects found ns) { kind = or_else None s.kind; filters = c.next.0; ancestor = c.next.1; orders = map column_of o.orders } in
       let sentence : Sentence = record { what = w; kind = s.kind; conditions = c.conditions; orders = o.orders; limits = l.limits } in
       let ends : limits_pieces l.limits ++ fixed mark.End ∷ l.behind ≡ (limits_pieces l.limits ++ fixed mark.End ∷ []) ++ l.behind = in_front (limits_pieces l.limits) (fixed mark.End ∷ l.behind) (fixed mark.End ∷ []) l.behind refl in
-      let chosen : printed_as sentence c.next ((after_limits v l.limits).offset, (after_limits v l.limits).limit) ≡ st =
+      let chosen : said_statement sentence c.next ((after_limits v l.limits).offset, (after_limits v l.limits).limit) ≡ st =
       (λ i. let t : Statement = record {
         query = record {
           namespace = [];
@@ -160,7 +160,7 @@ module _ (given : Bindings) (st : Statement) where
             (o.spelled ∙ in_front (led_by (fixed mark.Order ∷ fixed mark.By ∷ []) comma order_pieces o.orders) o.tail _ l.behind
             (l.spelled ∙ ends)))));
         said =
-            said_by _ _ _ (printed_as sentence) c.next ((after_limits v l.limits).offset, (after_limits v l.limits).limit)
+            said_by _ _ _ (said_statement sentence) c.next ((after_limits v l.limits).offset, (after_limits v l.limits).limit)
             (both _ _ lawful s.lawful) c.said (bounds_said l.limits l.counts v refl refl)
             ∙ ap Some chosen;
       }

@@ -20,9 +20,9 @@ use Rattle.ds_gql.specs.declared.draft.Phase.TheVariants as phase
 use Rattle.ds_gql.specs.declared.draft.KeyFor.{KeyFor}
 use Rattle.ds_gql.specs.declared.draft.KeyFor.TheVariants as for
 use Rattle.ds_gql.specs.declared.draft.Draft.{Draft}
-use Rattle.ds_gql.specs.declared.token.Mark.{Mark}
-use Rattle.ds_gql.specs.declared.token.Mark.TheVariants as mark
-use Rattle.ds_gql.specs.Pieces.{Piece, fixed, name, integer, string, is, name_in}
+use Rattle.ds_tokens.specs.declared.token.Mark.{Mark}
+use Rattle.ds_tokens.specs.declared.token.Mark.TheVariants as mark
+use Rattle.ds_tokens.specs.Pieces.{Piece, fixed, name, integer, string, is, name_in}
 use Rattle.ds_gql.specs.Steps.{step, on_if, at_end, at_limits, at_orders, at_conditions, at_kind, at_direction_read, at_condition_read}
 use Rattle.ds_gql.specs.Steps.{select_named, next_named, kind_named, property_named, order_named, projected, no_ancestor, compare_by}
 use Rattle.ds_gql.specs.Steps.{compare_in, operand_by, listed_by, ancestor_by, value_of, key_in, elem_kind_by, key_text, ident_by, ident_in}
@@ -35,7 +35,7 @@ use Rattle.ds_gql.specs.Sentences.{column_of}
 use Rattle.ds_gql.proofs.SentenceSteps.{Shown, Open, draft, only_if}
 use Rattle.ds_gql.proofs.GoingOn.{shown_of, open_of}
 use Rattle.ds_gql.proofs.PieceLemmas.{is_mark, is_name_piece, compares, counts, kind_text, ident_text}
-use Rattle.ds_gql.proofs.TokenLaws.{chosen}
+use Rattle.ds_gql.proofs.Choices.{chosen}
 use Rattle.ds_gql.proofs.Rests.{with_filter_of, default_key, elem_of, order_by, Led, EndRest, LimitsRest, OffsetRest, PairedRest}
 use Rattle.ds_gql.proofs.Rests.{LimitReadRest, LimitRest, OrdersRest, FurtherOrders, OrderRest, DirectionRest, WhereRest, FurtherRest}
 use Rattle.ds_gql.proofs.Rests.{ConditionRest, ListedRest, ListedReadRest, AncestorRest, AfterKey, ElemRest, KindRest, IdentRest}

@@ -12,9 +12,9 @@ use Rattle.ds_query.specs.declared.query.Filter.{Filter}
 use Rattle.ds_gql.specs.declared.statement.Bindings.{Bindings}
 use Rattle.ds_gql.specs.declared.draft.Phase.TheVariants as phase
 use Rattle.ds_gql.specs.declared.draft.KeyFor.TheVariants as for
-use Rattle.ds_gql.specs.declared.token.Mark.{Mark}
-use Rattle.ds_gql.specs.declared.token.Mark.TheVariants as mark
-use Rattle.ds_gql.specs.Pieces.{Piece, fixed, name, integer, string, numbered, named, strange, is}
+use Rattle.ds_tokens.specs.declared.token.Mark.{Mark}
+use Rattle.ds_tokens.specs.declared.token.Mark.TheVariants as mark
+use Rattle.ds_tokens.specs.Pieces.{Piece, fixed, name, integer, string, numbered, named, strange, is}
 use Rattle.ds_gql.specs.Steps.{step, value_of, constant_of, key_in, compare_of, key_begins, operand_by, listed_by, ancestor_by, on_if}
 use Rattle.ds_gql.specs.Steps.{compare_by, no_ancestor}
 use Rattle.ds_gql.specs.Sentences.{Operand, one, key, Condition, compare, among, under, Conditions, comma, others, operand_pieces}

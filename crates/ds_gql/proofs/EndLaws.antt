@@ -10,19 +10,18 @@ use Rattle.std.proofs.lemmas.Bool.{and_parts}
 use Rattle.ds_gql.specs.declared.statement.Bindings.{Bindings}
 use Rattle.ds_gql.specs.declared.statement.Statement.{Statement}
 use Rattle.ds_gql.specs.declared.draft.Draft.{Draft}
-use Rattle.ds_gql.specs.declared.token.Mark.{Mark}
-use Rattle.ds_gql.specs.declared.token.Mark.TheVariants as mark
-use Rattle.ds_gql.specs.Pieces.{Piece, fixed, is}
-use Rattle.ds_gql.specs.Tokens.{Front, Token, tokens_from, tokens_of, front, is_blank, begins_word, is_word_byte, is_quote, is_double_quote}
-use Rattle.ds_gql.specs.Tokens.{lookup, keywords, word_by, word_of, word, quoted_name, closing, string_by, string_front, integer_of}
-use Rattle.ds_gql.specs.Tokens.{integer_by, integer_front, numbered_front, named_front, binding, sign}
+use Rattle.ds_tokens.specs.declared.token.Mark.{Mark}
+use Rattle.ds_tokens.specs.declared.token.Mark.TheVariants as mark
+use Rattle.ds_tokens.specs.Pieces.{Piece, fixed, is}
+use Rattle.ds_tokens.specs.Tokens.{Front, Token, tokens_from, tokens_of, front, is_blank, begins_word, is_word_byte, is_quote, is_double_quote}
+use Rattle.ds_tokens.specs.Tokens.{lookup, keywords, word_by, word_of, word, quoted_name, closing, string_by, string_front, integer_of}
+use Rattle.ds_tokens.specs.Tokens.{integer_by, integer_front, numbered_front, named_front, binding, sign}
 use Rattle.ds_gql.specs.Steps.{step, empty, complete}
 use Rattle.ds_gql.specs.Statements.{read_on, stepped, statement_of}
-use Rattle.ds_gql.specs.Sentences.{Sentence, pieces, Derives}
+use Rattle.ds_gql.specs.Sentences.{Sentence, pieces, sentence_pieces, Derives}
 use Rattle.ds_gql.specs.GqlLaws.{pieces_of, OnlySentencesAreRead}
-use Rattle.ds_gql.specs.Printers.{sentence_pieces}
 use Rattle.ds_gql.proofs.SentenceSteps.{stepped_to, read_pieces}
-use Rattle.ds_gql.proofs.PrintingLaws.{pieces_end}
+use Rattle.ds_gql.proofs.SaidStatements.{pieces_end}
 use Rattle.ds_gql.proofs.BackLaws.{sentence_begins}
 
 -- ---- no token of a text but the last is its end

@@ -20,8 +20,8 @@ use Rattle.ds_gql.specs.declared.draft.Phase.TheVariants as phase
 use Rattle.ds_gql.specs.declared.draft.KeyFor.{KeyFor}
 use Rattle.ds_gql.specs.declared.draft.KeyFor.TheVariants as for
 use Rattle.ds_gql.specs.declared.draft.Draft.{Draft}
-use Rattle.ds_gql.specs.declared.token.Mark.TheVariants as mark
-use Rattle.ds_gql.specs.Pieces.{Piece, fixed, name, integer, string, is, name_in}
+use Rattle.ds_tokens.specs.declared.token.Mark.TheVariants as mark
+use Rattle.ds_tokens.specs.Pieces.{Piece, fixed, name, integer, string, is, name_in}
 use Rattle.ds_gql.specs.Steps.{step, complete, no_ancestor, on_if, at_end, at_limits, at_orders, at_conditions, at_kind, at_direction_read}
 use Rattle.ds_gql.specs.Steps.{with_order, select_named, next_named, kind_named, property_named, order_named, projected, compare_by}
 use Rattle.ds_gql.specs.Steps.{compare_in, operand_by, listed_by, ancestor_by, value_of, key_in, elem_kind_by, key_text, name_of, ident_by}

@@ -4,9 +4,9 @@ use Rattle.std.proofs.Common.{◌∙◌, subst}
 use Rattle.ds_gql.specs.declared.statement.Bindings.{Bindings}
 use Rattle.ds_gql.specs.declared.statement.Statement.{Statement}
 use Rattle.ds_gql.specs.declared.draft.Draft.{Draft}
-use Rattle.ds_gql.specs.declared.token.Mark.TheVariants as mark
-use Rattle.ds_gql.specs.Pieces.{Piece, is}
-use Rattle.ds_gql.specs.Tokens.{Token, tokens_from, tokens_of}
+use Rattle.ds_tokens.specs.declared.token.Mark.TheVariants as mark
+use Rattle.ds_tokens.specs.Pieces.{Piece, is}
+use Rattle.ds_tokens.specs.Tokens.{Token, tokens_from, tokens_of}
 use Rattle.ds_gql.specs.Steps.{step, empty, complete}
 use Rattle.ds_gql.specs.Statements.{read_on, stepped, statement_of}
 use Rattle.ds_gql.specs.GqlLaws.{pieces_of, TokensBeforeGoOn}

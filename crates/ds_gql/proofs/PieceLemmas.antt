@@ -7,9 +7,9 @@ use Rattle.ds_base.specs.Keys.{is_name, is_ident}
 use Rattle.ds_base.specs.declared.key.Ident.{Ident}
 use Rattle.ds_base.specs.declared.key.Ident.TheVariants as ident
 use Rattle.ds_query.specs.declared.query.Op.{Op}
-use Rattle.ds_gql.specs.contracts.token.Mark.{the_type}
-use Rattle.ds_gql.specs.declared.token.Mark.{Mark}
-use Rattle.ds_gql.specs.Pieces.{Piece, fixed, name, integer, string, is, name_in}
+use Rattle.ds_tokens.specs.contracts.token.Mark.{the_type}
+use Rattle.ds_tokens.specs.declared.token.Mark.{Mark}
+use Rattle.ds_tokens.specs.Pieces.{Piece, fixed, name, integer, string, is, name_in}
 use Rattle.ds_gql.specs.Steps.{compare_in, compare_of, key_text, ident_in, count_in, count_of}
 use Rattle.ds_gql.specs.Sentences.{ident_piece}
 use Rattle.ds_gql.proofs.SentenceSteps.{only_if}

@@ -6,10 +6,10 @@ use Rattle.ds_gql.specs.declared.statement.Bindings.{Bindings}
 use Rattle.ds_gql.specs.declared.draft.Draft.{Draft}
 use Rattle.ds_gql.specs.declared.draft.Phase.{Phase}
 use Rattle.ds_gql.specs.declared.draft.Phase.TheVariants as phase
-use Rattle.ds_gql.specs.declared.token.Mark.TheVariants as mark
-use Rattle.ds_gql.specs.Pieces.{Piece, fixed, strange, is}
-use Rattle.ds_gql.specs.Fronts.{Shows}
-use Rattle.ds_gql.specs.Tokens.{Front, Token, front, first, is_blank, behind_blanks, tokens_from, tokens_of}
+use Rattle.ds_tokens.specs.declared.token.Mark.TheVariants as mark
+use Rattle.ds_tokens.specs.Pieces.{Piece, fixed, strange, is}
+use Rattle.ds_tokens.specs.Fronts.{Shows}
+use Rattle.ds_tokens.specs.Tokens.{Front, Token, front, first, is_blank, behind_blanks, tokens_from, tokens_of}
 use Rattle.ds_gql.specs.Steps.{step, empty, complete}
 use Rattle.ds_gql.specs.Taking.{Takes}
 use Rattle.ds_gql.specs.Statements.{read_on, stepped, statement_of}

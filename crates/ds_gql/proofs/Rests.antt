@@ -15,9 +15,9 @@ use Rattle.ds_gql.specs.declared.draft.Phase.{Phase}
 use Rattle.ds_gql.specs.declared.draft.Phase.TheVariants as phase
 use Rattle.ds_gql.specs.declared.draft.KeyFor.{KeyFor}
 use Rattle.ds_gql.specs.declared.draft.KeyFor.TheVariants as for
-use Rattle.ds_gql.specs.declared.token.Mark.{Mark}
-use Rattle.ds_gql.specs.declared.token.Mark.TheVariants as mark
-use Rattle.ds_gql.specs.Pieces.{Piece, fixed, name, integer}
+use Rattle.ds_tokens.specs.declared.token.Mark.{Mark}
+use Rattle.ds_tokens.specs.declared.token.Mark.TheVariants as mark
+use Rattle.ds_tokens.specs.Pieces.{Piece, fixed, name, integer}
 use Rattle.ds_gql.specs.Steps.{selected, key_in, count_of}
 use Rattle.ds_base.specs.KeyColumn.{key_name}
 use Rattle.ds_gql.specs.Sentences.{Operand, Condition, Conditions, Order, Limits, none, limit, limit_offset, pair, offset, comma, others}

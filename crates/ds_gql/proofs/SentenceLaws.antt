@@ -14,9 +14,9 @@ use Rattle.ds_gql.specs.declared.draft.Phase.{Phase}
 use Rattle.ds_gql.specs.declared.draft.Phase.TheVariants as phase
 use Rattle.ds_gql.specs.declared.draft.KeyFor.TheVariants as for
 use Rattle.ds_gql.specs.declared.draft.Draft.{Draft}
-use Rattle.ds_gql.specs.declared.token.Mark.TheVariants as mark
-use Rattle.ds_gql.specs.Pieces.{Piece, fixed, name, integer, strange, is}
-use Rattle.ds_gql.specs.Tokens.{Front, Token, tokens_from, tokens_of, front, is_blank}
+use Rattle.ds_tokens.specs.declared.token.Mark.TheVariants as mark
+use Rattle.ds_tokens.specs.Pieces.{Piece, fixed, name, integer, strange, is}
+use Rattle.ds_tokens.specs.Tokens.{Front, Token, tokens_from, tokens_of, front, is_blank}
 use Rattle.ds_gql.specs.Steps.{step, empty, complete, selected, projected, count_of, limit_by, offset_by, paired_by}
 use Rattle.ds_base.specs.KeyColumn.{key_name}
 use Rattle.ds_gql.specs.Statements.{read_on, stepped, statement_of}

@@ -21,8 +21,8 @@ use Rattle.ds_gql.specs.declared.draft.Phase.{Phase}
 use Rattle.ds_gql.specs.declared.draft.Phase.TheVariants as phase
 use Rattle.ds_gql.specs.declared.draft.KeyFor.{KeyFor}
 use Rattle.ds_gql.specs.declared.draft.Draft.{Draft}
-use Rattle.ds_gql.specs.declared.token.Mark.TheVariants as mark
-use Rattle.ds_gql.specs.Pieces.{Piece, fixed, is}
+use Rattle.ds_tokens.specs.declared.token.Mark.TheVariants as mark
+use Rattle.ds_tokens.specs.Pieces.{Piece, fixed, is}
 use Rattle.ds_gql.specs.Steps.{step, complete, key_read_for, elem_kind_by, ident_by, on_if}
 use Rattle.ds_gql.specs.Sentences.{comma, others, elem_pieces, ident_piece}
 

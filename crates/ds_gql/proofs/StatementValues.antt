@@ -1,6 +1,6 @@
 -- Each filter of a statement has the values of its operator: one, and at least one behind IN.
 use Rattle.std.proofs.Common.{◌≡◌, ℕ, ◌≤◌, Bool, true, false, List, [], ◌∷◌, ◌++◌, length, Option, Some, None, Result, Ok, Err, IsTrue}
-use Rattle.std.proofs.Common.{IfOk, refl, ap, sym, ◌∙◌, subst, arith, if◌then◌else◌, unwrap_or}
+use Rattle.std.proofs.Common.{refl, sym, ◌∙◌, subst, arith, if◌then◌else◌}
 use Rattle.std.specs.Prelude.{◌&&◌, nat_le, option_and_then}
 use Rattle.std.specs.List.{list_all}
 use Rattle.std.proofs.Common.{length-append}
@@ -21,10 +21,10 @@ use Rattle.ds_gql.specs.declared.draft.Phase.TheVariants as phase
 use Rattle.ds_gql.specs.declared.draft.KeyFor.{KeyFor}
 use Rattle.ds_gql.specs.declared.draft.KeyFor.TheVariants as for
 use Rattle.ds_gql.specs.declared.draft.Draft.{Draft}
-use Rattle.ds_gql.specs.declared.token.Mark.{Mark}
-use Rattle.ds_gql.specs.declared.token.Mark.TheVariants as mark
-use Rattle.ds_gql.specs.Pieces.{Piece, fixed, is, name_in}
-use Rattle.ds_gql.specs.Tokens.{Token, tokens_of}
+use Rattle.ds_tokens.specs.declared.token.Mark.{Mark}
+use Rattle.ds_tokens.specs.declared.token.Mark.TheVariants as mark
+use Rattle.ds_tokens.specs.Pieces.{Piece, fixed, is, name_in}
+use Rattle.ds_tokens.specs.Tokens.{Token, tokens_of}
 use Rattle.ds_gql.specs.Statements.{stepped, read_on, statement_of}
 use Rattle.ds_gql.specs.Steps
 use Rattle.ds_gql.specs.GqlLaws.{StatementsHaveValues}

@@ -1,14 +1,13 @@
 -- What is proved of the reading of texts, beside that the code meets it.
-use Rattle.std.specs.Prelude.{◌≡◌, ℕ, List, ◌∷◌, ◌++◌, map, Ok, Err, true, IsTrue}
+use Rattle.std.specs.Prelude.{◌≡◌, ℕ, List, ◌∷◌, ◌++◌, map, Ok, Err, IsTrue}
 use Rattle.std.specs.List.{list_all}
 use Rattle.ds_query.specs.Filters.{has_operands}
 use Rattle.ds_gql.specs.declared.statement.Bindings.{Bindings}
 use Rattle.ds_gql.specs.declared.statement.Statement.{Statement}
-use Rattle.ds_gql.specs.Pieces.{Piece}
-use Rattle.ds_gql.specs.Tokens.{Token, tokens_of}
+use Rattle.ds_tokens.specs.Pieces.{Piece}
+use Rattle.ds_tokens.specs.Tokens.{Token, tokens_of}
 use Rattle.ds_gql.specs.Sentences.{Derives}
 use Rattle.ds_gql.specs.Statements.{statement_of}
-use Rattle.ds_gql.specs.Printing.{can_print, has_written_names}
 
 abbrev pub pieces_of : List Token → List Piece
 pieces_of tokens = map (λ t. t.piece) tokens
@@ -22,11 +21,6 @@ SentencesAreRead =
 abbrev pub OnlySentencesAreRead : Type 0
 OnlySentencesAreRead =
     (given : Bindings) (text : List ℕ) (st : Statement) → statement_of text given ≡ Ok st → Derives given (pieces_of (tokens_of text)) st
-
--- `print` takes what a text says, and each of its names can be written
-abbrev pub StatementsCanBePrinted : Type 0
-StatementsCanBePrinted = (given : Bindings) (text : List ℕ) (st : Statement) → statement_of text given ≡ Ok st
-    → (can_print st ≡ true) × (has_written_names st ≡ true)
 
 -- no sentence begins with the tokens up to the one at this place
 pub record StopsAt (given : Bindings) (tokens : List Token) (place : ℕ) : Type 0 where

@@ -1,11 +1,6 @@
 pub mod Arguments
-pub mod Fronts
 pub mod GqlLaws
-pub mod Pieces
-pub mod Printers
-pub mod Printing
 pub mod Sentences
 pub mod Statements
 pub mod Steps
 pub mod Taking
-pub mod Tokens

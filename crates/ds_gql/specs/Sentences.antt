@@ -16,9 +16,9 @@ use Rattle.ds_query.specs.declared.query.Select.{Select}
 use Rattle.ds_query.specs.declared.query.Select.TheVariants as select
 use Rattle.ds_gql.specs.declared.statement.Bindings.{Bindings}
 use Rattle.ds_gql.specs.declared.statement.Statement.{Statement}
-use Rattle.ds_gql.specs.declared.token.Mark.{Mark}
-use Rattle.ds_gql.specs.declared.token.Mark.TheVariants as mark
-use Rattle.ds_gql.specs.Pieces.{Piece, fixed, name, integer, string}
+use Rattle.ds_tokens.specs.declared.token.Mark.{Mark}
+use Rattle.ds_tokens.specs.declared.token.Mark.TheVariants as mark
+use Rattle.ds_tokens.specs.Pieces.{Piece, fixed, name, integer, string}
 use Rattle.ds_gql.specs.Steps.{value_of, key_in, compare_of, count_of, no_ancestor}
 use Rattle.ds_base.specs.KeyColumn.{key_name}
 
@@ -126,9 +126,16 @@ limits_pieces (limit_offset n m) = fixed mark.Limit ∷ integer (pos n) ∷ fixe
 limits_pieces (pair m n) = fixed mark.Limit ∷ integer (pos m) ∷ comma ∷ integer (pos n) ∷ []
 limits_pieces (offset m) = fixed mark.Offset ∷ integer (pos m) ∷ []
 
+-- the tokens of a statement between SELECT and the end of the text
+abbrev pub sentence_pieces : Sentence → List Piece
+sentence_pieces s =
+    what_pieces s.what ++ (kind_pieces s.kind ++ (led_by (fixed mark.Where ∷ []) (fixed mark.And) condition_pieces s.conditions
+    ++ (led_by (fixed mark.Order ∷ fixed mark.By ∷ []) comma order_pieces s.orders ++ limits_pieces s.limits)))
+
 abbrev pub pieces : Sentence → List Piece
 pieces s =
-    fixed mark.Select ∷ what_pieces s.what ++ (kind_pieces s.kind ++ (led_by (fixed mark.Where ∷ []) (fixed mark.And) condition_pieces s.conditions
+    fixed mark.Select ∷ what_pieces s.what ++ (kind_pieces s.kind
+    ++ (led_by (fixed mark.Where ∷ []) (fixed mark.And) condition_pieces s.conditions
     ++ (led_by (fixed mark.Order ∷ fixed mark.By ∷ []) comma order_pieces s.orders ++ (limits_pieces s.limits ++ fixed mark.End ∷ []))))
 
 -- ---- what they say; none where a rule about names, keys, counts or bindings is broken
@@ -165,9 +172,11 @@ Conditions = List Filter × Option KeyParts
 -- one condition more: a filter, or the ancestor, which stands at most once
 abbrev pub with_condition : Bindings → Conditions → Condition → Option Conditions
 with_condition given so_far (compare property sign o) =
-    option_and_then (λ found. option_map (λ v. (so_far.0 ++ record { property = property; op = found; values = v ∷ [] } ∷ [], so_far.1)) (operand_value given o)) (compare_of sign)
+    option_and_then (λ found. option_map (λ v. (so_far.0 ++ record { property = property; op = found; values = v ∷ [] } ∷ [], so_far.1))
+    (operand_value given o)) (compare_of sign)
 with_condition given so_far (among property first more) =
-    option_map (λ vs. (so_far.0 ++ record { property = property; op = op.OneOf; values = vs } ∷ [], so_far.1)) (operand_values given (first ∷ more))
+    option_map (λ vs. (so_far.0 ++ record { property = property; op = op.OneOf; values = vs } ∷ [], so_far.1))
+    (operand_values given (first ∷ more))
 with_condition given so_far (under o) =
     option_and_then (λ k. if no_ancestor so_far.1 then Some (so_far.0, Some k) else None) (option_and_then key_in (operand_value given o))
 

@@ -6,9 +6,9 @@ use Rattle.ds_gql.specs.declared.statement.Statement.{Statement}
 use Rattle.ds_gql.specs.declared.statement.GqlRefused.{GqlRefused}
 use Rattle.ds_gql.specs.declared.statement.GqlRefused.TheVariants as refused
 use Rattle.ds_gql.specs.declared.draft.Draft.{Draft}
-use Rattle.ds_gql.specs.declared.token.Mark.TheVariants as mark
-use Rattle.ds_gql.specs.Pieces.{is}
-use Rattle.ds_gql.specs.Tokens.{Token, tokens_of}
+use Rattle.ds_tokens.specs.declared.token.Mark.TheVariants as mark
+use Rattle.ds_tokens.specs.Pieces.{is}
+use Rattle.ds_tokens.specs.Tokens.{Token, tokens_of}
 use Rattle.ds_gql.specs.Steps.{empty, complete, step}
 
 -- behind a token: the statement at the end of the text, what the others make of it, or the token's place where it took no step

@@ -1,6 +1,6 @@
 -- What may stand behind what has been read of a GQL text, token by token. Each part of the grammar is a small group of phases; a
 -- token that no sentence has at its place takes no step. What a whole sentence looks like stands in `Sentences`.
-use Rattle.std.specs.Prelude.{ℕ, ◌-◌, ℤ, pos, negsuc, Bool, true, false, ◌==◌, nat_lt, nat_le, if◌then◌else◌, bytes_eq, codes, List, []}
+use Rattle.std.specs.Prelude.{ℕ, ◌-◌, ℤ, pos, negsuc, Bool, true, false, ◌==◌, nat_lt, nat_le, if◌then◌else◌, bytes_eq, List, []}
 use Rattle.std.specs.Prelude.{◌∷◌, ◌++◌, length, slice_get}
 use Rattle.std.specs.Prelude.{Option, Some, None, option_map, option_and_then, unwrap_or}
 use Rattle.ds_base.specs.KeyColumn.{key_name}
@@ -22,9 +22,9 @@ use Rattle.ds_gql.specs.declared.draft.Phase.TheVariants as phase
 use Rattle.ds_gql.specs.declared.draft.KeyFor.{KeyFor}
 use Rattle.ds_gql.specs.declared.draft.KeyFor.TheVariants as for
 use Rattle.ds_gql.specs.declared.draft.Draft.{Draft}
-use Rattle.ds_gql.specs.declared.token.Mark.{Mark}
-use Rattle.ds_gql.specs.declared.token.Mark.TheVariants as mark
-use Rattle.ds_gql.specs.Pieces.{Piece, fixed, name, integer, string, numbered, named, strange, is, name_in}
+use Rattle.ds_tokens.specs.declared.token.Mark.{Mark}
+use Rattle.ds_tokens.specs.declared.token.Mark.TheVariants as mark
+use Rattle.ds_tokens.specs.Pieces.{Piece, fixed, name, integer, string, numbered, named, strange, is, name_in}
 
 -- ---- a draft
 
@@ -212,7 +212,8 @@ compare_by d None = None
 compare_by d (Some found) = Some (record d { phase = phase.Operand; op = found })
 
 abbrev pub at_compare : Draft → Piece → Option Draft
-at_compare d p = if is mark.In p then Some (record d { phase = phase.ListOpen; op = op.OneOf; values = [] }) else compare_by d (compare_in p)
+at_compare d p =
+    if is mark.In p then Some (record d { phase = phase.ListOpen; op = op.OneOf; values = [] }) else compare_by d (compare_in p)
 
 -- the condition is whole: it is a filter
 abbrev pub with_filter : Draft → List Value → Draft

@@ -1,6 +1,6 @@
 //! What is proved of the reading of texts, beside that `parse` meets it: each function does nothing, and its contract is a law.
 ghost use Rattle.ds_gql.specs.GqlLaws.{SentencesAreRead, OnlySentencesAreRead, NoSentenceGoesOn, TokensBeforeGoOn};
-ghost use Rattle.ds_gql.specs.GqlLaws.{StatementsCanBePrinted, StatementsHaveValues};
+ghost use Rattle.ds_gql.specs.GqlLaws.{StatementsHaveValues};
 
 /// A text whose tokens are a sentence of the grammar is the statement that the sentence says.
 pub fn sentences_are_read()
@@ -25,9 +25,4 @@ pub fn tokens_before_go_on()
 /// Each filter of a statement that is read has the values of its operator: one, and at least one behind `IN`.
 pub fn statements_have_values()
     ensures { StatementsHaveValues }
-{}
-
-/// `print` takes every statement that a text says, and never refuses one of its names.
-pub fn statements_can_be_printed()
-    ensures { StatementsCanBePrinted }
 {}

@@ -3,9 +3,8 @@ ghost use Rattle.ds_gql.specs.Statements.{IsReadAs, statement_of};
 
 use crate::arguments::Arguments;
 use crate::draft::Draft;
-use crate::lexer::{first, skip_blanks};
 use crate::statement::{Bindings, GqlRefused, Statement};
-use crate::token::Mark;
+use ds_tokens::{Mark, first, skip_blanks};
 use std::alloc::Global;
 
 /// The statement that a text is: the one that `specs/Statements` defines. `At` comes exactly where the text is none, with the

@@ -2,7 +2,7 @@
 ghost use Rattle.std.specs.Prelude.{◌≡◌, IfOk};
 ghost use Rattle.ds_gql.specs.Taking.{Takes, TakesUnlessNoMemory};
 ghost use Rattle.ds_gql.specs.Steps as spec;
-ghost use Rattle.ds_gql.specs.Pieces.{seen};
+ghost use Rattle.ds_tokens.specs.Pieces.{seen};
 
 mod conditions;
 mod keys;
@@ -10,12 +10,11 @@ mod limits;
 mod operands;
 mod orders;
 pub(crate) mod selection;
-pub(crate) mod strings;
 
 use crate::arguments::Arguments;
 use crate::draft::{Draft, Phase};
-use crate::token::{Mark, Piece};
 use ds_base::NoMemory;
+use ds_tokens::{Mark, Piece};
 use std::alloc::Global;
 
 impl Draft {

@@ -3,7 +3,8 @@
 use crate::statements::bindings;
 use crate::told::told;
 use ds_base::{Columns, NamedValues, NoMemory, TextString, Value, Values};
-use ds_gql::{Bindings, PrintRefused, Printed, Statement, can_print, parse, print};
+use ds_gql::{Bindings, Statement, parse};
+use ds_gql_printing::{PrintRefused, Printed, can_print, print};
 use ds_query::{Filters, Query, Select};
 use std::alloc::{AllocError, Global};
 use std::test::Fail;

@@ -131,7 +131,8 @@ fn definitions_are_counted(rt: HostRuntime) -> Result<(), Fail> {
             1,
         ),
         (
-            "indexes:\n- kind: T\n  ancestor: yes\n  properties:\n  - name: a\n- kind: T\n  ancestor: yes\n  properties:\n  - name: a\n  - name: __key__\n    direction: asc\n",
+            "indexes:\n- kind: T\n  ancestor: yes\n  properties:\n  - name: a\n\
+            - kind: T\n  ancestor: yes\n  properties:\n  - name: a\n  - name: __key__\n    direction: asc\n",
             1,
         ),
         (

@@ -47,7 +47,7 @@ impl MemoryFiles {
 }
 
 // The first place of the name.
-fn place_of(names: &[TextString], name: &str) -> Option<usize>
+fn position_of(names: &[TextString], name: &str) -> Option<usize>
     ensures { result ≡ position (λ known. bytes_eq known name.now) names.now }
 {
     names.iter().position(|known| known.text() == name)
@@ -57,7 +57,7 @@ fn place_of(names: &[TextString], name: &str) -> Option<usize>
 fn find<'a>(names: &[TextString], contents: &'a [ByteString], name: &str) -> Option<&'a ByteString>
     ensures { option_copied result ≡ content_at names.now contents.now name.now }
 {
-    match place_of(names, name) {
+    match position_of(names, name) {
         Some(place) => contents.get(place),
         None => None,
     }

@@ -27,7 +27,8 @@ pub struct FourReaders<H: Wait + Drop> {
     pub two: Reader<u64, Sum>,
     pub first: Reader<u64, Sum>,
     pub second: Reader<u64, Sum>,
-    pub ghost of_hub: { (one.hub ≡ writer.writer.hub) × (two.hub ≡ writer.writer.hub) × (first.hub ≡ writer.writer.hub) × (second.hub ≡ writer.writer.hub) },
+    pub ghost of_hub: { (one.hub ≡ writer.writer.hub) × (two.hub ≡ writer.writer.hub) × (first.hub ≡ writer.writer.hub)
+        × (second.hub ≡ writer.writer.hub) },
 }
 
 /// A word with a seat for the keeper and one for each client.

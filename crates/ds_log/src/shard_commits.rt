@@ -78,7 +78,7 @@ impl ShardCommits {
         requires { n ≤ length self.now.commits }
         ensures { result ≡ last_number (take n self.now.commits) }
     {
-        number_of(self.commits.as_slice(), n as usize)
+        nth_number(self.commits.as_slice(), n as usize)
     }
 }
 
@@ -91,7 +91,7 @@ fn count_up_to(commits: &[u64], place: u64) -> usize
 }
 
 /// The n-th number, counted from 1; 0 where n is 0.
-fn number_of(commits: &[u64], n: usize) -> u64
+fn nth_number(commits: &[u64], n: usize) -> u64
     requires { n ≤ length commits.now }
     ensures { result ≡ last_number (take n commits.now) }
 {

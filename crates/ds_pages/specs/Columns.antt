@@ -1,15 +1,11 @@
 -- The columns of a row, and its values by the names of its columns.
-use Rattle.std.specs.Prelude.{ℕ, Bool, List, map, Option, unwrap_or}
+use Rattle.std.specs.Prelude.{ℕ, List, map, Option, unwrap_or}
 use Rattle.ds_base.specs.declared.column.Column.{Column}
 use Rattle.ds_base.specs.declared.index_value.IndexValue.{IndexValue}
 use Rattle.ds_base.specs.declared.index_value.IndexValue.TheVariants.{Null}
 pub use Rattle.ds_base.specs.KeyColumn.{key_descends}
 use Rattle.ds_bytes.specs.Rows.{RowParts}
-pub use Rattle.ds_query.specs.RowValues.{value_columns, value_named}
-
--- the directions of the columns other than `__key__`; true for a descending one
-abbrev pub directions : List Column → List Bool
-directions columns = map (λ c. c.descending) (value_columns columns)
+pub use Rattle.ds_query.specs.RowValues.{directions, value_columns, value_named}
 
 -- the value in a column other than `__key__`
 abbrev pub value_in : List Column → RowParts → List ℕ → Option IndexValue

@@ -1,5 +1,6 @@
 //! What scans have in common, written down.
-ghost use Rattle.std.specs.Prelude.{◌≡◌, ◌<◌, length};
+ghost use Rattle.std.specs.Prelude.{◌≡◌, ◌+◌, ◌<◌, ◌≤◌, length, map, option_copied};
+ghost use Rattle.ds_zigzag.specs.Walks.{steps_to_end};
 
 use ds_base::ByteString;
 use ds_io::Steps;
@@ -13,16 +14,20 @@ fn note(all: &mut ByteString, found: &[u8]) -> Result<(), AllocError> {
     all.append(b" ")
 }
 
-/// The strings that all the scans have, at most nine of them, each with a blank after it.
+/// The strings above `after` that the scans have in common, each with a blank after it: at most nine of them. However many
+/// they are, it takes no more steps than a walk to the end.
 pub fn all_common<S: Scan, L: Ledger>(
     alloc: Global,
     scans: &mut [S],
+    after: Option<&[u8]>,
     steps: &mut Steps<L>,
 ) -> Result<ByteString, AllocError>
     requires some { 0 < length scans.old }
     requires its_ledger { L.name ≡ S.ledger }
+    ensures { steps.new ≤ steps.old
+        + steps_to_end (length scans.old) (option_copied after.entry) (map S.strings scans.old) (map S.passed scans.old) }
 {
-    let mut walk = Walk::begin(alloc, scans.len(), None)?;
+    let mut walk = Walk::begin(alloc, scans.len(), after)?;
     let mut all = ByteString::new(alloc);
     for _ in 0..9 {
         match walk.next(scans, steps)? {

@@ -41,7 +41,7 @@ fn rests<L: Ledger>(
     }
     let rows: TableRows<'_, L> = TableRows::new(table.view(1));
     let mut scan = RangeScan::make(alloc, rows, prefix, low, high)?;
-    all_common(alloc, std::slice::from_mut(&mut scan), &mut steps)
+    all_common(alloc, std::slice::from_mut(&mut scan), None, &mut steps)
 }
 
 fn below(high: &str) -> Option<&[u8]> {

@@ -47,7 +47,7 @@ fn named<L: Ledger>(
     if scans.is_empty() {
         return Ok(ByteString::new(alloc));
     }
-    all_common(alloc, scans.as_mut_slice(), &mut steps)
+    all_common(alloc, scans.as_mut_slice(), None, &mut steps)
 }
 
 #[test]

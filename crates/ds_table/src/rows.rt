@@ -73,7 +73,7 @@ impl Rows {
         requires { IsRising self.now }
         ensures { IsPlace (row_before row.now same_too) self.now result }
     {
-        place_of(
+        count_before(
             self.rows.as_slice(),
             self.heads.as_slice(),
             self.shared,
@@ -259,11 +259,11 @@ fn head_of(row: &[u8], shared: usize) -> u64
     requires { shared ≤ length row.now }
     ensures { result ≡ head_of shared row.now }
 {
-    number_of(&row[shared..])
+    number_at_front(&row[shared..])
 }
 
 /// The number that the first eight bytes are, the highest first.
-fn number_of(bytes: &[u8]) -> u64
+fn number_at_front(bytes: &[u8]) -> u64
     ensures { result ≡ number_behind 0 8 bytes.now }
 {
     let mut number = 0u64;
@@ -281,7 +281,13 @@ fn byte_at(bytes: &[u8], i: usize) -> u8
 }
 
 /// How many of the rows, which share so many bytes, come before this one, or aren't above it where `same_too`.
-fn place_of(rows: &[ByteString], heads: &[u64], shared: usize, row: &[u8], same_too: bool) -> usize
+fn count_before(
+    rows: &[ByteString],
+    heads: &[u64],
+    shared: usize,
+    row: &[u8],
+    same_too: bool,
+) -> usize
     requires alike { IsAlike shared rows.now }
     requires headed { heads.now ≡ heads_of shared rows.now }
     requires rising { IsRising rows.now }

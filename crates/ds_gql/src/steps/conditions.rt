@@ -2,14 +2,14 @@
 ghost use Rattle.std.specs.Prelude.{◌≡◌, [], ◌∷◌, IfOk, OnOk};
 ghost use Rattle.ds_gql.specs.Taking.{Takes, TakesUnlessNoMemory};
 ghost use Rattle.ds_gql.specs.Steps as spec;
-ghost use Rattle.ds_gql.specs.Pieces.{seen};
+ghost use Rattle.ds_tokens.specs.Pieces.{seen};
 
 use crate::arguments::Arguments;
 use crate::draft::{Draft, KeyFor, Phase};
 use crate::steps::operands::{compare_in, value_of};
-use crate::token::{Mark, Piece};
 use ds_base::{Key, NoMemory, TextString, Value, Values};
 use ds_query::{Filter, Op};
+use ds_tokens::{Mark, Piece};
 use std::alloc::{AllocError, Global};
 
 impl Draft {

@@ -2,13 +2,13 @@
 ghost use Rattle.std.specs.Prelude.{◌≡◌, IfOk, OnOk};
 ghost use Rattle.ds_gql.specs.Taking.{Takes, TakesUnlessNoMemory};
 ghost use Rattle.ds_gql.specs.Steps as spec;
-ghost use Rattle.ds_gql.specs.Pieces.{seen};
+ghost use Rattle.ds_tokens.specs.Pieces.{seen};
 
 use crate::draft::{Draft, KeyFor, Phase};
 use crate::steps::operands::{ident_in, key_text};
-use crate::token::{Mark, Piece};
 use ds_base::limits::MAX_PATH_LENGTH;
 use ds_base::{Elem, Elems, Ident, Key, NoMemory, TextString, Value};
+use ds_tokens::{Mark, Piece};
 use std::alloc::{AllocError, Global};
 
 impl Draft {

@@ -2,11 +2,11 @@
 ghost use Rattle.std.specs.Prelude.{◌≡◌};
 ghost use Rattle.ds_gql.specs.Taking.{Takes};
 ghost use Rattle.ds_gql.specs.Steps as spec;
-ghost use Rattle.ds_gql.specs.Pieces.{seen};
+ghost use Rattle.ds_tokens.specs.Pieces.{seen};
 
 use crate::draft::{Draft, Phase};
-use crate::token::{Mark, Piece};
 use ds_base::limits::MAX_RESULTS;
+use ds_tokens::{Mark, Piece};
 
 impl Draft {
     /// Nothing more, but the end of the text.

@@ -1,14 +1,13 @@
 //! What single tokens stand for.
 ghost use Rattle.std.specs.Prelude.{◌≡◌, IfOk, option_map};
 ghost use Rattle.ds_gql.specs.Steps as spec;
-ghost use Rattle.ds_gql.specs.Pieces.{seen, undoubled};
+ghost use Rattle.ds_tokens.specs.Pieces.{seen, undoubled};
 
 use crate::arguments::Arguments;
-use crate::steps::strings::undoubled;
-use crate::token::{Mark, Piece};
 use ds_base::limits::MAX_ID;
 use ds_base::{Ident, NoMemory, TextString, Value, copy_of, is_name};
 use ds_query::Op;
+use ds_tokens::{Mark, Piece, undoubled};
 use std::alloc::Global;
 
 /// The operator that stands there, other than IN.

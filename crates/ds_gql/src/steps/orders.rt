@@ -2,11 +2,11 @@
 ghost use Rattle.std.specs.Prelude.{◌≡◌, IfOk, OnOk};
 ghost use Rattle.ds_gql.specs.Taking.{Takes, TakesUnlessNoMemory};
 ghost use Rattle.ds_gql.specs.Steps as spec;
-ghost use Rattle.ds_gql.specs.Pieces.{seen, name_in};
+ghost use Rattle.ds_tokens.specs.Pieces.{seen, name_in};
 
 use crate::draft::{Draft, Phase};
-use crate::token::{Mark, Piece};
 use ds_base::{Column, NoMemory, TextString};
+use ds_tokens::{Mark, Piece};
 use std::alloc::{AllocError, Global};
 
 impl Draft {

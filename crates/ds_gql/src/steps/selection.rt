@@ -2,12 +2,12 @@
 ghost use Rattle.std.specs.Prelude.{◌≡◌, IfOk, bytes_eq};
 ghost use Rattle.ds_gql.specs.Taking.{Takes, TakesUnlessNoMemory};
 ghost use Rattle.ds_gql.specs.Steps as spec;
-ghost use Rattle.ds_gql.specs.Pieces.{seen, name_in};
+ghost use Rattle.ds_tokens.specs.Pieces.{seen, name_in};
 
 use crate::draft::{Draft, Phase};
-use crate::token::{Mark, Piece};
 use ds_base::{KEY_NAME, NoMemory, TextString, is_name};
 use ds_query::Select;
+use ds_tokens::{Mark, Piece};
 use std::alloc::{AllocError, Global};
 
 impl Draft {

@@ -1,6 +1,6 @@
 use Rattle.std.proofs.Common.{◌≡◌, Some, None, Ok, subst, sym, ap, ◌∙◌, rules}
 use Rattle.ds_gql.specs.declared.draft.Draft.{Draft}
-use Rattle.ds_gql.specs.Pieces.{seen}
+use Rattle.ds_tokens.specs.Pieces.{seen}
 use Rattle.ds_gql.specs.Steps.{step}
 use Rattle.ds_gql.proofs.ReadingLemmas.{LeftToRead, left-start, left-refused, left-ended, left-further, taken_not, taken_to}
 use Rattle.ds_gql.proofs.parser.read.Goals as goal

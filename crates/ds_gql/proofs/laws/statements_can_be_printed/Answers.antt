@@ -1,5 +1,0 @@
-use Rattle.ds_gql.proofs.PrintableLaws.{statements_can_be_printed}
-use Rattle.ds_gql.proofs.laws.statements_can_be_printed.Goals as goal
-
-pub returns : goal.returns
-returns c = statements_can_be_printed

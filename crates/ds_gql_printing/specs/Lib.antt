@@ -1,0 +1,3 @@
+pub mod PrintLaws
+pub mod Printers
+pub mod Printing

@@ -1,0 +1,5 @@
+use Rattle.ds_tokens.proofs.RunLemmas.{IsCharBoundary-run}
+use Rattle.ds_tokens.proofs.lexer.runs.split_run.Goals as goal
+
+pub split_at-requires : goal.split_at-requires
+split_at-requires c = rw (c.run_len.ensures.len, c.as_bytes.ensures.value) (IsCharBoundary-run c.args.class c.args.text.now c.utf8.text)
