@@ -21,7 +21,7 @@ use serde_json::Value;
 use std::alloc::Global;
 
 /// A rule by which a JSON value is read.
-pub(crate) trait Form: Drop {
+pub trait Form: Drop {
     /// What is read.
     type Item: Drop;
 

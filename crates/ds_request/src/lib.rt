@@ -6,7 +6,8 @@
 //! `specs/Keys`, `Values` and `Entities` what keys, values and entities look like.
 //!
 //! Begin with `call` (what is read) and `line` (`read_request`). `operations` has a file for each operation that has members,
-//! which says what it reads; `members` reads members in order; `forms` has a rule for each form.
+//! which says what it reads; `members` reads members in order; `forms` has a rule for each form. Those of keys, entities and lists are
+//! handed on, for texts other than requests that have such parts.
 #![tactic(auto)]
 
 pub mod call;
@@ -19,4 +20,11 @@ mod operations;
 mod refusal;
 
 pub use call::{Call, Request, RequestRefused};
+pub use forms::Form;
+pub use forms::entities::{EntityForm, Written};
+pub use forms::keys::KeyForm;
+pub use forms::lists::{ListForm, take_two};
+pub use forms::values::take_only;
 pub use line::read_request;
+pub use members::{Members, take_member};
+pub use refusal::Refusal;

@@ -11,7 +11,7 @@ pub(crate) mod told;
 use serde_json::{Map, Value};
 
 /// The members of an object, by their names.
-pub(crate) type Members = Map<String, Value>;
+pub type Members = Map<String, Value>;
 
 /// The member of this name; none where it is absent or null.
 pub(crate) fn member<'a>(members: &'a Members, name: &str) -> Option<&'a Value>
@@ -23,7 +23,7 @@ pub(crate) fn member<'a>(members: &'a Members, name: &str) -> Option<&'a Value>
 }
 
 /// Takes the member of this name out; none where it is absent or null. Every other member stays.
-pub(crate) fn take_member(members: &mut Members, name: &str) -> Option<Value>
+pub fn take_member(members: &mut Members, name: &str) -> Option<Value>
     ensures taken { option_map view result
         ≡ member_of name.now (members_view members.old.entries) }
     ensures others { AgreeBut name.now (members_view members.new.entries)

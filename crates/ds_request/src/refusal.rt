@@ -2,7 +2,7 @@
 
 /// What is wrong with a member of a request, before it is told which member.
 #[derive(Clone, Copy, PartialEq, Eq)]
-pub(crate) enum Refusal {
+pub enum Refusal {
     /// Its shape is wrong, or it is missing.
     Request,
     /// What stands where a key is to stand is no key.

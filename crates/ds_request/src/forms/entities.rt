@@ -19,7 +19,7 @@ use std::marker::Model;
 
 /// What a put writes: a key, whether its last identifier was left open, and properties that an entity may have.
 #[derive(Drop)]
-pub(crate) struct Written {
+pub struct Written {
     pub(crate) key: Key,
     pub(crate) incomplete: bool,
     pub(crate) properties: Properties,
@@ -39,7 +39,7 @@ impl Written {
     ghost use Rattle.ds_request.specs.Lawful.{IsLawfulCall};
 
     /// The call that writes it.
-    pub(crate) fn into_call(self) -> Call
+    pub fn into_call(self) -> Call
         ensures call { result ≡ Call.Put self.key self.incomplete self.properties }
         ensures lawful { IsLawfulCall result }
     {
@@ -53,7 +53,7 @@ impl Written {
 
 /// An entity: an object with a key, which is looked at first, and properties.
 #[derive(Drop)]
-pub(crate) struct EntityForm;
+pub struct EntityForm;
 
 impl Form for EntityForm {
     type Item = Written;

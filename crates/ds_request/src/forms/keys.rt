@@ -18,7 +18,7 @@ use std::vec::IntoIter;
 
 /// A key: an array of elements, before which its namespace may stand. Reserved kinds and names are allowed.
 #[derive(Drop)]
-pub(crate) struct KeyForm;
+pub struct KeyForm;
 
 impl Form for KeyForm {
     type Item = Key;

@@ -14,9 +14,9 @@ use std::vec::IntoIter;
 
 /// An array of any number of items.
 #[derive(Drop)]
-pub(crate) struct ListForm<F> {
+pub struct ListForm<F> {
     /// The form of each item.
-    pub(crate) item: F,
+    pub item: F,
 }
 
 impl<F: Form> Form for ListForm<F> {
@@ -85,7 +85,7 @@ pub(crate) fn read_rest<F: Form>(
 }
 
 /// The two items of an array that has two.
-pub(crate) fn take_two(mut parts: Vec<Value>) -> Option<(Value, Value)>
+pub fn take_two(mut parts: Vec<Value>) -> Option<(Value, Value)>
     ensures some { IfSome result (λ p. parts.items ≡ p.0 ∷ p.1 ∷ []) }
     ensures two { IsSome result ↔ (length parts.items ≡ 2) }
 {

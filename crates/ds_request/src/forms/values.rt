@@ -63,7 +63,7 @@ fn read_tagged(alloc: Global, members: Members) -> Result<Value, Refusal>
 }
 
 /// The member of an object that has one.
-fn take_only(mut members: Members) -> Option<(String, Json)>
+pub fn take_only(mut members: Members) -> Option<(String, Json)>
     ensures some { IfSome result (λ p. members.entries ≡ p ∷ []) }
     ensures one { IsSome result ↔ (length members.entries ≡ 1) }
 {
