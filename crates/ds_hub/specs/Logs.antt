@@ -36,4 +36,5 @@ module _ {O E : Type 0} where
   IsMarked asks line [] (t ∷ told) = ⊥
   IsMarked asks line (logged ∷ log) [] = ⊥
   IsMarked asks line (logged ∷ log) (t ∷ told) =
-      (logged.mark.hub ≡ line.hub) × (logged.mark.list ≡ line.list ++ t ∷ []) × (asks t ≡ logged.operation) × IsMarked asks logged.mark log told
+      (logged.mark.hub ≡ line.hub) × (logged.mark.list ≡ line.list ++ t ∷ []) × (asks t ≡ logged.operation)
+      × IsMarked asks logged.mark log told

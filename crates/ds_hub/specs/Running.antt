@@ -11,8 +11,8 @@ abbrev pub unseen : {E : Type 0} → Line E → Line E → List E
 unseen shown announced = drop (length shown.list) announced.list
 
 -- `log` has the pending operations, with the one that is kept aside
-pub record IsRunning {T O E : Type 0} (asks : E → O) (applied : T → O → T) (hub : HubId) (knows : Option (Origin T E)) (state : T) (shown : Line E)
-    (log : List (Logged O E)) (announced : Line E) (waiting : ℕ) : Type 0 where
+pub record IsRunning {T O E : Type 0} (asks : E → O) (applied : T → O → T) (hub : HubId) (knows : Option (Origin T E)) (state : T)
+    (shown : Line E) (log : List (Logged O E)) (announced : Line E) (waiting : ℕ) : Type 0 where
   -- it was told where the hub begins, and what readers see is the fold of the published list from there
   pub told : IsOf hub knows
   pub fits : Fits (told_by asks applied) state shown knows

@@ -26,7 +26,12 @@ impl<L: Drop, T: Absorb<L> + Drop, V, P: Protocol<T, V>> Model for Copies<L, T, 
 
     ghost Value = { Copied L T V };
 
-    ghost view = { λ c. record { seat = c.writer.desk.place.id; knows = knows c.writer.desk.place; shown = c.writer.desk.shown.value; log = drop c.writer.behind c.writer.log.items } };
+    ghost view = { λ c. record {
+      seat = c.writer.desk.place.id;
+      knows = knows c.writer.desk.place;
+      shown = c.writer.desk.shown.value;
+      log = drop c.writer.behind c.writer.log.items;
+    } };
 }
 
 impl<L: Drop, T: Absorb<L> + Drop, V, P: Protocol<T, V>> Copies<L, T, V, P> {
@@ -55,24 +60,30 @@ impl<L: Drop, T: Absorb<L> + Drop, V, P: Protocol<T, V>> Copies<L, T, V, P> {
 
     /// Adds an operation with its mark. It comes back where there is no memory.
     pub fn append(&mut self, logged: L) -> Result<(), L>
-        ensures { MatchResult result (λ _. self.new ≡ record self.old { log = self.old.log ++ logged ∷ [] }) (λ back. (back ≡ logged) × (self.new ≡ self.old)) }
+        ensures { MatchResult result (λ _. self.new ≡ record self.old { log = self.old.log ++ logged ∷ [] })
+            (λ back. (back ≡ logged) × (self.new ≡ self.old)) }
     {
         self.writer.append(logged)
     }
 
     /// Shows a copy that has all that was added. It waits for the readers of that copy.
     pub fn publish_as<M: Outcome<T, V>, R: Wait>(&mut self, rt: &R) -> Result<(), AllocError>
-        requires { (next : T) → T.state next ≡ fold T.applied (T.state self.old.shown) self.old.log → TurnsAt P.holds self.old.seat self.old.knows self.old.shown next M.then }
+        requires { (next : T) → T.state next ≡ fold T.applied (T.state self.old.shown) self.old.log
+            → TurnsAt P.holds self.old.seat self.old.knows self.old.shown next M.then }
         ensures succeeds { T.never_fails → IsOk result }
         ensures seat { self.new.seat ≡ self.old.seat }
-        ensures ok { IfOk result (λ _. (T.state self.new.shown ≡ fold T.applied (T.state self.old.shown) self.old.log) × (self.new.log ≡ []) × M.then self.old.knows self.old.shown self.new.shown self.new.knows) }
-        ensures err { MatchResult result (λ _. Unit {0}) (λ _. (self.new.shown ≡ self.old.shown) × (self.new.log ≡ self.old.log) × (self.new.knows ≡ self.old.knows)) }
+        ensures ok { IfOk result (λ _. (T.state self.new.shown ≡ fold T.applied (T.state self.old.shown) self.old.log)
+            × (self.new.log ≡ []) × M.then self.old.knows self.old.shown self.new.shown self.new.knows) }
+        ensures err { MatchResult result (λ _. Unit {0})
+            (λ _. (self.new.shown ≡ self.old.shown) × (self.new.log ≡ self.old.log) × (self.new.knows ≡ self.old.knows)) }
     {
         replace_with(
             &mut self.writer,
             rt,
             |writer: Writer<T, L, V, P>, rt: &R| -> (Writer<T, L, V, P>, Result<(), AllocError>)
-                requires { (next : T) → T.state next ≡ fold T.applied (T.state writer.desk.shown.value) (drop writer.behind writer.log.items) → TurnsAt P.holds writer.desk.place.id (knows writer.desk.place) writer.desk.shown.value next M.then }
+                requires { (next : T)
+                    → T.state next ≡ fold T.applied (T.state writer.desk.shown.value) (drop writer.behind writer.log.items)
+                    → TurnsAt P.holds writer.desk.place.id (knows writer.desk.place) writer.desk.shown.value next M.then }
             { writer.publish_as::<M, R>(rt) },
         )
     }
@@ -81,9 +92,11 @@ impl<L: Drop, T: Absorb<L> + Drop, V, P: Protocol<T, V>> Copies<L, T, V, P> {
     pub fn reader<C: Split<V>, J: Join<V>>(&mut self) -> Result<Reader<T, V, P>, AllocError>
         requires admits { Admits P.holds P.first }
         requires forks { Forks P.holds self.old.seat self.old.knows (C.left self.old.knows) (C.right self.old.knows) }
-        requires merges { (seat note : _) → Merges P.holds seat P.first note (C.right self.old.knows) (J.both P.first (C.right self.old.knows)) J.spent }
+        requires merges { (seat note : _)
+            → Merges P.holds seat P.first note (C.right self.old.knows) (J.both P.first (C.right self.old.knows)) J.spent }
         ensures copies { (self.new.shown ≡ self.old.shown) × (self.new.log ≡ self.old.log) }
-        ensures ok { IfOk result (λ r. (self.new.knows ≡ C.left self.old.knows) × (knows r.place ≡ J.both P.first (C.right self.old.knows))) }
+        ensures ok { IfOk result (λ r. (self.new.knows ≡ C.left self.old.knows)
+            × (knows r.place ≡ J.both P.first (C.right self.old.knows))) }
         ensures err { MatchResult result (λ _. Unit {0}) (λ _. self.new.knows ≡ self.old.knows) }
     {
         let mut reader = self.writer.factory().reader()?;

@@ -34,8 +34,10 @@ pub fn make<O: Drop, S: Absorb<O> + Drop, Rt: Wait>(
 ) -> Result<Hub<O, S>, NoMemory>
     requires some { 0 < readers }
     requires alike { S.state first ≡ S.state second }
-    ensures writer { IfOk result (λ hub. (hub.writer.start ≡ Some (S.state first)) × (hub.writer.published ≡ []) × (hub.writer.pending ≡ []) × (hub.writer.is_parked ≡ false)) }
-    ensures readers { IfOk result (λ hub. hub.readers ≡ replicate readers (record { hub = hub.writer.hub; start = Some (S.state first); known = [] })) }
+    ensures writer { IfOk result (λ hub. (hub.writer.start ≡ Some (S.state first)) × (hub.writer.published ≡ [])
+        × (hub.writer.pending ≡ []) × (hub.writer.is_parked ≡ false)) }
+    ensures readers { IfOk result (λ hub. hub.readers ≡ replicate readers
+        (record { hub = hub.writer.hub; start = Some (S.state first); known = [] })) }
 {
     let (head, prefix) = Head::open();
     let mut copies = open(rt, alloc, first, second, &prefix, readers)?;
@@ -68,7 +70,8 @@ fn open<O: Drop, S: Absorb<O> + Drop, R: Wait>(
     requires some { 0 < readers }
     requires alike { S.state first ≡ S.state second }
     requires empty { prefix.now.list ≡ [] }
-    ensures shown { IfOk result (λ copies. (copies.shown.prefix ≡ prefix.now) × (S.state copies.shown.state ≡ S.state first) × (copies.log ≡ [])) }
+    ensures shown { IfOk result (λ copies. (copies.shown.prefix ≡ prefix.now) × (S.state copies.shown.state ≡ S.state first)
+        × (copies.log ≡ [])) }
     ensures knows { IfOk result (λ copies. copies.knows ≡ Some (record { start = S.state first; prefix = prefix.now })) }
 {
     let first = Version {
@@ -114,7 +117,8 @@ fn seat_all<O: Drop, S: Absorb<O> + Drop, R: Wait>(
     requires told { IsOf prefix.now.hub copies.old.knows }
     requires empty { list.old ≡ [] }
     ensures copies { (copies.new.shown ≡ copies.old.shown) × (copies.new.log ≡ copies.old.log) × (copies.new.knows ≡ copies.old.knows) }
-    ensures list { IfOk result (λ _. list.new ≡ replicate count (record { hub = prefix.now.hub; start = start_of copies.old.knows; known = prefix.now.list })) }
+    ensures list { IfOk result (λ _. list.new ≡ replicate count
+        (record { hub = prefix.now.hub; start = start_of copies.old.knows; known = prefix.now.list })) }
 {
     for _place in 0..count {
         let reader = Reader {

@@ -8,6 +8,17 @@
 //!
 //! Begin with `Absorb`, what a state must do, and with `make`. Then `Writer` and `Reader` have the calls. What contracts see of
 //! them stands in `specs/Holding.antt`.
+//!
+//! A caller has a writer and a reader so; a shard's state is `ds_shard::ShardState`:
+//!
+//!     let Hub { mut writer, mut readers } = make(rt, alloc, first, second, 1)?;
+//!     writer.add(operation)?;                       // handed back where memory is wanted
+//!     writer.publish(rt)?;                          // waits for readers of the older copy, never for memory
+//!     let note = writer.tell();
+//!     let mut slot = Slot::new(readers.pop()?);
+//!     slot.learn(note);                             // the next view is no older than the note
+//!     if slot.enter() { look(slot.state()); }
+//!     slot.leave();                                 // before this thread publishes in the hub
 #![tactic(auto)]
 
 mod absorb;

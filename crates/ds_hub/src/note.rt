@@ -1,4 +1,6 @@
 //! What the writer or a reader tells.
+ghost use Rattle.std.specs.Prelude.{◌≡◌, length};
+
 use crate::prefix::Prefix;
 use std::marker::Model;
 
@@ -15,4 +17,22 @@ impl<E> Model for Note<E> {
     ghost Value = { Line E };
 
     ghost view = { λ n. n.prefix };
+}
+
+impl<E> Note<E> {
+    /// How long the list is that it tells.
+    pub fn len(&self) -> u64
+        ensures { result ≡ length self.now.list }
+    {
+        self.prefix.len()
+    }
+
+    /// The same note once more. It takes no memory.
+    pub fn duplicate(&self) -> Note<E>
+        ensures { result ≡ self.now }
+    {
+        Note {
+            prefix: self.prefix.duplicate(),
+        }
+    }
 }

@@ -1,5 +1,5 @@
 //! A hub's readers, and the views that they enter.
-ghost use Rattle.std.specs.Prelude.{◌≡◌, ◌⊎◌, MatchResult};
+ghost use Rattle.std.specs.Prelude.{◌≡◌, ◌⊎◌, length, MatchResult};
 ghost use mathlib.Core.List.{IsPrefix};
 ghost use Rattle.ds_hub.specs.Holding.{IsFold};
 ghost use Rattle.ds_hub.specs.Logs.{told_by};
@@ -58,12 +58,25 @@ impl<O: Drop, S: Absorb<O> + Drop> Model for View<O, S> {
 
     ghost Value = { Showing S.State S.Told S };
 
-    ghost view = { λ v. record { hub = v.reading.part.value.prefix.hub; start = start_of (knows v.reading.place); list = v.reading.part.value.prefix.list; state = v.reading.part.value.state } };
+    ghost view = { λ v. record {
+      hub = v.reading.part.value.prefix.hub;
+      start = start_of (knows v.reading.place);
+      list = v.reading.part.value.prefix.list;
+      state = v.reading.part.value.state;
+    } };
 
-    ghost invariant = { λ v. IsOf v.reading.part.value.prefix.hub (knows v.reading.place) × Fits (told_by S.asks S.applied) (S.state v.reading.part.value.state) v.reading.part.value.prefix (knows v.reading.place) };
+    ghost invariant = { λ v. IsOf v.reading.part.value.prefix.hub (knows v.reading.place)
+        × Fits (told_by S.asks S.applied) (S.state v.reading.part.value.state) v.reading.part.value.prefix (knows v.reading.place) };
 }
 
 impl<O: Drop, S: Absorb<O> + Drop> Reader<O, S> {
+    /// How long the longest list is that this reader saw or learnt.
+    pub fn len(&self) -> u64
+        ensures { result ≡ length self.now.known }
+    {
+        self.prefix.len()
+    }
+
     /// Takes in what the writer of this hub told, and spends the note. The next view's list begins with it.
     pub fn learn(&mut self, note: Note<S::Told>)
         requires { note.hub ≡ self.old.hub }
@@ -88,7 +101,8 @@ impl<O: Drop, S: Absorb<O> + Drop> Reader<O, S> {
     /// Takes the state that was published last, and waits for nobody. The list of the view begins with all that this reader
     /// saw or learnt. The reader comes back as it was where the writer has ended.
     pub fn enter(self) -> Result<View<O, S>, Reader<O, S>>
-        ensures { MatchResult result (λ view. (view.hub ≡ self.hub) × (view.start ≡ self.start) × IsPrefix self.known view.list × IsFold (told_by S.asks S.applied) view.start view.list (S.state view.state)) (λ reader. reader ≡ self) }
+        ensures { MatchResult result (λ view. (view.hub ≡ self.hub) × (view.start ≡ self.start) × IsPrefix self.known view.list
+            × IsFold (told_by S.asks S.applied) view.start view.list (S.state view.state)) (λ reader. reader ≡ self) }
     {
         let Reader { reader, prefix } = self;
         match reader.enter_as::<Stays<O>>() {
@@ -109,6 +123,13 @@ impl<O: Drop, S: Absorb<O> + Drop> Reader<O, S> {
 }
 
 impl<O: Drop, S: Absorb<O> + Drop> View<O, S> {
+    /// How long the view's list is.
+    pub fn len(&self) -> u64
+        ensures { result ≡ length self.now.list }
+    {
+        self.reading.get().prefix.len()
+    }
+
     /// The state: the fold of the view's list from the state with which the hub begins.
     pub fn state(&self) -> &S
         ensures state { result.now ≡ self.now.state }

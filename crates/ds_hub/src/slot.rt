@@ -1,5 +1,5 @@
 //! A reader, or the view that it entered.
-ghost use Rattle.std.specs.Prelude.{◌≡◌, ◌⊎◌, IsTrue, None, is_some, MatchOption};
+ghost use Rattle.std.specs.Prelude.{◌≡◌, ◌⊎◌, IsTrue, None, is_some, length, MatchOption};
 ghost use mathlib.Core.List.{IsPrefix};
 ghost use Rattle.ds_hub.specs.Holding.{IsFold, slotted};
 ghost use Rattle.ds_hub.specs.Logs.{told_by};
@@ -67,7 +67,9 @@ impl<O: Drop, S: Absorb<O> + Drop> Slot<O, S> {
     /// The state that the view shows: the fold of what is known from the state with which the hub begins. `None` where there is
     /// no view.
     pub fn state(&self) -> Option<&S>
-        ensures { MatchOption result (self.now.shown ≡ None) (λ state. (self.now.shown ≡ Some state.now) × IsFold (told_by S.asks S.applied) self.now.start self.now.known (S.state state.now)) }
+        ensures { MatchOption result (self.now.shown ≡ None)
+            (λ state. (self.now.shown ≡ Some state.now)
+            × IsFold (told_by S.asks S.applied) self.now.start self.now.known (S.state state.now)) }
     {
         match &self.place {
             Ok(view) => Some(view.state()),
@@ -91,6 +93,16 @@ impl<O: Drop, S: Absorb<O> + Drop> Slot<O, S> {
                 requires { note.hub ≡ (slotted place).hub }
             { learnt(place, note) },
         )
+    }
+
+    /// How long the longest list is that the slot's reader saw or learnt.
+    pub fn len(&self) -> u64
+        ensures { result ≡ length self.now.known }
+    {
+        match &self.place {
+            Ok(view) => view.len(),
+            Err(reader) => reader.len(),
+        }
     }
 
     /// Tells the longest list that the slot's reader saw or learnt.

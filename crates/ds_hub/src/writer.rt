@@ -56,7 +56,8 @@ impl<O: Drop, S: Absorb<O> + Drop> Model for Writer<O, S> {
       is_parked = is_some w.parked;
     } };
 
-    ghost invariant = { λ w. IsRunning S.asks S.applied w.head w.copies.knows (S.state w.copies.shown.state) w.copies.shown.prefix (queued w.copies.log w.parked) w.announced w.waiting };
+    ghost invariant = { λ w. IsRunning S.asks S.applied w.head w.copies.knows (S.state w.copies.shown.state) w.copies.shown.prefix
+        (queued w.copies.log w.parked) w.announced w.waiting };
 }
 
 impl<O: Drop, S: Absorb<O> + Drop> Writer<O, S> {
@@ -87,7 +88,10 @@ impl<O: Drop, S: Absorb<O> + Drop> Writer<O, S> {
     pub fn add_as<X, M: Tells<X, S::Told>>(&mut self, op: O, about: &X) -> Result<(), O>
         requires room { length self.old.published + length self.old.pending < 2 ^ 62 }
         requires asks { S.asks (M.told about.now) ≡ op }
-        ensures { MatchResult result (λ _. self.new ≡ record self.old { pending = self.old.pending ++ M.told about.now ∷ []; is_parked = self.new.is_parked }) (λ back. (back ≡ op) × (self.new ≡ self.old)) }
+        ensures { MatchResult result (λ _. self.new ≡ record self.old {
+          pending = self.old.pending ++ M.told about.now ∷ [];
+          is_parked = self.new.is_parked;
+        }) (λ back. (back ≡ op) × (self.new ≡ self.old)) }
     {
         if self.parked.is_some() || !self.head.announce::<X, M>(&mut self.announced, about) {
             return Err(op);
@@ -105,7 +109,10 @@ impl<O: Drop, S: Absorb<O> + Drop> Writer<O, S> {
     pub fn add_told(&mut self, op: O, told: &S::Told) -> Result<(), O>
         requires room { length self.old.published + length self.old.pending < 2 ^ 62 }
         requires asks { S.asks told.now ≡ op }
-        ensures { MatchResult result (λ _. self.new ≡ record self.old { pending = self.old.pending ++ told.now ∷ []; is_parked = self.new.is_parked }) (λ back. (back ≡ op) × (self.new ≡ self.old)) }
+        ensures { MatchResult result (λ _. self.new ≡ record self.old {
+          pending = self.old.pending ++ told.now ∷ [];
+          is_parked = self.new.is_parked;
+        }) (λ back. (back ≡ op) × (self.new ≡ self.old)) }
     {
         self.add_as::<S::Told, Itself>(op, told)
     }
@@ -126,7 +133,11 @@ impl<O: Drop, S: Absorb<O> + Drop> Writer<O, S> {
     /// leaves its views before.
     pub fn publish<Rt: Wait>(&mut self, rt: &Rt) -> Result<(), NoMemory>
         ensures succeeds { S.never_fails → self.old.is_parked ≡ false → IsOk result }
-        ensures lists { MatchResult result (λ _. self.new ≡ record self.old { published = self.old.published ++ self.old.pending; pending = []; is_parked = false }) (λ _. self.new ≡ record self.old { is_parked = self.new.is_parked }) }
+        ensures lists { MatchResult result (λ _. self.new ≡ record self.old {
+          published = self.old.published ++ self.old.pending;
+          pending = [];
+          is_parked = false;
+        }) (λ _. self.new ≡ record self.old { is_parked = self.new.is_parked }) }
     {
         if self.parked.is_none() && self.waiting == 0 {
             return Ok(());
@@ -177,6 +188,28 @@ impl<O: Drop, S: Absorb<O> + Drop> Writer<O, S> {
         unreachable!()
     }
 
+    /// Whether all that a note of this hub tells is published. In every run it is.
+    pub fn covers_note(&self, note: &Note<S::Told>) -> bool
+        requires { note.now.hub ≡ self.now.hub }
+        ensures { IsTrue result ↔ IsPrefix note.now.list self.now.published }
+    {
+        note.prefix.begins(&self.copies.shown().prefix)
+    }
+
+    /// Shows that all that a note of this hub tells is published. It asks `covers_note` until it says so, which is at once.
+    pub fn confirm_note<Rt: Wait>(&self, rt: &Rt, note: &Note<S::Told>)
+        requires { note.now.hub ≡ self.now.hub }
+        ensures { IsPrefix note.now.list self.now.published }
+    {
+        for _ in rt.forever() {
+            if self.covers_note(note) {
+                return;
+            }
+            thread::yield_now();
+        }
+        unreachable!()
+    }
+
     /// Ends the hub: no reader enters any more. It waits for the readers that read. Pending operations are dropped.
     ///
     /// It ensures nothing, since it uses the writer up and gives nothing of which to speak. What a store needs to know at the
@@ -200,7 +233,10 @@ impl<O: Drop, S: Absorb<O, Told = O> + Drop> Writer<O, S> {
     pub fn add(&mut self, op: O) -> Result<(), O>
         requires room { length self.old.published + length self.old.pending < 2 ^ 62 }
         requires asks { S.asks op ≡ op }
-        ensures { MatchResult result (λ _. self.new ≡ record self.old { pending = self.old.pending ++ op ∷ []; is_parked = self.new.is_parked }) (λ back. (back ≡ op) × (self.new ≡ self.old)) }
+        ensures { MatchResult result (λ _. self.new ≡ record self.old {
+          pending = self.old.pending ++ op ∷ [];
+          is_parked = self.new.is_parked;
+        }) (λ back. (back ≡ op) × (self.new ≡ self.old)) }
     {
         let about = Snapshot::of(&op);
         self.add_as::<Snapshot<O>, InSnapshot>(op, &about)
