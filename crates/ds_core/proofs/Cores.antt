@@ -8,7 +8,7 @@ use Rattle.ds_base.specs.Limits.{first_drawn_id, greatest_client}
 use Rattle.ds_indexdef.specs.declared.IndexDef.{IndexDef}
 use Rattle.ds_model.specs.Sessions.{Session, first_session, first_sessions, greater_counts, greatest_counts}
 use Rattle.ds_model.specs.Sessions.{raised_to, met}
-use Rattle.ds_core.specs.Meetings.{HaveCounts}
+use Rattle.ds_protocol.specs.Watermarks.{HaveCounts}
 use Rattle.ds_plans.specs.States.{StoreParts, StateParts, AreUpTo, IsSession, Grows}
 use Rattle.ds_core.specs.Cores.{CoreParts, IsCore}
 use Rattle.ds_plans.proofs.Grown.{up_to-same, up_to-greater, session-grown}

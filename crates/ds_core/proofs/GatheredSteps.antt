@@ -5,7 +5,6 @@ use Rattle.std.specs.Prelude.{Err, Ok, IfSome, OnOk, Result, is_some, slice_set}
 use Rattle.std.specs.Option.{option_map}
 use Rattle.ds_base.specs.Limits.{greatest_client}
 use Rattle.ds_request.specs.declared.call.Request.{Request}
-use Rattle.ds_request.specs.Lawful.{IsLawfulCall}
 use Rattle.ds_reply.specs.declared.reply.Body.{Body}
 use Rattle.ds_model.specs.Sessions.{Session, count_of, first_session, raised_at}
 use Rattle.ds_plans.specs.declared.effect.Effect.{Effect}
@@ -13,13 +12,16 @@ use Rattle.ds_plans.specs.Due.{counts_applied, is_pending}
 use Rattle.ds_plans.specs.States.{AreUpTo, IsSession, StateParts}
 use Rattle.ds_plans.proofs.Grown.{up_to-same}
 use Rattle.ds_plans.proofs.ReadPlans.{raised_above}
+use Rattle.ds_protocol.specs.declared.operations.Operation.{Operation}
+use Rattle.ds_protocol.specs.declared.operations.OperationRefused.{OperationRefused}
+use Rattle.ds_protocol.specs.Operations.{IsAskedOf}
 use Rattle.ds_core.specs.declared.opened.Open.{Open}
 use Rattle.ds_core.specs.Happenings.{IsSilent, Turn}
 use Rattle.ds_core.specs.Machines.{MachineParts, IsDueTo, IsLawfulRequest, IsLegal, IsOpen, IsSameRun, held_by, just_opened}
 use Rattle.ds_core.specs.Steps.{AppliedTo, DrawnTo, ReadsUpTo, ViewedTo, touched}
 use Rattle.ds_core.proofs.Clients.{client-below, client-open, due-any, own-at, own-read}
 use Rattle.ds_core.proofs.Gathers.{apply-step, issue-step, open-step, raise-step, touch-step, view-step}
-use Rattle.ds_core.proofs.Places.{open-lawful, open-place, open-views, reads-within}
+use Rattle.ds_core.proofs.Places.{open-place, open-views, reads-within}
 use Rattle.ds_core.proofs.Turns.{asked-at, asked-opens, turn-had, turn-opened}
 
 -- what was said stays legal, and nothing is said
@@ -112,28 +114,26 @@ module _ (was m : MachineParts) (is : m ≡ was) (legal : IsLegal was) (client :
   called-reads s o place had asked reads =
       let both = called-own s o had asked in reads-within m.state client s o place both.0 both.1 reads
 
-  pub called-lawful : (o : Option Open) → o ≡ get_or m.opens client o → IfSome o (λ p. IsLawfulCall p.request.call)
-  called-lawful o asked = open-lawful m.state client (get_or m.sessions client (first_session 0)) o (own o asked)
-
-  -- a request is opened where none is
-  pub called-open : (r : Request) (n : ℕ) (new : Option Open) → length m.state.applied.counts ≡ m.state.store.shards
+  pub called-open : (r : Request) (asked : Result Operation OperationRefused) (n : ℕ) (new : Option Open) → IsAskedOf r.call asked
+      → length m.state.applied.counts ≡ m.state.store.shards
       → n ≡ m.state.store.shards → IsLawfulRequest was.state.store.shards client r → is_some (get_or was.opens client None) ≡ false
-      → new ≡ Some (just_opened r n)
+      → new ≡ Some (just_opened r asked n)
       → IsLegal (record m { opens = slice_set m.opens client new })
       × Turn was (record m { opens = slice_set m.opens client new }) client (Some r)
-  called-open r n new many all lawful closed now =
+  called-open r asked n new of many all lawful closed now =
       let own_lawful : IsLawfulRequest m.state.store.shards client r =
       subst (λ (x : MachineParts). IsLawfulRequest x.state.store.shards client r) (sym is) lawful in
       let none : get_or m.opens client None ≡ None = closed-one (get_or m.opens client None)
       (subst (λ (x : MachineParts). is_some (get_or x.opens client None) ≡ false) (sym is) closed) in
       subst (λ o. IsLegal (record m { opens = slice_set m.opens client o })
       × Turn was (record m { opens = slice_set m.opens client o }) client (Some r))
-      (ap (λ k. Some (just_opened r k)) (sym all) ∙ sym now) (
-        open-step m now_legal client (first_session 0) None r below many own_lawful (ap held_by none),
-        subst (λ x. Turn x (record m { opens = slice_set m.opens client (Some (just_opened r m.state.store.shards)) }) client (Some r)) is
-            (turn-opened m (record m { opens = slice_set m.opens client (Some (just_opened r m.state.store.shards)) }) client r
+      (ap (λ k. Some (just_opened r asked k)) (sym all) ∙ sym now) (
+        open-step m now_legal client (first_session 0) None r asked of below many own_lawful (ap held_by none),
+        subst (λ x. Turn x (record m { opens = slice_set m.opens client (Some (just_opened r asked m.state.store.shards)) }) client
+            (Some r)) is
+            (turn-opened m (record m { opens = slice_set m.opens client (Some (just_opened r asked m.state.store.shards)) }) client r
             (asked-at m.opens client None (client-open m now_legal client bound) ∙ ap (option_map (λ (p : Open). p.request)) none)
-            (asked-opens m.opens client (Some (just_opened r m.state.store.shards))) refl refl),
+            (asked-opens m.opens client (Some (just_opened r asked m.state.store.shards))) refl refl),
       )
 
   pub called-apply : (st : StateParts) (shard n : ℕ) (old new : Option Open) → st.store ≡ m.state.store
@@ -142,7 +142,8 @@ module _ (was m : MachineParts) (is : m ≡ was) (legal : IsLegal was) (client :
       → AppliedTo shard n old new → Quietly was (record m { state = st; opens = slice_set m.opens client new })
   called-apply st shard n old new store up there pending counts many had applied =
       let raised : st.applied.counts ≡ raised_at shard (count_of m.state.applied.counts shard + 1) m.state.applied.counts = counts
-      ∙ ap (λ b. cond b (raised_at shard (count_of m.state.applied.counts shard + 1) m.state.applied.counts) m.state.applied.counts) pending in
+      ∙ ap (λ b. cond b (raised_at shard (count_of m.state.applied.counts shard + 1) m.state.applied.counts) m.state.applied.counts)
+      pending in
       let above = raised_above shard (count_of m.state.applied.counts shard + 1) m.state.applied.counts there in
       let same : count_of st.applied.counts shard
       ≡ count_of (raised_at shard (count_of m.state.applied.counts shard + 1) m.state.applied.counts) shard =

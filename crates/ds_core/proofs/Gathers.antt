@@ -1,7 +1,7 @@
 -- What an open request gathers keeps what was said legal, and says nothing.
 use Rattle.std.proofs.Common.{◌≡◌, inl, inr, ℕ, ◌+◌, ◌<◌, ◌≤◌, [], ◌++◌, length, refl, ap, sym, ◌∙◌, subst, arith}
 use Rattle.std.proofs.Common.{Option, Some, None, get_or, true, false}
-use Rattle.std.specs.Prelude.{slice_set}
+use Rattle.std.specs.Prelude.{Result, slice_set}
 use Rattle.std.specs.List.{range_with_len}
 use Rattle.std.specs.Option.{option_map}
 use Rattle.std.proofs.lemmas.List.{append-nil}
@@ -10,12 +10,16 @@ use Rattle.ds_request.specs.declared.call.Call.{Call}
 use Rattle.ds_request.specs.declared.call.Call.TheVariants as call
 use Rattle.ds_request.specs.declared.call.Request.{Request}
 use Rattle.ds_model.specs.Sessions.{Session, count_of}
-use Rattle.ds_plans.specs.Due.{GatheredParts, IsGathered, AppliedWithin, ids_asked, ids_of, ids_from}
+use Rattle.ds_plans.specs.Due.{GatheredParts, IsGathered, AppliedWithin, ids_of, ids_from}
+use Rattle.ds_protocol.specs.Operations.{ids_asked}
 use Rattle.ds_plans.specs.States.{StoreParts, StateParts, IsSession, Grows, AreUpTo}
 use Rattle.ds_plans.proofs.Gatherings.{gathered-applied, gathered-first, gathered-nothing, gathered-place, gathered-view}
 use Rattle.ds_plans.proofs.Growing.{grows_planned}
 use Rattle.ds_plans.proofs.Grown.{up_to-same}
 use Rattle.ds_plans.proofs.ReadPlans.{up_to-count}
+use Rattle.ds_protocol.specs.declared.operations.Operation.{Operation}
+use Rattle.ds_protocol.specs.declared.operations.OperationRefused.{OperationRefused}
+use Rattle.ds_protocol.specs.Operations.{IsAskedOf}
 use Rattle.ds_core.specs.declared.opened.Open.{Open}
 use Rattle.ds_core.specs.Happenings.{IsSilent}
 use Rattle.ds_core.specs.Machines.{MachineParts, IsLawfulRequest, IsLegal, IsOpen, IsSameRun, held_by, just_opened}
@@ -71,7 +75,7 @@ quiet-step m new client d none o legal below store counts is same asked = (
 touched-open : (st : StateParts) (client : ℕ) (s : Session) (o : Option Open) → IsSession st s → IsOpen st client s o
     → IsOpen st client s (touched (length st.store.journal) o)
 touched-open st client s None seen is = tt
-touched-open st client s (Some o) seen is = (is.0, is.1, is.2, by o.gathered.place refl) where
+touched-open st client s (Some o) seen is = (is.0, is.1, is.2, by o.gathered.place refl, is.4) where
   by : (x : Option ℕ) → o.gathered.place ≡ x
       → IsGathered st s o.request.call (record (o.gathered) { place = first_place (length st.store.journal) x })
   by None same = gathered-place st s o.request.call o.gathered is.3 (length st.store.journal) seen.place_within (omega arith)
@@ -92,7 +96,7 @@ viewed-open : (st : StateParts) (client : ℕ) (s : Session) (shard : ℕ) (o : 
     (record (p.gathered) { views = slice_set p.gathered.views shard (Some (count_of st.applied.counts shard)) }) p) o)
 viewed-open st client s shard None seen is = tt
 viewed-open st client s shard (Some o) seen is =
-    (is.0, is.1, is.2, gathered-view st s o.request.call o.gathered is.3 shard seen.counts_within)
+    (is.0, is.1, is.2, gathered-view st s o.request.call o.gathered is.3 shard seen.counts_within, is.4)
 
 viewed-held : (shard : ℕ) (v : Option ℕ) (o : Option Open)
     → held_by (option_map (λ p. with_gathered (record (p.gathered) { views = slice_set p.gathered.views shard v }) p) o) ≡ held_by o
@@ -119,6 +123,7 @@ applied-open st client s shard n old new is low high (inr (o, was, of, now)) =
       own.2,
       gathered-applied st s o.request.call o.gathered own.3 n
           (subst (λ c. AppliedWithin st s c (Some n)) (sym of) (low, high)),
+      own.4,
     ))
 
 applied-held : (shard n : ℕ) (old new : Option Open) → AppliedTo shard n old new → held_by new ≡ held_by old
@@ -145,7 +150,8 @@ module _ (m : MachineParts) (legal : IsLegal m) (client : ℕ) (d : Session) (no
       → IsLegal (record m { opens = slice_set m.opens client o }) × IsSameRun m (record m { opens = slice_set m.opens client o })
       × IsSilent m (record m { opens = slice_set m.opens client o })
   touch-step o is = subst (λ p. IsLegal (record m { opens = slice_set m.opens client p })
-      × IsSameRun m (record m { opens = slice_set m.opens client p }) × IsSilent m (record m { opens = slice_set m.opens client p })) (sym is)
+      × IsSameRun m (record m { opens = slice_set m.opens client p }) × IsSilent m (record m { opens = slice_set m.opens client p }))
+      (sym is)
       (quiet-step m m.state client d none (touched (length m.state.store.journal) (get_or m.opens client none)) legal below refl
       (up_to-same m.state.applied.counts)
       (touched-open m.state client (get_or m.sessions client d) (get_or m.opens client none) own.0 own.1)
@@ -235,6 +241,7 @@ module _ (m : MachineParts) (legal : IsLegal m) (client : ℕ) (d : Session) (no
           at_first.2,
           gathered-first later (get_or m.sessions client d) p.request.call p.gathered at_first.3 m.state.store.next low
               own.0.next_within (omega (arith, asks)),
+          at_first.4,
         )
             holds,
         (refl, refl),
@@ -272,17 +279,19 @@ module _ (m : MachineParts) (legal : IsLegal m) (client : ℕ) (d : Session) (no
 
 -- a request is opened, which has gathered nothing
 pub open-step : (m : MachineParts) → IsLegal m → (client : ℕ) (d : Session) (none : Option Open) (r : Request)
+    (asked : Result Operation OperationRefused) → IsAskedOf r.call asked
     → client < length m.sessions → length m.state.applied.counts ≡ m.state.store.shards
     → IsLawfulRequest m.state.store.shards client r → held_by (get_or m.opens client none) ≡ []
-    → IsLegal (record m { opens = slice_set m.opens client (Some (just_opened r m.state.store.shards)) })
-open-step m legal client d none r below many lawful closed =
+    → IsLegal (record m { opens = slice_set m.opens client (Some (just_opened r asked m.state.store.shards)) })
+open-step m legal client d none r asked of below many lawful closed =
     let had = open-at m.state 0 m.sessions m.opens client d none legal.opens below in
-    stepped-legal m legal m.state client d none (Some (just_opened r m.state.store.shards)) below
+    stepped-legal m legal m.state client d none (Some (just_opened r asked m.state.store.shards)) below
     (grows_planned m.state m.state refl (up_to-same m.state.applied.counts)) refl refl refl 0 (omega arith) (
       lawful.0,
       lawful.1,
       lawful.2,
       gathered-nothing m.state (get_or m.sessions client d) r.call m.state.store.shards many had.0.counts_within,
+      of,
     )
-    (none_ids r.call (just_opened r m.state.store.shards).gathered refl
+    (none_ids r.call (just_opened r asked m.state.store.shards).gathered refl
     ∙ sym (append-nil (held_by (get_or m.opens client none)) ∙ closed))

@@ -42,6 +42,7 @@ open-grown old new client s (Some o) grows same is = (
   is.1,
   subst (λ n. IsTrue (has_shard n o.request.call)) (sym same) is.2,
   gathered-grown old new grows s o.request.call o.gathered is.3,
+  is.4,
 )
 
 pub opens-grown : (old new : StateParts) (client : ℕ) (ss : List Session) (os : List (Option Open)) → Grows old new
@@ -63,8 +64,11 @@ open-at st first (s ∷ ss) [] i d e are below = absurd are
 open-at st first (s ∷ ss) (o ∷ os) zero d e are below =
     (are.0, subst (λ n. IsOpen st n s o) (let same : first ≡ first + 0 = omega arith in same) are.1)
 open-at st first (s ∷ ss) (o ∷ os) (suc i) d e are below =
-    let rest = open-at st (first + 1) ss os i d e are.2 (omega (arith, below)) in
-    (rest.0, subst (λ n. IsOpen st n (get_or ss i d) (get_or os i e)) (let same : first + 1 + i ≡ first + suc i = omega arith in same) rest.1)
+    let rest = open-at st (first + 1) ss os i d e are.2 (omega (arith, below)) in (
+      rest.0,
+      subst (λ n. IsOpen st n (get_or ss i d) (get_or os i e)) (let same : first + 1 + i ≡ first + suc i = omega arith in same)
+          rest.1,
+    )
 
 pub opens-many : (st : StateParts) (first : ℕ) (ss : List Session) (os : List (Option Open)) → AreOpen st first ss os
     → length os ≡ length ss
@@ -318,7 +322,8 @@ module _ (m : MachineParts) (legal : IsLegal m) (client : ℕ) (d : Session) (no
       let before : IsPermutation (held m.opens) (ids ++ others) =
       subst (λ p. IsPermutation (held m.opens) (held_by p ++ others)) has (held-at m.opens client none open_below) in
       subst (λ xs. IsPermutation xs (range_with_len first_id (then.store.next - first_id))) (sym now)
-      (subst (λ n. IsPermutation (drawn_ids m.requests m.replies ++ (ids ++ others)) (range_with_len first_id (n - first_id))) (sym due.next)
+      (subst (λ n. IsPermutation (drawn_ids m.requests m.replies ++ (ids ++ others)) (range_with_len first_id (n - first_id)))
+      (sym due.next)
       (IsPermutation-trans _ (drawn_ids m.requests m.replies ++ held m.opens) _
       (IsPermutation-append_right (drawn_ids m.requests m.replies) _ _ (IsPermutation-sym _ _ before)) legal.draws))
 

@@ -1,9 +1,9 @@
 mod Clients
 mod Cores
+mod DueToOpen
 mod GatheredSteps
 mod Gathers
 mod Legals
-mod Meetings
 mod Occurring
 mod Places
 mod Runs

@@ -7,7 +7,8 @@ use Rattle.ds_request.specs.declared.call.Call.{Call}
 use Rattle.ds_request.specs.declared.call.Call.TheVariants as call
 use Rattle.ds_model.specs.Groups.{place_in}
 use Rattle.ds_model.specs.Sessions.{Session, count_of, first_session, first_sessions}
-use Rattle.ds_plans.specs.Due.{GatheredParts, ids_asked}
+use Rattle.ds_plans.specs.Due.{GatheredParts}
+use Rattle.ds_protocol.specs.Operations.{ids_asked}
 use Rattle.ds_core.specs.declared.opened.Open.{Open}
 use Rattle.ds_core.specs.Happenings.{Happening}
 use Rattle.ds_core.specs.Timelines.{AreMoves, AreTimely, AreViews, IsApply, IsIssue, IsTimely, IsTouch, IsView, Moves, Occurs}
@@ -72,7 +73,8 @@ gathered-more hs xs client c g is = record {
   place = if-then (λ place. Occurs (IsTouch client place) hs) (λ place. Occurs (IsTouch client place) (hs ++ xs)) g.place
       (λ place. occurs-more (IsTouch client place) hs xs) is.place;
   first = if-then (λ first. Occurs (IsIssue client (ids_asked c) first) hs)
-      (λ first. Occurs (IsIssue client (ids_asked c) first) (hs ++ xs)) g.first (λ first. occurs-more (IsIssue client (ids_asked c) first) hs xs) is.first;
+      (λ first. Occurs (IsIssue client (ids_asked c) first) (hs ++ xs)) g.first (λ first. occurs-more (IsIssue client (ids_asked c) first)
+      hs xs) is.first;
   applied = raised-more hs xs client c g.applied is.applied;
   views = λ shard count got. occurs-more (IsView client shard count) hs xs (is.views shard count got);
 }

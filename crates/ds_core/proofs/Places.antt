@@ -6,7 +6,6 @@ use Rattle.ds_base.specs.Keys.{KeyParts}
 use Rattle.ds_base.specs.KeyOrder.{same_key}
 use Rattle.ds_log.specs.declared.Touch.{Touch}
 use Rattle.ds_log.specs.Touches.{touch_place}
-use Rattle.ds_request.specs.Lawful.{IsLawfulCall}
 use Rattle.ds_model.specs.Groups.{IsSeenPlace, place_in}
 use Rattle.ds_model.specs.Sessions.{Session, Transaction}
 use Rattle.ds_plans.specs.Due.{AreViewed, GatheredParts}
@@ -47,11 +46,6 @@ pub reads-within : (st : StateParts) (client : ℕ) (s : Session) (o : Option Op
     → ReadsUpTo s o place → place ≤ length st.store.journal
 reads-within st client s None place seen is reads = absurd reads
 reads-within st client s (Some o) place seen is reads = read-within st s o.gathered place seen is.3.place reads
-
-pub open-lawful : (st : StateParts) (client : ℕ) (s : Session) (o : Option Open) → IsOpen st client s o
-    → IfSome o (λ p. IsLawfulCall p.request.call)
-open-lawful st client s None is = tt
-open-lawful st client s (Some o) is = is.1
 
 -- the journal has the place of a request's Touch
 pub open-place : (st : StateParts) (client : ℕ) (s : Session) (o : Option Open) → IsOpen st client s o

@@ -14,6 +14,8 @@ use Rattle.ds_plans.specs.declared.gathered.Step.{Step}
 use Rattle.ds_plans.specs.declared.gathered.Step.TheVariants as steps
 use Rattle.ds_plans.specs.States.{StoreParts, StateParts}
 use Rattle.ds_plans.specs.Told.{IsTold}
+use Rattle.ds_protocol.specs.declared.operations.Operation.{Operation}
+use Rattle.ds_protocol.specs.declared.operations.OperationRefused.{OperationRefused}
 use Rattle.ds_core.specs.declared.opened.Open.{Open}
 use Rattle.ds_core.specs.Happenings.{Happening, IsSilent, IsStill, Moment, Said, Turn, moment_of, said_requests, said_replies}
 use Rattle.ds_core.specs.Machines.{MachineParts, IsDueTo, IsLegal, IsOpen, IsSameRun, just_opened, noted, performed}
@@ -207,9 +209,9 @@ opens-had m = record {
 }
 
 -- where none is, and it may be replied to at once
-pub opens-then : (m new : MachineParts) (client : ℕ) (r : Request) (shards : ℕ)
-    → RepliesAt steps.Touch client (record m { opens = slice_set m.opens client (Some (just_opened r shards)) }) new → OpensAt m new
-opens-then m new client r shards replies = record {
+pub opens-then : (m new : MachineParts) (client : ℕ) (r : Request) (asked : Result Operation OperationRefused) (shards : ℕ)
+    → RepliesAt steps.Touch client (record m { opens = slice_set m.opens client (Some (just_opened r asked shards)) }) new → OpensAt m new
+opens-then m new client r asked shards replies = record {
   journal = by replies.journal;
   counts = replies.counts;
   next = replies.next;
@@ -217,8 +219,8 @@ opens-then m new client r shards replies = record {
     commits = λ is one. cc;
     checks = λ is same. cc;
     views = λ shard is. cc;
-  }) (witnessed-open hs m.sessions m.opens client (Some (just_opened r shards)) are (λ p same.
-      subst (λ (q : Open). IsGatheredThen hs client q.request.call q.gathered) (some-is (just_opened r shards) p same)
+  }) (witnessed-open hs m.sessions m.opens client (Some (just_opened r asked shards)) are (λ p same.
+      subst (λ (q : Open). IsGatheredThen hs client q.request.call q.gathered) (some-is (just_opened r asked shards) p same)
       (nothing-gathered hs client r.call shards)));
 } where
   by : (new.state.store.journal ≡ m.state.store.journal)
@@ -280,11 +282,12 @@ pub replies-ok : {A E : Type 0} (r : Result A E) (s : Step) (client : ℕ) (m n 
 replies-ok (Ok x) s client m n o still replies = replies-still s client m n o still replies
 replies-ok (Err e) s client m n o still replies = tt
 
-pub opens-ok : {A E : Type 0} (r : Result A E) (m new : MachineParts) (client : ℕ) (req : Request) (shards : ℕ)
-    → OnOk r (RepliesAt steps.Touch client (record m { opens = slice_set m.opens client (Some (just_opened req shards)) }) new)
+pub opens-ok : {A E : Type 0} (r : Result A E) (m new : MachineParts) (client : ℕ) (req : Request)
+    (asked : Result Operation OperationRefused) (shards : ℕ)
+    → OnOk r (RepliesAt steps.Touch client (record m { opens = slice_set m.opens client (Some (just_opened req asked shards)) }) new)
     → OnOk r (OpensAt m new)
-opens-ok (Ok x) m new client req shards replies = opens-then m new client req shards replies
-opens-ok (Err e) m new client req shards replies = tt
+opens-ok (Ok x) m new client req asked shards replies = opens-then m new client req asked shards replies
+opens-ok (Err e) m new client req asked shards replies = tt
 
 pub takes-opened-ok : {A E : Type 0} (r : Result A E) (s : Step) (client : ℕ) (old mid new : MachineParts) (begins : Option Request)
     → OpensAt old mid → Turn old mid client begins → IsSameRun old mid → OnOk r (TakesAt mid.state.store.shards s client mid new)

@@ -11,6 +11,8 @@ use Rattle.ds_plans.specs.Due.{counts_applied, is_pending}
 use Rattle.ds_plans.specs.States.{StateParts}
 use Rattle.ds_plans.specs.declared.gathered.Step.{Step}
 use Rattle.ds_plans.specs.declared.gathered.Step.TheVariants as steps
+use Rattle.ds_protocol.specs.declared.operations.Operation.{Operation}
+use Rattle.ds_protocol.specs.declared.operations.OperationRefused.{OperationRefused}
 use Rattle.ds_core.specs.declared.opened.Open.{Open}
 use Rattle.ds_core.specs.Happenings.{IsStill}
 use Rattle.ds_core.specs.Machines.{MachineParts, IsLegal, just_opened}
@@ -90,10 +92,11 @@ module _ (was m : MachineParts) (is : m ≡ was) (legal : IsLegal was) (client :
       (had ∙ get_or_default m.sessions client s d (client-below m (subst IsLegal (sym is) legal) client bound))
       (subst (λ q. IsToldTo st s step q b e) (asked ∙ get_or_default m.opens client o p below) told)
 
-  pub timed-open : {A E : Type 0} (r : Result A E) (after : MachineParts) (req : Request) (n : ℕ) (new : Option Open)
-      → new ≡ Some (just_opened req n) → OnOk r (RepliesAt steps.Touch client (record m { opens = slice_set m.opens client new }) after)
+  pub timed-open : {A E : Type 0} (r : Result A E) (after : MachineParts) (req : Request)
+      (asked : Result Operation OperationRefused) (n : ℕ) (new : Option Open) → new ≡ Some (just_opened req asked n)
+      → OnOk r (RepliesAt steps.Touch client (record m { opens = slice_set m.opens client new }) after)
       → OnOk r (OpensAt was after)
-  timed-open r after req n new now replies =
+  timed-open r after req asked n new now replies =
       subst (λ x. OnOk r (OpensAt x after)) is
-      (opens-ok r m after client req n
+      (opens-ok r m after client req asked n
       (subst (λ o. OnOk r (RepliesAt steps.Touch client (record m { opens = slice_set m.opens client o }) after)) now replies))

@@ -27,7 +27,8 @@ use Rattle.ds_model.proofs.OkReplies.{OkAnswers, ok_answers}
 use Rattle.ds_plans.specs.declared.effect.Effect.{Effect}
 use Rattle.ds_plans.specs.declared.gathered.Step.{Step}
 use Rattle.ds_plans.specs.declared.gathered.Step.TheVariants as steps
-use Rattle.ds_plans.specs.Due.{GatheredParts, IsDue, ids_asked, ids_from, ids_of}
+use Rattle.ds_plans.specs.Due.{GatheredParts, IsDue, ids_from, ids_of}
+use Rattle.ds_protocol.specs.Operations.{ids_asked}
 use Rattle.ds_plans.specs.Effects.{store_after, session_after}
 use Rattle.ds_plans.specs.States.{StoreParts, world}
 use Rattle.ds_plans.specs.Told.{AreNumbersOf, AreViewsOf, IsCommitBy, IsCountBy, IsPlaceOf, IsSeenBy, IsTold, IsWriteAt}

@@ -1,10 +1,10 @@
 -- Each opened request is replied to once.
 use Rattle.std.proofs.Common.{◌≡◌, ℕ, zero, suc, ◌+◌, ◌<◌, List, [], ◌∷◌, ◌++◌, length, map, refl, ap, sym, ◌∙◌, subst, arith}
-use Rattle.std.proofs.Common.{Option, Some, None, get_or, append_assoc}
+use Rattle.std.proofs.Common.{Option, Some, None, get_or, append_assoc, true}
 use Rattle.ds_base.specs.Limits.{first_drawn_id, greatest_client}
 use Rattle.ds_indexdef.specs.declared.IndexDef.{IndexDef}
 use Rattle.std.proofs.lemmas.List.Elements.{All-append, All-cons, All-nil}
-use Rattle.std.specs.Prelude.{Err, Ok, OnOk, Result, All, flat_map, replicate, slice_set}
+use Rattle.std.specs.Prelude.{Err, Ok, OnOk, Result, All, flat_map, is_some, replicate, slice_set}
 use Rattle.std.specs.Option.{option_map}
 use Rattle.std.proofs.lemmas.Grind.{flat_map-append}
 use Rattle.std.proofs.lemmas.List.{append-nil}
@@ -16,7 +16,7 @@ use Rattle.ds_core.specs.declared.event.Transcript.{Transcript}
 use Rattle.ds_core.specs.declared.opened.Open.{Open}
 use Rattle.ds_core.specs.Courses.{GoesOn, HasHappened, IsPast}
 use Rattle.ds_core.specs.Happenings.{Moment, Said, Happening, Happens, Follow, Speaks, Turn, IsSilent, IsStill}
-use Rattle.ds_core.specs.Happenings.{asked_by, asked_of, opening, first_moment, moment_of}
+use Rattle.ds_core.specs.Happenings.{IsMissing, asked_by, asked_of, opening, first_moment, moment_of}
 use Rattle.ds_model.specs.Sessions.{Session, first_sessions}
 use Rattle.ds_core.specs.Happenings.{event_of, said_requests, said_replies}
 use Rattle.ds_core.specs.Machines.{MachineParts, IsSameRun}
@@ -240,7 +240,7 @@ past-then shards old new step client begins hs turn takes same past =
 pub goes-none : (m n : MachineParts) → m ≡ n → GoesOn m n
 goes-none m n same = record {
   more = [];
-  unasked = All-nil (λ (h : Happening). h.begins ≡ None);
+  waited = All-nil IsMissing;
   past = λ shards hs past. subst (IsPast shards n) (sym (append-nil hs)) (subst (λ x. IsPast shards x hs) same past);
 }
 
@@ -253,7 +253,7 @@ moment-still m n still = subst (λ x. moment_of x ≡ moment_of m) (sym still.re
 pub goes-still : (m n : MachineParts) → IsStill m n → GoesOn m n
 goes-still m n still = record {
   more = [];
-  unasked = All-nil (λ (h : Happening). h.begins ≡ None);
+  waited = All-nil IsMissing;
   past = λ shards hs past. subst (IsPast shards n) (sym (append-nil hs)) (record {
     room = ap (λ (x : StoreParts). x.shards) still.store ∙ past.room;
     follow = subst (λ moment. Follow (first_moment shards) hs moment) (sym (moment-still m n still)) past.follow;
@@ -265,28 +265,38 @@ goes-still m n still = record {
   });
 }
 
+-- what is read is there, whatever stands for what isn't
+pub read-here : {A : Type 0} (xs : List A) (i : ℕ) (d x : A) → i < length xs → x ≡ get_or xs i x → get_or xs i d ≡ x
+read-here [] i d x below is = absurd (omega arith)
+read-here (y ∷ ys) zero d x below is = sym is
+read-here (y ∷ ys) (suc i) d x below is = read-here ys i d x (omega arith) is
+
+some-mapped : {A B : Type 0} (f : A → B) (o : Option A) → is_some o ≡ true → is_some (option_map f o) ≡ true
+some-mapped f None is = cc
+some-mapped f (Some x) is = refl
+
+-- a client that has a request open asks something
+pub open-asks : (os : List (Option Open)) (client : ℕ) → client < length os → is_some (get_or os client None) ≡ true
+    → is_some (asked_by (asked_of os) client) ≡ true
+open-asks os client below is =
+    ap (λ (o : Option Request). is_some o) (asked-at os client None below)
+    ∙ some-mapped (λ (p : Open). p.request) (get_or os client None) is
+
 pub goes-turn : (m n : MachineParts) (step : Step) (client : ℕ) → Turn m n client None → TakesAt m.state.store.shards step client m n
-    → IsSameRun m n → GoesOn m n
-goes-turn m n step client turn takes same = record {
+    → IsSameRun m n → is_some (asked_by (asked_of m.opens) client) ≡ true → GoesOn m n
+goes-turn m n step client turn takes same asks = record {
   more = happened m n step client None turn ∷ [];
-  unasked = All-cons (λ (h : Happening). h.begins ≡ None) (happened m n step client None turn) [] refl
-      (All-nil (λ (h : Happening). h.begins ≡ None));
+  waited = All-cons IsMissing (happened m n step client None turn) [] (refl, asks) (All-nil IsMissing);
   past = λ shards hs past. past-then shards m n step client None hs turn takes same past;
 }
 
 pub goes-then : (a b c : MachineParts) → GoesOn a b → GoesOn b c → GoesOn a c
 goes-then a b c first second = record {
   more = first.more ++ second.more;
-  unasked = All-append (λ (h : Happening). h.begins ≡ None) first.more second.more first.unasked second.unasked;
+  waited = All-append IsMissing first.more second.more first.waited second.waited;
   past = λ shards hs past. subst (IsPast shards c) (append_assoc hs first.more second.more)
       (second.past shards (hs ++ first.more) (first.past shards hs past));
 }
-
-events_unasked : (hs : List Happening) → All (λ (h : Happening). h.begins ≡ None) hs
-    → All (λ (e : Event). e.begins ≡ None) (map event_of hs)
-events_unasked [] all = All-nil (λ (e : Event). e.begins ≡ None)
-events_unasked (h ∷ hs) all = All-cons (λ (e : Event). e.begins ≡ None) (event_of h) (map event_of hs) (all zero h (omega arith))
-    (events_unasked hs (λ k d below. all (suc k) d (omega arith)))
 
 map-both : (xs ys : List Happening) → map event_of (xs ++ ys) ≡ map event_of xs ++ map event_of ys
 map-both [] ys = refl
@@ -308,10 +318,10 @@ pub has-happened : (old m : MachineParts) (hs : List Happening) (events : List E
 has-happened old m hs events shards t past taken goes closed many requests replies journal =
     let now = goes.past shards hs past in record {
       last = moment_of m;
-      happenings = hs ++ goes.more;
-      missing = map event_of goes.more;
-      taken = map-both hs goes.more ∙ ap (λ es. es ++ map event_of goes.more) taken;
-      unasked = events_unasked goes.more goes.unasked;
+      happenings = hs;
+      missing = goes.more;
+      taken = taken;
+      waited = goes.waited;
       follow = now.follow;
       journal = sym journal;
       closed = all_closed m.opens (greatest_client + 1) many closed;
@@ -343,6 +353,7 @@ goes-ok (Ok x) a b c first second = goes-then a b c first second
 goes-ok (Err e) a b c first second = tt
 
 pub goes-turn-ok : {A E : Type 0} (r : Result A E) (m n : MachineParts) (step : Step) (client : ℕ) → OnOk r (Turn m n client None)
-    → OnOk r (TakesAt m.state.store.shards step client m n) → OnOk r (IsSameRun m n) → OnOk r (GoesOn m n)
-goes-turn-ok (Ok x) m n step client turn takes same = goes-turn m n step client turn takes same
-goes-turn-ok (Err e) m n step client turn takes same = tt
+    → OnOk r (TakesAt m.state.store.shards step client m n) → OnOk r (IsSameRun m n)
+    → is_some (asked_by (asked_of m.opens) client) ≡ true → OnOk r (GoesOn m n)
+goes-turn-ok (Ok x) m n step client turn takes same asks = goes-turn m n step client turn takes same asks
+goes-turn-ok (Err e) m n step client turn takes same asks = tt

@@ -1,29 +1,30 @@
 -- The course of a run over single events: what happened from the first moment on, what each step changed, what was said, and when.
-use Rattle.std.specs.Prelude.{◌≡◌, ℕ, List, [], ◌++◌, None, All, map}
+use Rattle.std.specs.Prelude.{◌≡◌, ℕ, List, [], ◌++◌, All, map}
 use Rattle.ds_core.specs.declared.event.Event.{Event}
 use Rattle.ds_core.specs.declared.event.Transcript.{Transcript}
-use Rattle.ds_core.specs.Happenings.{Follow, Happening, Moment, event_of, first_moment, moment_of, none_asked, replies_in, requests_in}
+use Rattle.ds_core.specs.Happenings.{Follow, Happening, IsMissing, Moment, event_of, first_moment, moment_of, none_asked, replies_in}
+use Rattle.ds_core.specs.Happenings.{requests_in}
 use Rattle.ds_core.specs.Machines.{MachineParts}
 use Rattle.ds_core.specs.Timelines.{AreMoves, AreTimely}
 use Rattle.ds_core.specs.Witnesses.{AreWitnessed}
 
--- The events' steps happen in their order and then others, which open no request, from nothing at all to the transcript's journal and no
--- request open; and what was said, in this order, are the transcript's replies to its requests. So each request that was opened is
--- replied to once, and no other is. Each step changes what such a step may, and the numbers of each reply are those of steps of its client
--- that happened up to it.
+-- The events' steps happen in their order and then others, each of a client that has a request open, from nothing at all to the
+-- transcript's journal and no request open; and what was said, in this order, are the transcript's replies to its requests. So each request
+-- that was opened is replied to once, and no other is. Each step changes what such a step may, and the numbers of each reply are those of
+-- steps of its client that happened up to it.
 pub record HasHappened (events : List Event) (shards : ℕ) (t : Transcript) : Type 0 where
   pub happenings : List Happening
-  pub missing : List Event
+  pub missing : List Happening
   pub last : Moment
-  pub taken : map event_of happenings ≡ events ++ missing
-  pub unasked : All (λ e. e.begins ≡ None) missing
-  pub follow : Follow (first_moment shards) happenings last
+  pub taken : map event_of happenings ≡ events
+  pub waited : All IsMissing missing
+  pub follow : Follow (first_moment shards) (happenings ++ missing) last
   pub journal : last.journal ≡ t.journal
   pub closed : last.asked ≡ none_asked
-  pub requests : t.requests ≡ requests_in happenings
-  pub replies : t.replies ≡ replies_in happenings
-  pub moves : AreMoves shards happenings
-  pub timely : AreTimely [] happenings
+  pub requests : t.requests ≡ requests_in (happenings ++ missing)
+  pub replies : t.replies ≡ replies_in (happenings ++ missing)
+  pub moves : AreMoves shards (happenings ++ missing)
+  pub timely : AreTimely [] (happenings ++ missing)
 
 -- how it came to what there is and to what was said so far
 pub record IsPast (shards : ℕ) (m : MachineParts) (hs : List Happening) : Type 0 where
@@ -35,8 +36,8 @@ pub record IsPast (shards : ℕ) (m : MachineParts) (hs : List Happening) : Type
   pub timely : AreTimely [] hs
   pub witnessed : AreWitnessed hs m.sessions m.opens
 
--- steps were taken that opened no request
+-- steps were taken that open requests had still to take
 pub record GoesOn (old new : MachineParts) : Type 0 where
   pub more : List Happening
-  pub unasked : All (λ h. h.begins ≡ None) more
+  pub waited : All IsMissing more
   pub past : (shards : ℕ) (hs : List Happening) → IsPast shards old hs → IsPast shards new (hs ++ more)

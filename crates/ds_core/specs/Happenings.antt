@@ -1,5 +1,6 @@
 -- What happens in a run over single events: the steps that were taken, what there was before and after each, and what was said.
-use Rattle.std.specs.Prelude.{◌≡◌, ℕ, ◌+◌, List, [], ◌∷◌, ◌++◌, Option, Some, None, flat_map, map, replicate, slice_get, slice_set}
+use Rattle.std.specs.Prelude.{◌≡◌, ℕ, ◌+◌, List, [], ◌∷◌, ◌++◌, Option, Some, None, is_some, true, flat_map, map, replicate, slice_get}
+use Rattle.std.specs.Prelude.{slice_set}
 use Rattle.std.specs.Prelude.{unwrap_or}
 use Rattle.std.specs.Option.{option_map}
 use Rattle.ds_base.specs.Limits.{greatest_client}
@@ -48,6 +49,10 @@ Speaks (Some said) request before client after = (request ≡ Some said.request)
 
 abbrev pub Happens : Happening → Type 0
 Happens h = Speaks h.said (opening (asked_by h.before.asked h.client) h.begins) h.before.asked h.client h.after.asked
+
+-- a step that opens no request, of a client that has one open before it
+abbrev pub IsMissing : Happening → Type 0
+IsMissing h = (h.begins ≡ None) × (is_some (asked_by h.before.asked h.client) ≡ true)
 
 -- one after another, from one moment to another
 abbrev pub Follow : Moment → List Happening → Moment → Type 0

@@ -3,7 +3,6 @@ pub mod Cores
 pub mod Courses
 pub mod Happenings
 pub mod Machines
-pub mod Meetings
 pub mod Rounds
 pub mod Steps
 pub mod Timelines

@@ -1,6 +1,6 @@
 -- What a machine of events keeps, and that what it has said so far is one legal round.
 use Rattle.std.specs.Prelude.{◌≡◌, ℕ, ◌+◌, ◌-◌, ◌≤◌, ◌<◌, List, [], ◌∷◌, ◌++◌, Option, Some, None, length, All, IsTrue, ⊤}
-use Rattle.std.specs.Prelude.{flat_map, get_or, replicate, slice_set, IfSome, IsPermutation}
+use Rattle.std.specs.Prelude.{Result, flat_map, get_or, replicate, slice_set, IfSome, IsPermutation}
 use Rattle.std.specs.List.{range_with_len}
 use Rattle.ds_base.specs.Limits.{greatest_client, most_shards}
 use Rattle.ds_log.specs.declared.Commit.{Commit}
@@ -11,6 +11,9 @@ use Rattle.ds_reply.specs.declared.reply.Reply.{Reply}
 use Rattle.ds_model.specs.Asked.{has_shard}
 use Rattle.ds_model.specs.Legal.{acknowledged, accepted, printed_next}
 use Rattle.ds_model.specs.Sessions.{Session, first_id, first_sessions}
+use Rattle.ds_protocol.specs.declared.operations.Operation.{Operation}
+use Rattle.ds_protocol.specs.declared.operations.OperationRefused.{OperationRefused}
+use Rattle.ds_protocol.specs.Operations.{IsAskedOf}
 use Rattle.ds_plans.specs.declared.effect.Effect.{Effect}
 use Rattle.ds_plans.specs.Due.{IsDuePlan, IsGathered, ids_of}
 use Rattle.ds_plans.specs.Effects.{store_after, session_after}
@@ -35,12 +38,12 @@ held_by (Some o) = ids_of o.request.call o.gathered
 abbrev pub held : List (Option Open) → List ℕ
 held = flat_map held_by
 
--- a client's open request is lawful and its own, and what it has gathered is there
+-- a client's open request is lawful and its own, what it asks was taken apart, and what it has gathered is there
 abbrev pub IsOpen : StateParts → ℕ → Session → Option Open → Type 0
 IsOpen st client s None = ⊤
 IsOpen st client s (Some o) =
     (o.request.client ≡ client) × IsLawfulCall o.request.call × IsTrue (has_shard st.store.shards o.request.call)
-    × IsGathered st s o.request.call o.gathered
+    × IsGathered st s o.request.call o.gathered × IsAskedOf o.request.call o.asked
 
 -- client by client, from one on
 abbrev pub AreOpen : StateParts → ℕ → List Session → List (Option Open) → Type 0
@@ -65,8 +68,12 @@ pub record IsLegal (m : MachineParts) : Type 0 where
   pub prints : All (λ next. next ≤ m.state.store.next) (flat_map printed_next m.replies)
 
 -- a request that has gathered nothing
-abbrev pub just_opened : Request → ℕ → Open
-just_opened r shards = record { request = r; gathered = record { place = None; first = None; applied = None; views = replicate shards None } }
+abbrev pub just_opened : Request → Result Operation OperationRefused → ℕ → Open
+just_opened r asked shards = record {
+  request = r;
+  asked = asked;
+  gathered = record { place = None; first = None; applied = None; views = replicate shards None };
+}
 
 -- this is said to the open request and changed by it, or there was no memory
 abbrev pub IsDueTo : StateParts → Session → ℕ → Option Open → Body → Effect → Type 0

@@ -10,7 +10,8 @@ use Rattle.ds_model.specs.Sessions.{Session, count_of}
 use Rattle.ds_plans.specs.declared.gathered.Step.{Step}
 use Rattle.ds_plans.specs.declared.gathered.Step.TheVariants as steps
 use Rattle.ds_plans.specs.declared.effect.Effect.{Effect}
-use Rattle.ds_plans.specs.Due.{GatheredParts, ids_asked}
+use Rattle.ds_plans.specs.Due.{GatheredParts}
+use Rattle.ds_protocol.specs.Operations.{ids_asked}
 use Rattle.ds_plans.specs.States.{StateParts}
 use Rattle.ds_plans.specs.Told.{IsTold}
 use Rattle.ds_core.specs.declared.opened.Open.{Open}

@@ -1,23 +1,19 @@
 //! The missing steps of the requests that are open after the last event.
-ghost use Rattle.std.specs.Prelude.{◌≡◌, ◌≤◌, ◌<◌, None, length, All, IfOk, IfSome, OnOk, IsTrue};
+ghost use Rattle.std.specs.Prelude.{◌≡◌, ◌≤◌, ◌<◌, None, is_some, length, All, IfOk, IfSome, OnOk, IsTrue};
 ghost use Rattle.ds_base.specs.Limits.{greatest_client, most_shards};
-ghost use Rattle.ds_request.specs.Lawful.{IsLawfulCall};
 ghost use Rattle.ds_model.specs.Sessions.{Session as SessionParts};
 ghost use Rattle.ds_core.specs.Courses.{GoesOn};
 ghost use Rattle.ds_core.specs.Happenings.{IsStill};
 ghost use Rattle.ds_core.specs.Machines.{IsLegal, IsSameRun};
 ghost use Rattle.ds_core.specs.Steps.{IsReadPlace, ReadsUpTo};
 
-use crate::copying::copy_call;
-use crate::holding::forget;
 use crate::machine::Machine;
 use crate::opened::{Open, ids_asked};
 use ds_base::limits::MAX_CLIENT;
-use ds_base::{Key, NoMemory, TryCopy};
+use ds_base::{Key, NoMemory};
 use ds_log::shard_of;
 use ds_plans::{Session, Step};
-use ds_protocol::{Search, group_of, search_of};
-use ds_request::Call;
+use ds_protocol::Operation;
 use std::alloc::{AllocError, Global};
 
 impl Machine {
@@ -155,7 +151,9 @@ fn all_closed(opens: &[Option<Open>]) -> bool
 }
 
 /// How many ids the open request, if there is one, still waits for.
-fn ids_missing(open: &Option<Open>) -> u64 {
+fn ids_missing(open: &Option<Open>) -> u64
+    ensures { 1 ≤ result → IsTrue (is_some open.now) }
+{
     match open {
         Some(open) if open.gathered.first().is_none() => ids_asked(&open.request.call),
         _ => 0,
@@ -171,7 +169,6 @@ fn place_covered(
     shard: u32,
     shards: u32,
 ) -> Result<Option<u64>, NoMemory>
-    requires lawful { IfSome open.now (λ o. IsLawfulCall o.request.call) }
     requires least { 1 ≤ shards }
     requires most { shards ≤ most_shards }
     ensures { IfOk result (λ r. IfSome r (ReadsUpTo session.now open.now)) }
@@ -189,20 +186,20 @@ fn place_of(
     shard: u32,
     shards: u32,
 ) -> Result<Option<u64>, NoMemory>
-    requires lawful { IsLawfulCall open.now.request.call }
     requires least { 1 ≤ shards }
     requires most { shards ≤ most_shards }
     ensures { IfOk result (λ r. IfSome r (IsReadPlace session.now open.now.gathered)) }
 {
-    match &open.request.call {
-        Call::Settle => Ok(place_touched(open)),
-        Call::Apply { shard: of } if *of == shard as u64 => Ok(place_touched(open)),
-        call => match group_read(alloc, call)? {
+    match &open.asked {
+        Ok(Operation::Settle) => Ok(place_touched(open)),
+        Ok(Operation::Apply { shard: of }) if *of == shard as u64 => Ok(place_touched(open)),
+        Ok(operation) => match group_read(alloc, operation)? {
             Some(group) if shard_of(alloc, &group, shards)? == shard => Ok(place_read(
                 session, open, &group,
             )),
             _ => Ok(None),
         },
+        Err(_) => Ok(None),
     }
 }
 
@@ -224,31 +221,9 @@ fn place_read(session: &Session, open: &Open, group: &Key) -> Option<u64>
 }
 
 /// The group that a strong read reads. A refusal is want of memory.
-fn group_read(alloc: Global, call: &Call) -> Result<Option<Key>, NoMemory>
-    requires { IsLawfulCall call.now }
-{
-    match call {
-        Call::Get { key } => Ok(Some(key.root(alloc)?)),
-        _ => group_sought(alloc, copy_call(alloc, call)?),
+fn group_read(alloc: Global, operation: &Operation) -> Result<Option<Key>, NoMemory> {
+    match operation {
+        Operation::Get { key: _ } | Operation::Find(_) => operation.group(alloc),
+        _ => Ok(None),
     }
-}
-
-/// The group that a search reads, where the call asks for one.
-fn group_sought(alloc: Global, call: Call) -> Result<Option<Key>, NoMemory>
-    requires { IsLawfulCall call }
-{
-    match search_of(alloc, call) {
-        Some(Ok(search)) => group_searched(alloc, search),
-        Some(Err(body)) => {
-            forget(body);
-            Ok(None)
-        }
-        None => Ok(None),
-    }
-}
-
-fn group_searched(alloc: Global, search: Search) -> Result<Option<Key>, NoMemory> {
-    let group = group_of(alloc, &search);
-    forget(search);
-    group
 }

@@ -3,7 +3,7 @@ ghost use Rattle.std.specs.Prelude.{◌≡◌, ◌≤◌, ◌<◌, None, Some, l
 ghost use Rattle.ds_base.specs.Limits.{greatest_client};
 ghost use Rattle.ds_request.specs.declared.call.Call.{Call};
 ghost use Rattle.ds_model.specs.Sessions.{count_of};
-ghost use Rattle.ds_plans.specs.Due.{ids_asked};
+ghost use Rattle.ds_protocol.specs.Operations.{ids_asked};
 ghost use Rattle.ds_core.specs.Happenings.{IsSilent};
 ghost use Rattle.ds_core.specs.Machines.{IsLegal, IsSameRun};
 ghost use Rattle.ds_core.specs.Steps.{AppliedTo, DrawnTo, ViewedTo, first_place, touched};

@@ -1,12 +1,9 @@
-//! What is held is put into a list, or given up, in functions of their own: a value of many forms that is dropped at each way out of a
+//! What is held is put into a list, or into its place, in functions of their own: a value of many forms that is dropped at each way out of a
 //! function makes the proof of that function's steps many times as long.
 ghost use Rattle.std.specs.Prelude.{◌≡◌, ◌++◌, ◌∷◌, [], OnOk};
 
 use ds_base::{NoMemory, Sequence};
 use std::alloc::AllocError;
-
-/// The item is dropped. That is shown here once, and not at each way out where it is held.
-pub(crate) fn forget<T: Drop>(_item: T) {}
 
 /// The item takes the place of what was there, which is dropped.
 pub(crate) fn set<T: Drop>(place: &mut T, item: T)

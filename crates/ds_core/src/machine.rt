@@ -12,9 +12,9 @@ ghost use Rattle.ds_core.specs.Machines.{IsDueTo, IsLawfulEvent, IsLawfulRequest
 ghost use Rattle.ds_core.specs.Witnesses.{IsToldTo, OpensAt, RepliesAt, TakesAt};
 
 use crate::event::{Event, Replies, Requests, Transcript};
-use crate::holding::{forget, put};
+use crate::holding::put;
 use crate::meeting::first_sessions;
-use crate::opened::{Open, none_open, open_request, plan_open, take_open};
+use crate::opened::{Open, asked_of, none_open, open_request, plan_open, take_open};
 use ds_base::NoMemory;
 use ds_indexdef::Defs;
 use ds_plans::effect::Effect;
@@ -120,11 +120,18 @@ impl Machine {
         ensures timed { OnOk result (OpensAt self.old self.new) }
     {
         if self.has_open(client) {
-            forget(request);
+            drop(request);
             return Ok(());
         }
         let shards = self.state.shards();
-        open_request(alloc, &mut self.opens[client as usize], request, shards)?;
+        let asked = asked_of(alloc, &request.call);
+        open_request(
+            alloc,
+            &mut self.opens[client as usize],
+            request,
+            asked,
+            shards,
+        )?;
         self.advance(alloc, client, Step::Touch)
     }
 
@@ -160,7 +167,7 @@ impl Machine {
     {
         let session = &self.sessions[client as usize];
         let open = &self.opens[client as usize];
-        match plan_open(alloc, &mut self.state, session, client, open, step)? {
+        match plan_open(alloc, &mut self.state, session, client, open, step) {
             Some(plan) => self.say(alloc, client, plan),
             None => Ok(()),
         }
@@ -179,7 +186,7 @@ impl Machine {
             (get_or self.old.opens client e) plan.body plan.effect) → OnOk result (RepliesAt step client self.old self.new) }
     {
         if is_no_memory(&plan.body) {
-            forget(plan);
+            drop(plan);
             return Err(AllocError);
         }
         let Plan { body, effect } = plan;
@@ -187,12 +194,12 @@ impl Machine {
             Ok(()) => match self.close(client) {
                 Some(opened) => self.note_opened(client, opened, body),
                 None => {
-                    forget(body);
+                    drop(body);
                     Ok(())
                 }
             },
             Err(refused) => {
-                forget(body);
+                drop(body);
                 Err(refused)
             }
         }
@@ -237,7 +244,7 @@ impl Machine {
                 put(&mut self.replies, Reply { client, line, body })
             }
             Err(refused) => {
-                forget(body);
+                drop(body);
                 Err(refused)
             }
         }

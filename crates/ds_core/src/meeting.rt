@@ -1,11 +1,12 @@
 //! The sessions of all clients: the first ones, and how they meet.
-ghost use Rattle.std.specs.Prelude.{◌≡◌, ℕ, ◌<◌, length, map, replicate, IfOk};
-ghost use Rattle.ds_model.specs.Sessions.{first_sessions, greatest_counts, greatest_next, greatest_place, met};
-ghost use Rattle.ds_core.specs.Meetings.{HaveCounts, met_at};
+ghost use Rattle.std.specs.Prelude.{◌≡◌, length, map, IfOk};
+ghost use Rattle.ds_model.specs.Sessions.{first_sessions, met};
+ghost use Rattle.ds_protocol.specs.Watermarks.{HaveCounts, greatest_of, raised_by};
 
 use ds_base::NoMemory;
 use ds_base::limits::MAX_CLIENT;
-use ds_plans::{Session, raise_all};
+use ds_plans::Session;
+use ds_protocol::Watermark;
 use std::alloc::Global;
 
 /// One session for each client, who has seen nothing. A refusal is want of memory.
@@ -20,53 +21,32 @@ pub(crate) fn first_sessions(alloc: Global, shards: u32) -> Result<Vec<Session>,
     Ok(sessions)
 }
 
-/// The sessions meet: what one has seen, all have. `greatest` has a number for each shard, which are written over.
-pub(crate) fn meet(sessions: &mut [Session], greatest: &mut [u64])
-    requires { HaveCounts (length greatest.old) sessions.old }
+/// The sessions meet: what one has seen, all have. `greatest`, which has a count for each shard, is written over.
+pub(crate) fn meet(sessions: &mut [Session], greatest: &mut Watermark)
+    requires { HaveCounts (length greatest.old.counts) sessions.old }
     ensures met { sessions.new ≡ met sessions.old }
-    ensures kept { length greatest.new ≡ length greatest.old }
+    ensures kept { length greatest.new.counts ≡ length greatest.old.counts }
 {
-    let place = greatest_place(sessions);
-    let next = greatest_next(sessions);
-    greatest_counts(sessions, greatest);
-    meet_at(sessions, place, next, greatest);
+    take_greatest(sessions, greatest);
+    meet_at(sessions, greatest);
 }
 
-fn greatest_place(sessions: &[Session]) -> u64
-    ensures { result ≡ greatest_place sessions.now }
+/// The greatest that any session has seen.
+fn take_greatest(sessions: &[Session], greatest: &mut Watermark)
+    ensures seen { greatest.new ≡ greatest_of (length greatest.old.counts) sessions.now }
+    ensures kept { length greatest.new.counts ≡ length greatest.old.counts }
 {
-    let mut place: u64 = 0;
+    greatest.clear();
     for session in sessions {
-        place = place.max(session.place());
-    }
-    place
-}
-
-fn greatest_next(sessions: &[Session]) -> u64
-    ensures { result ≡ greatest_next sessions.now }
-{
-    let mut next: u64 = 0;
-    for session in sessions {
-        next = next.max(session.next_id());
-    }
-    next
-}
-
-/// Writes the greatest count of each shard.
-fn greatest_counts(sessions: &[Session], counts: &mut [u64])
-    ensures { counts.new ≡ greatest_counts (replicate (length counts.old) 0) sessions.now }
-{
-    counts.fill(0);
-    for session in sessions {
-        raise_all(counts, session.counts());
+        greatest.raise(session.seen());
     }
 }
 
-/// Each session has seen this place, this id counter and these counts.
-fn meet_at(sessions: &mut [Session], place: u64, next: u64, counts: &[u64])
-    ensures { sessions.new ≡ map (met_at place next counts.now) sessions.old }
+/// Each session has seen this too.
+fn meet_at(sessions: &mut [Session], greatest: &Watermark)
+    ensures { sessions.new ≡ map (raised_by greatest.now) sessions.old }
 {
     for session in sessions.iter_mut() {
-        session.meet(place, next, counts);
+        session.meet(greatest);
     }
 }

@@ -1,23 +1,25 @@
 //! The open request of a client, and the plan of its reply.
 ghost use Rattle.std.specs.Prelude.{◌≡◌, ◌+◌, None, Some, replicate, IfOk, IfSome, OnOk};
 ghost use Rattle.ds_base.specs.Limits.{greatest_client};
-ghost use Rattle.ds_plans.specs.Due.{ids_asked};
+ghost use Rattle.ds_request.specs.Lawful.{IsLawfulCall};
+ghost use Rattle.ds_protocol.specs.Operations.{IsAskedOf, ids_asked};
 ghost use Rattle.ds_plans.specs.States.{IsSession};
 ghost use Rattle.ds_core.specs.Machines.{IsDueTo, IsOpen, just_opened};
 ghost use Rattle.ds_core.specs.Witnesses.{IsToldTo};
 
-use crate::copying::copy_call;
-use crate::holding::{forget, set};
-use ds_base::NoMemory;
+use crate::holding::set;
 use ds_base::limits::MAX_CLIENT;
+use ds_base::{NoMemory, TryCopy};
 use ds_plans::{Gathered, Plan, Session, State, Step};
+use ds_protocol::{Operation, OperationRefused, operation_of};
 use ds_request::{Call, Request};
 use std::alloc::Global;
 
-/// A request that waits for steps of its client, and what it has gathered.
+/// A request that waits for steps of its client: what it asks, taken apart once, or why it asks nothing; and what it has gathered.
 #[derive(Drop)]
 pub(crate) struct Open {
     pub(crate) request: Request,
+    pub(crate) asked: Result<Operation, OperationRefused>,
     pub(crate) gathered: Gathered,
 }
 
@@ -32,22 +34,42 @@ pub(crate) fn none_open(alloc: Global) -> Result<Vec<Option<Open>>, NoMemory>
     Ok(opens)
 }
 
+/// What a call asks, or why it asks nothing. The call stays, for the transcript.
+pub(crate) fn asked_of(alloc: Global, call: &Call) -> Result<Operation, OperationRefused>
+    requires { IsLawfulCall call.now }
+    ensures { IsAskedOf call.now result }
+{
+    match call.copy(alloc) {
+        Ok(call) => operation_of(alloc, call),
+        Err(_) => Err(OperationRefused::NoMemory),
+    }
+}
+
 /// Opens a request that has gathered nothing. A refusal is want of memory.
 pub(crate) fn open_request(
     alloc: Global,
     open: &mut Option<Open>,
     request: Request,
+    asked: Result<Operation, OperationRefused>,
     shards: u32,
 ) -> Result<(), NoMemory>
-    ensures { OnOk result (open.new ≡ Some (just_opened request shards)) }
+    ensures { OnOk result (open.new ≡ Some (just_opened request asked shards)) }
 {
     match Gathered::nothing(alloc, shards) {
         Ok(gathered) => {
-            set(open, Some(Open { request, gathered }));
+            set(
+                open,
+                Some(Open {
+                    request,
+                    asked,
+                    gathered,
+                }),
+            );
             Ok(())
         }
         Err(refused) => {
-            forget(request);
+            drop(request);
+            drop(asked);
             Err(refused)
         }
     }
@@ -61,7 +83,7 @@ pub(crate) fn take_open(open: &mut Option<Open>) -> Option<Open>
     open.take()
 }
 
-/// The plan of the reply to the open request, if there is one and nothing is missing. `Err` is want of memory.
+/// The plan of the reply to the open request, if there is one and nothing is missing.
 pub(crate) fn plan_open(
     alloc: Global,
     state: &mut State,
@@ -69,37 +91,18 @@ pub(crate) fn plan_open(
     client: u32,
     open: &Option<Open>,
     step: Step,
-) -> Result<Option<Plan>, NoMemory>
+) -> Option<Plan>
     requires seen { IsSession state.old session.now }
     requires lawful { IsOpen state.old client session.now open.now }
-    ensures plan { IfOk result (λ r. IfSome r (λ p. IsDueTo state.new session.now client open.now p.body p.effect)) }
-    ensures told { IfOk result (λ r. IfSome r (λ p. IsToldTo state.new session.now step open.now p.body p.effect)) }
+    ensures plan { IfSome result (λ p. IsDueTo state.new session.now client open.now p.body p.effect) }
+    ensures told { IfSome result (λ p. IsToldTo state.new session.now step open.now p.body p.effect) }
     ensures store { state.new.store ≡ state.old.store }
     ensures counts { state.new.applied.counts ≡ state.old.applied.counts }
 {
     match open {
-        Some(open) => plan_of(alloc, state, session, client, open, step),
-        None => Ok(None),
+        Some(open) => state.plan_due(alloc, session, client, &open.asked, &open.gathered, step),
+        None => None,
     }
-}
-
-fn plan_of(
-    alloc: Global,
-    state: &mut State,
-    session: &Session,
-    client: u32,
-    open: &Open,
-    step: Step,
-) -> Result<Option<Plan>, NoMemory>
-    requires seen { IsSession state.old session.now }
-    requires lawful { IsOpen state.old client session.now (Some open.now) }
-    ensures plan { IfOk result (λ r. IfSome r (λ p. IsDueTo state.new session.now client (Some open.now) p.body p.effect)) }
-    ensures told { IfOk result (λ r. IfSome r (λ p. IsToldTo state.new session.now step (Some open.now) p.body p.effect)) }
-    ensures store { state.new.store ≡ state.old.store }
-    ensures counts { state.new.applied.counts ≡ state.old.applied.counts }
-{
-    let call = copy_call(alloc, &open.request.call)?;
-    Ok(state.plan_due(alloc, session, client, call, &open.gathered, step))
 }
 
 /// How many ids the request draws.

@@ -9,12 +9,12 @@ ghost use Rattle.ds_protocol.specs.Saying.{no_memory_reply};
 ghost use Rattle.ds_core.specs.Answered.{HasAnswered};
 ghost use Rattle.ds_core.specs.Cores.{CoreParts};
 
-use crate::holding::forget;
 use crate::meeting::{first_sessions, meet};
 use ds_base::{Buffer, NoMemory};
 use ds_indexdef::Defs;
 use ds_log::Journal;
-use ds_plans::{Session, State, zeros};
+use ds_plans::{Session, State};
+use ds_protocol::Watermark;
 use ds_request::Request;
 use std::alloc::Global;
 use std::marker::Model;
@@ -26,8 +26,8 @@ use std::marker::Model;
 pub struct Core {
     state: State,
     sessions: Vec<Session>,
-    /// One number per shard, for the counts while sessions meet.
-    greatest: Vec<u64>,
+    /// What the sessions have seen at most, while they meet.
+    greatest: Watermark,
 }
 
 impl Model for Core {
@@ -43,7 +43,7 @@ impl Model for Core {
       sessions = c.sessions.items;
     } };
 
-    ghost invariant = { λ c. IsCore c.state c.sessions.items c.greatest.items };
+    ghost invariant = { λ c. IsCore c.state c.sessions.items c.greatest.counts };
 }
 
 impl Core {
@@ -61,7 +61,7 @@ impl Core {
     {
         let state = State::make(alloc, shards, defs)?;
         let sessions = first_sessions(alloc, shards)?;
-        let greatest = zeros(alloc, shards)?;
+        let greatest = Watermark::first(alloc, shards)?;
         Ok(Core {
             state,
             sessions,
@@ -101,7 +101,7 @@ impl Core {
         let reply = self
             .state
             .answer(alloc, session, client, number, call, keep, out);
-        forget(reply);
+        drop(reply);
     }
 
     /// How many shards there are, 1 to 16.

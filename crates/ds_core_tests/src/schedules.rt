@@ -203,6 +203,47 @@ fn a_settle_waits_for_what_it_covers(alloc: Global) -> Result<bool, Fail> {
     )
 }
 
+/// In a transaction a group is read at its touch place, also once more of it is applied: client 1's second get sees the entity of before.
+fn a_transaction_reads_behind_what_is_applied(alloc: Global) -> Result<bool, Fail> {
+    replies_are(
+        alloc,
+        1,
+        &[
+            (
+                0,
+                Step::Commit,
+                "{\"op\":\"put\",\"client\":0,\"entity\":{\"key\":[[\"T\",\"a\"]],\"properties\":{\"v\":0}}}",
+            ),
+            (0, Step::Apply { shard: 0 }, ""),
+            (1, Step::Touch, "{\"op\":\"begin\",\"client\":1}"),
+            (
+                1,
+                Step::Touch,
+                "{\"op\":\"get\",\"client\":1,\"key\":[[\"T\",\"a\"]]}",
+            ),
+            (1, Step::View { shard: 0 }, ""),
+            (
+                0,
+                Step::Commit,
+                "{\"op\":\"put\",\"client\":0,\"entity\":{\"key\":[[\"T\",\"a\"]],\"properties\":{\"v\":1}}}",
+            ),
+            (0, Step::Apply { shard: 0 }, ""),
+            (
+                1,
+                Step::View { shard: 0 },
+                "{\"op\":\"get\",\"client\":1,\"key\":[[\"T\",\"a\"]]}",
+            ),
+            (
+                0,
+                Step::Touch,
+                "{\"op\":\"get\",\"client\":0,\"key\":[[\"T\",\"a\"]]}",
+            ),
+            (0, Step::View { shard: 0 }, ""),
+        ],
+        "{\"client\":0,\"commit\":1,\"key\":[[\"T\",\"a\"]],\"line\":1,\"ok\":\"put\"}\n{\"client\":1,\"line\":2,\"ok\":\"begin\"}\n{\"client\":1,\"entity\":{\"key\":[[\"T\",\"a\"]],\"properties\":{\"v\":0}},\"line\":3,\"ok\":\"get\",\"place\":1}\n{\"client\":0,\"commit\":2,\"key\":[[\"T\",\"a\"]],\"line\":4,\"ok\":\"put\"}\n{\"client\":1,\"entity\":{\"key\":[[\"T\",\"a\"]],\"properties\":{\"v\":0}},\"line\":5,\"ok\":\"get\",\"place\":1}\n{\"client\":0,\"entity\":{\"key\":[[\"T\",\"a\"]],\"properties\":{\"v\":1}},\"line\":6,\"ok\":\"get\",\"place\":2}\n",
+    )
+}
+
 #[test]
 fn schedules_decide(rt: HostRuntime) -> Result<(), Fail> {
     let alloc = rt.alloc();
@@ -212,5 +253,6 @@ fn schedules_decide(rt: HostRuntime) -> Result<(), Fail> {
     assert!(rt; a_query_sees_each_shard_at_its_view(alloc)?);
     assert!(rt; another_apply_takes_the_entry(alloc)?);
     assert!(rt; a_settle_waits_for_what_it_covers(alloc)?);
+    assert!(rt; a_transaction_reads_behind_what_is_applied(alloc)?);
     Ok(())
 }

@@ -1,7 +1,7 @@
 -- What is said to an open request once nothing is missing is what the definitions answer.
-use Rattle.std.proofs.Common.{◌≡◌, ◌⊎◌, inl, inr, ℕ, zero, suc, ◌+◌, ◌-◌, ◌<◌, ◌≤◌, Bool, true, false, List, [], ◌∷◌, length, take, map}
+use Rattle.std.proofs.Common.{◌≡◌, inl, inr, ℕ, zero, suc, ◌+◌, ◌-◌, ◌<◌, ◌≤◌, Bool, true, false, List, [], ◌∷◌, length, take, map}
 use Rattle.std.proofs.Common.{refl, ap, sym, ◌∙◌, subst, arith, Option, Some, None}
-use Rattle.std.specs.Prelude.{All, Err, IfSome, Ok, Result, cond, max, nat_le, nat_lt, ◌&&◌}
+use Rattle.std.specs.Prelude.{All, IfSome, Result, cond, max, nat_le, nat_lt, ◌&&◌}
 use Rattle.std.specs.Option.{option_or}
 use Rattle.std.proofs.lemmas.Bool.{leb-true, lt-ltb, ltb-true}
 use Rattle.std.specs.List.{range_with_len}
@@ -36,13 +36,11 @@ use Rattle.ds_plans.specs.declared.effect.CountSeen.{CountSeen}
 use Rattle.ds_plans.specs.declared.effect.CountsSeen.{CountsSeen}
 use Rattle.ds_plans.specs.declared.effect.Effect.{Effect}
 use Rattle.ds_plans.specs.declared.effect.Effect.TheVariants as effect
-use Rattle.ds_plans.specs.declared.effect.Plan.{Plan}
 use Rattle.ds_base.specs.declared.results.Seen.TheVariants as seen
 use Rattle.ds_base.specs.EntityOrder.{sorted_by_key}
 use Rattle.ds_protocol.specs.declared.preparing.Ready.{Ready}
 use Rattle.ds_protocol.specs.declared.searching.Search.{Search}
-use Rattle.ds_protocol.specs.Quiet.{IsQuiet}
-use Rattle.ds_protocol.specs.Searches.{IsSearchOf, search_parts}
+use Rattle.ds_protocol.specs.Searches.{IsSearchOf}
 use Rattle.ds_plans.specs.Answered.{IsPlan}
 use Rattle.ds_plans.specs.Queries.{IsPrepared, told_over}
 use Rattle.ds_plans.specs.Due.{GatheredParts, IsDue, IsDuePlan, IsGathered, AreViewed, AreCovering, counts_applied, ids_of, ids_from}
@@ -54,7 +52,7 @@ use Rattle.ds_plans.specs.WritePlans.{IsChecked, IsWritable, SaysWrite}
 use Rattle.ds_plans.proofs.Grown.{up_to-then}
 use Rattle.ds_plans.proofs.Plans.{unrefused, quiet-tells, no_ids}
 use Rattle.ds_plans.proofs.PutPlans.{group_completed, last_id-completed, put_complete, refusals-none}
-use Rattle.ds_plans.proofs.QueryPlans.{all_found, unread_plan}
+use Rattle.ds_plans.proofs.QueryPlans.{all_found}
 use Rattle.ds_plans.proofs.ReadPlans.{last_one, lists_are, list_is}
 use Rattle.ds_plans.proofs.WriteAnswers.{first_none, ids-below}
 
@@ -156,7 +154,8 @@ module _ (st : StateParts) (s : Session) (client : ℕ) (key : KeyParts) (proper
         group = group_completed s.transaction key id c.0;
         few = d.0;
         left = omega arith;
-        issued = first_unissued-rises st.store.next (st.store.next + 0) (renumbered key id).elems (omega arith) (numbered_issued low issued);
+        issued = first_unissued-rises st.store.next (st.store.next + 0) (renumbered key id).elems (omega arith)
+            (numbered_issued low issued);
       }
 
   pub put_numbered : (b : Body) (e : Effect) → refusal_of st.store.definitions s (call.Put key true properties) ≡ None
@@ -187,7 +186,8 @@ module _ (st : StateParts) (s : Session) (client : ℕ) (key : KeyParts) (proper
 
 pub allocate_due : (st : StateParts) (s : Session) (client count first : ℕ) → s.next_id ≤ first → first + count ≤ st.store.next
     → st.store.next ≤ greatest_id
-    → IsDue st s client (call.AllocateIds count) (range_with_len first count) (body.AllocateIds first count) (effect.SeeNext (first + count))
+    → IsDue st s client (call.AllocateIds count) (range_with_len first count) (body.AllocateIds first count)
+    (effect.SeeNext (first + count))
 allocate_due st s client count first shown drawn within = record {
   answers = λ window. (refl, record { shown = shown; within = omega (arith, drawn, within); raised = refl });
   allowed = drawn;
@@ -239,7 +239,8 @@ covered journal shards first (suc n) m others [] up are each = absurd are
 covered journal shards first (suc n) m [] (count ∷ counts) up are each = absurd up
 covered journal shards first (suc n) m (c ∷ others) (count ∷ counts) up are each = (
   up.0,
-  subst (λ k. length (shard_list (take m journal) k shards) ≤ count) (let e : first + 0 ≡ first = omega arith in e) (each zero (omega arith)),
+  subst (λ k. length (shard_list (take m journal) k shards) ≤ count) (let e : first + 0 ≡ first = omega arith in e)
+      (each zero (omega arith)),
   are.0,
   covered journal shards (first + 1) n m others counts up.1 are.1
       (λ k below. subst (λ j. length (shard_list (take m journal) j shards) ≤ count_of counts k)
@@ -254,7 +255,8 @@ module _ (st : StateParts) (s : Session) (client : ℕ) (is : IsState st) (pulle
       → IsDue st s client call.Settle [] (body.Settle place applied) (effect.Settle place c)
   settle_due outside place applied c stands seen within are covering counts commit = due_of st s client call.Settle
       (body.Settle place applied) (effect.Settle place c) (record {
-        answers = λ window. unrefused (world st.store window) st.store.definitions client s (session_after (effect.Settle place c) st.store s)
+        answers = λ window. unrefused (world st.store window) st.store.definitions client s (session_after (effect.Settle place c) st.store
+            s)
             call.Settle (body.Settle place applied) refl (ap in_transaction outside)
             (record {
               place = stands;
@@ -392,7 +394,8 @@ module _ (st : StateParts) (s : Session) (client : ℕ) (e : EntityParts) (id : 
       gathered.first
 
   pub id_writable : IsWritable st s (Put numbered) false
-  id_writable = numbered_writable st s client e.key e.properties id checked.left checked.unrefused (omega (arith, id_first.2)) checked.issued
+  id_writable = numbered_writable st s client e.key e.properties id checked.left checked.unrefused (omega (arith, id_first.2))
+      checked.issued
 
   pub id_due : (b : Body) (change : Effect) → ends_in_id e.key.elems ≡ true → SaysWrite body.Put st s client (Put numbered) false b change
       → IsDuePlan st s client (call.Put e.key true e.properties) (ids_from 1 g.first) b change
@@ -416,18 +419,6 @@ all_found_at st s client c r of ready prepared is pulled none session counts tol
     (state_at st s client c counts is) pulled none
     (session_at st s client c counts session shown) sees (record { counts = refl; listed = listed; commit = commit_is }) b
     (found ∙ ap (λ ns. told_over r ready.normal ready.window (sorted_by_key (shard_views st.applied.lists ns)) (seen.Counts ns)) same))
-
-pub due_found : (st : StateParts) (s : Session) (client : ℕ) (c : Call) (g : GatheredParts) (r : Search) (o : Option Plan) → IsSearchOf c r
-    → IfSome o (λ p. (x : Call) → IsSearchOf x r → IsPlan st s client x p.body p.effect)
-    → IfSome o (λ p. IsDuePlan st s client c (ids_of c g) p.body p.effect)
-due_found st s client c g r None of plan = tt
-due_found st s client c g r (Some p) of plan = due_search st s client c g (Ok (search_parts r)) p.body p.effect of.exact (plan c of)
-
-pub due_unread : (st : StateParts) (s : Session) (client : ℕ) (c : Call) (g : GatheredParts) (v b : Body) (e : Effect) → v ≡ b
-    → e ≡ effect.Nothing → (b ≡ body.NoMemory) ⊎ (search_of c ≡ Some (Err b)) → IsQuiet b → IsDuePlan st s client c (ids_of c g) v e
-due_unread st s client c g v b e told same (inl is) quiet = inl (told ∙ is)
-due_unread st s client c g v b e told same (inr is) quiet =
-    due_search st s client c g (Err b) v e is (unread_plan st s client c v b e told same (inr is) quiet)
 
 -- ---- what was gathered of views
 

@@ -20,7 +20,7 @@ use Rattle.ds_model.specs.Worlds.{World}
 use Rattle.ds_plans.specs.declared.effect.Effect.{Effect}
 use Rattle.ds_plans.specs.declared.effect.Effect.TheVariants as effect
 use Rattle.ds_plans.specs.Answered.{Tells, IsPlan}
-use Rattle.ds_plans.specs.Refused.{is_quiet}
+use Rattle.ds_protocol.specs.Refused.{is_quiet}
 use Rattle.ds_plans.specs.States.{StoreParts, StateParts, world}
 
 -- ---- answers that tell no number

@@ -1,20 +1,18 @@
 -- The plans of puts and deletes.
 use Rattle.std.proofs.Common.{◌≡◌, ◌⊎◌, inl, inr, ℕ, ◌+◌, ◌-◌, ◌<◌, ◌≤◌, List, [], ◌∷◌, length, take, refl, ap, sym, ◌∙◌}
 use Rattle.std.proofs.Common.{subst, arith, Option, Some, None, Bool, true, false, cond}
-use Rattle.std.specs.Prelude.{All, Err, min, nat_le, ◌&&◌}
+use Rattle.std.specs.Prelude.{All, nat_le, ◌&&◌}
 use Rattle.std.specs.List.{range_with_len}
 use Rattle.std.specs.Option.{option_or}
-use Rattle.std.proofs.lemmas.Bool.{leb-true, lt-ltb}
+use Rattle.std.proofs.lemmas.Bool.{leb-true}
 use Rattle.std.proofs.lemmas.List.{append-nil}
 use Rattle.std.proofs.lemmas.List.Elements.{All-nil, All-cons}
-use Rattle.ds_base.specs.declared.entity.EntityRefused.{EntityRefused}
-use Rattle.ds_base.specs.declared.entity.EntityRefused.TheVariants as entity
 use Rattle.ds_base.specs.declared.entity.Property.{Property}
 use Rattle.ds_base.specs.declared.key.Ident.TheVariants.{Id}
 use Rattle.ds_base.specs.declared.key.Elem.{Elem}
 use Rattle.ds_base.specs.Entities.{EntityParts, entity_refusal}
 use Rattle.ds_base.specs.Keys.{KeyParts, root_of, renumbered, with_last_id, ends_in_id}
-use Rattle.ds_base.specs.Limits.{first_drawn_id, greatest_id, greatest_told, most_groups, most_index_rows}
+use Rattle.ds_base.specs.Limits.{first_drawn_id, greatest_id, most_groups}
 use Rattle.ds_log.specs.declared.Touch.{Touch}
 use Rattle.ds_log.specs.declared.Write.{Write}
 use Rattle.ds_log.specs.declared.Write.TheVariants.{Put, Delete}
@@ -24,10 +22,6 @@ use Rattle.ds_log.specs.Logs.{key_of}
 use Rattle.ds_log.specs.Touches.{touch_place}
 use Rattle.ds_request.specs.declared.call.Call.{Call}
 use Rattle.ds_request.specs.declared.call.Call.TheVariants as call
-use Rattle.ds_rows.specs.Counts.{row_count, IsCounted}
-use Rattle.ds_rows.specs.declared.refused.RowsRefused.{RowsRefused}
-use Rattle.ds_rows.specs.declared.refused.RowsRefused.TheVariants as rows
-use Rattle.ds_indexdef.specs.declared.IndexDef.{IndexDef}
 use Rattle.ds_reply.specs.declared.reply.Body.{Body}
 use Rattle.ds_reply.specs.declared.reply.Body.TheVariants as body
 use Rattle.ds_reply.specs.declared.reply.WriteAt.{WriteAt}
@@ -40,7 +34,7 @@ use Rattle.ds_plans.specs.declared.effect.Effect.{Effect}
 use Rattle.ds_plans.specs.declared.effect.Effect.TheVariants as effect
 use Rattle.ds_plans.specs.Answered.{Tells, IsPlan}
 use Rattle.ds_plans.specs.Effects.{ids_drawn, store_after, session_after}
-use Rattle.ds_plans.specs.Refused.{IsRefusal, rows_body}
+use Rattle.ds_protocol.specs.Refused.{IsRefusal}
 use Rattle.ds_plans.specs.States.{StoreParts, StateParts, IsSession, world}
 use Rattle.ds_plans.specs.WritePlans.{IsWritable, IsWritePlan, SaysWrite}
 use Rattle.ds_plans.proofs.Plans.{unrefused, no_memory_plan, no_ids}
@@ -52,10 +46,6 @@ pub refusals-none : (a : Option Body) (rest : List (Option Body)) → first_refu
     → (a ≡ None) × (first_refusal rest ≡ None)
 refusals-none None rest none = (refl, none)
 refusals-none (Some b) rest none = cc
-
-abbrev body_of : Option Body → Body
-body_of None = body.BadJson
-body_of (Some b) = b
 
 -- ---- what a put asks of its transaction
 
@@ -308,63 +298,8 @@ module _ (st : StateParts) (s : Session) (client : ℕ) where
             (omega arith) issued;
       }
 
-  -- ---- refusals of puts and deletes
-
-  too_many : (e : EntityParts) (count : ℕ) → most_index_rows < row_count st.store.definitions e
-      → count ≡ min (row_count st.store.definitions e) greatest_told → row_refusal st.store.definitions e ≡ Some (body.TooManyRows count)
-  too_many e count above is =
-      ap (λ v. cond v (Some (body.TooManyRows (min (row_count st.store.definitions e) greatest_told))) None)
-      (lt-ltb most_index_rows (row_count st.store.definitions e) above)
-      ∙ ap (λ n. Some (body.TooManyRows n)) (sym is)
-
-  -- the entity's own refusal is the first
-  pub entity_refused : (key : KeyParts) (incomplete : Bool) (properties : List Property) (why : EntityRefused) (b : Body)
-      → entity_body (Some why) ≡ Some b →
-      (Some why ≡ entity_refusal key properties) ⊎ ((Some why ≡ Some entity.NoMemory) × (entity_refusal key properties ≡ None)) →
-      (refusal_of st.store.definitions s (call.Put key incomplete properties) ≡ Some b) ⊎ (b ≡ body.NoMemory)
-  entity_refused key incomplete properties why b is (inl decided) = inl
-      (ap (λ o. first_refusal (entity_body o ∷ others)) (sym decided) ∙ ap (λ o. first_refusal (o ∷ others)) is) where
-        others : List (Option Body)
-        others = row_refusal st.store.definitions (record { key = key; properties = properties }) ∷ group_refusal s.transaction
-            (group_asked incomplete key) ∷ write_refusal s.transaction ∷ []
-  entity_refused key incomplete properties why b is (inr (none, fine)) = inr (ap body_of (sym is ∙ ap entity_body none))
-
-  -- then that of its index rows, and then those of the transaction
-  pub put_rest : (e : EntityParts) (incomplete : Bool) → entity_refusal e.key e.properties ≡ None →
-      refusal_of st.store.definitions s (call.Put e.key incomplete e.properties)
-      ≡ first_refusal (row_refusal st.store.definitions e ∷ group_refusal s.transaction (group_asked incomplete e.key) ∷ write_refusal
-      s.transaction ∷ [])
-  put_rest e incomplete fine =
-      ap (λ o. first_refusal (entity_body o ∷ row_refusal st.store.definitions e ∷ group_refusal s.transaction
-      (group_asked incomplete e.key) ∷ write_refusal s.transaction ∷ [])) fine
-
-  pub rows_refused : (e : EntityParts) (incomplete : Bool) (definitions : List IndexDef) (why : RowsRefused) (b : Body)
-      → entity_refusal e.key e.properties ≡ None → definitions ≡ st.store.definitions →
-      IsCounted (row_count definitions e) (Err why) → b ≡ rows_body why
-      → (refusal_of st.store.definitions s (call.Put e.key incomplete e.properties) ≡ Some b) ⊎ (b ≡ body.NoMemory)
-  rows_refused e incomplete definitions rows.NoMemory b fine same counted is = inr is
-  rows_refused e incomplete definitions (rows.TooManyRows count) b fine same counted is =
-      let both : IsCounted (row_count st.store.definitions e) (Err (rows.TooManyRows count)) = subst
-      (λ d. IsCounted (row_count d e) (Err (rows.TooManyRows count))) same counted in
-      inl (put_rest e incomplete fine
-      ∙ ap (λ o. first_refusal (o ∷ group_refusal s.transaction (group_asked incomplete e.key) ∷ write_refusal s.transaction ∷ []))
-      (too_many e count both.0 both.1)
-      ∙ ap (λ v. Some v) (sym is))
-
-  pub put_after_rows : (e : EntityParts) (incomplete : Bool) → entity_refusal e.key e.properties ≡ None
-      → row_refusal st.store.definitions e ≡ None →
-      refusal_of st.store.definitions s (call.Put e.key incomplete e.properties)
-      ≡ first_refusal (group_refusal s.transaction (group_asked incomplete e.key) ∷ write_refusal s.transaction ∷ [])
-  put_after_rows e incomplete fine few = put_rest e incomplete fine
-      ∙ ap (λ o. first_refusal (o ∷ group_refusal s.transaction (group_asked incomplete e.key) ∷ write_refusal s.transaction ∷ [])) few
-
   -- what is told is the refusal or want of memory
   pub told_refusal : (c : Call) (refusal : Option Body) (b : Body) → refusal_of st.store.definitions s c ≡ refusal
       → IsRefusal refusal (Some b) → (refusal_of st.store.definitions s c ≡ Some b) ⊎ (b ≡ body.NoMemory)
   told_refusal c refusal b same (inl is) = inl (same ∙ sym is)
-  told_refusal c refusal b same (inr is) = inr (ap body_of is)
-
-  pub untold_refusal : (c : Call) (refusal : Option Body) → refusal_of st.store.definitions s c ≡ refusal → IsRefusal refusal None
-      → refusal_of st.store.definitions s c ≡ None
-  untold_refusal c refusal same (inl is) = same ∙ sym is
-  untold_refusal c refusal same (inr is) = cc
+  told_refusal c refusal b same (inr is) = inr (let none : b ≡ body.NoMemory = cc in none)

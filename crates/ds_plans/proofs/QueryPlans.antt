@@ -65,7 +65,7 @@ use Rattle.ds_plans.specs.Answered.{IsPlan, Tells}
 use Rattle.ds_plans.specs.Effects.{session_after}
 use Rattle.ds_plans.specs.Queries.{IsGroupSearch, IsPrepared, told_over}
 use Rattle.ds_plans.specs.Reads.{AreSeen, IsPulled, IsReached}
-use Rattle.ds_plans.specs.Refused.{IsRefusal, is_quiet}
+use Rattle.ds_protocol.specs.Refused.{IsRefusal, is_quiet}
 use Rattle.ds_plans.specs.States.{AreUpTo, IsSession, IsState, StateParts, world}
 use Rattle.ds_plans.proofs.Plans.{memory_as, no_ids, planned_as, quiet-tells, said}
 use Rattle.ds_plans.proofs.ReadPlans.{lists_are, may_read, may_see, place_there, read_seen, shard_there, view_is_strong}

@@ -35,9 +35,10 @@ use Rattle.ds_plans.specs.Effects.{ids_drawn, store_after, session_after, with_w
 use Rattle.ds_plans.specs.Queries.{told_over}
 use Rattle.ds_plans.specs.States.{StateParts}
 use Rattle.ds_plans.specs.Taken.{is_commit, is_view, is_placed}
-use Rattle.ds_plans.specs.Transactions.{HasTouched}
+use Rattle.ds_protocol.specs.Transactions.{HasTouched}
 use Rattle.ds_plans.specs.Told.{AreNumbersOf, IsPlaceOf, IsSeenBy, IsTold, StandsOncePlaced, ToldAlways, ToldOnceDue}
-use Rattle.ds_plans.specs.Told.{WriteToldOnceDue, is_refusal, is_silent, tells_no_step}
+use Rattle.ds_plans.specs.Told.{WriteToldOnceDue, is_refusal, is_silent}
+use Rattle.ds_protocol.specs.Refused.{tells_no_step}
 
 -- ---- which step it was
 

@@ -14,20 +14,15 @@ use Rattle.ds_query.specs.declared.refusal.QueryRefused.TheVariants as query
 use Rattle.ds_query.specs.Normals.{normal_of, normal_form}
 use Rattle.ds_cursor.specs.declared.cursor.CursorRefused.TheVariants as cursor
 use Rattle.ds_planner.specs.Missing.{Missing, missing_of}
-use Rattle.ds_gql.specs.declared.statement.Statement.{Statement}
-use Rattle.ds_gql.specs.Statements.{statement_of}
-use Rattle.ds_request.specs.declared.call.Call.{Call}
-use Rattle.ds_request.specs.declared.call.Call.TheVariants as call
 use Rattle.ds_reply.specs.declared.reply.Body.{Body}
 use Rattle.ds_reply.specs.declared.reply.Body.TheVariants as body
 use Rattle.ds_model.specs.Asked
-use Rattle.ds_model.specs.Asked.{gql_search, search_of, statement_search}
 use Rattle.ds_model.specs.Groups.{has_none, new_group_refusal, unless_touched}
 use Rattle.ds_model.specs.Refusals.{Told, Refused, Places, ancestor_group_refusal, ancestor_refusal, cursor_refusal, first_refusal}
 use Rattle.ds_model.specs.Refusals.{form_refusal, missing_body, missing_refusal, normal_refusal, search_refusal}
 use Rattle.ds_model.specs.Sessions.{Session, Transaction}
 use Rattle.ds_protocol.specs.Preparing.{IsInside, IsRefused}
-use Rattle.ds_plans.specs.Told.{tells_no_step}
+use Rattle.ds_protocol.specs.Refused.{tells_no_step}
 
 abbrev IsBare : Option Body → Type 0
 IsBare o = IfSome o (λ b. tells_no_step b ≡ true)
@@ -96,14 +91,3 @@ pub form-bare : (definitions : List IndexDef) (s : Session) (inside : Bool) (sea
 form-bare definitions s inside search b is (inl memory) = ap tells_no_step memory
 form-bare definitions s inside search b is (inr refused) =
     subst IsBare (refused.told s is) (search-bare definitions s search refused.places)
-
--- a statement that can't be read
-pub unread-bare : (c : Call) (b : Body) → (b ≡ body.NoMemory) ⊎ (search_of c ≡ Some (Err b)) → tells_no_step b ≡ true
-unread-bare c b (inl memory) = ap tells_no_step memory
-unread-bare (call.Query namespace kind ancestor filters orders select offset limit start end cursor) b (inr is) = cc
-unread-bare (call.Gql namespace text args names start end cursor) b (inr is) =
-    by (statement_search namespace start end cursor) (statement_of text (record { args = args; names = names })) is where
-      by : (f : Statement → Asked.Search) (r : Result Statement ℕ) → Some (gql_search f r) ≡ Some (Err b) → tells_no_step b ≡ true
-      by f (Ok s) is = cc
-      by f (Err place) is = (let e : b ≡ body.BadGql place = cc in ap tells_no_step e)
-unread-bare _ b (inr is) = cc

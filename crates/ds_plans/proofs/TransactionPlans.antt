@@ -23,7 +23,7 @@ use Rattle.ds_plans.specs.declared.effect.Effect.TheVariants as effect
 use Rattle.ds_plans.specs.Answered.{IsPlan}
 use Rattle.ds_plans.specs.Effects.{session_after}
 use Rattle.ds_plans.specs.States.{StateParts, IsSession, IsTransaction, world}
-use Rattle.ds_plans.specs.Transactions.{HasTouched}
+use Rattle.ds_protocol.specs.Transactions.{HasTouched}
 use Rattle.ds_plans.proofs.Plans.{unrefused, quiet-tells, no_ids}
 use Rattle.ds_plans.proofs.PutPlans.{number-tells}
 use Rattle.ds_plans.proofs.WriteAnswers.{at_end}

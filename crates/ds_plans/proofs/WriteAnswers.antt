@@ -23,9 +23,11 @@ use Rattle.ds_model.specs.Groups.{StandsAt, place_in, group_refusal, write_refus
 use Rattle.ds_model.specs.Legal.{counter_id, counter_ids}
 use Rattle.ds_model.specs.Sessions.{Session, Transaction, first_id, next_above, saw_next, saw_place}
 use Rattle.ds_plans.specs.declared.effect.Effect.TheVariants as effect
-use Rattle.ds_plans.specs.Effects.{MayWrite, ids_drawn, store_after}
+use Rattle.ds_plans.specs.Effects.{ids_drawn, store_after}
+use Rattle.ds_protocol.specs.Transactions.{MayWrite}
 use Rattle.ds_plans.specs.States.{StoreParts, StateParts, IsSession, IsTransaction, world}
-use Rattle.ds_plans.specs.WritePlans.{IsWritable, IsWritePlan, id_above}
+use Rattle.ds_plans.specs.WritePlans.{IsWritable, IsWritePlan}
+use Rattle.ds_protocol.specs.Writing.{id_above}
 
 -- ---- the ids of a path whose ids are issued
 

@@ -9,6 +9,10 @@ use Rattle.ds_reply.specs.declared.reply.Reply.{Reply}
 use Rattle.ds_model.specs.Answers.{BodyAnswers}
 use Rattle.ds_model.specs.Legal.{acknowledged_in, accepted_in, printed_next_in, drawn_by_call}
 use Rattle.ds_model.specs.Sessions.{Session}
+use Rattle.ds_protocol.specs.declared.operations.Operation.{Operation}
+use Rattle.ds_protocol.specs.declared.operations.Operation.TheVariants as operation
+use Rattle.ds_protocol.specs.Operations.{call_of}
+use Rattle.ds_protocol.specs.Searches.{IsSearchOf}
 use Rattle.ds_plans.specs.declared.effect.Effect.{Effect}
 use Rattle.ds_plans.specs.Effects.{IsAllowed, store_after, session_after}
 use Rattle.ds_plans.specs.States.{StoreParts, StateParts, world}
@@ -44,3 +48,8 @@ pub record IsPlan (st : StateParts) (s : Session) (client : ℕ) (c : Call) (sai
       (session_after change st.store s)
   pub told : Tells st.store (store_after change st.store) c said
   pub allowed : IsAllowed change st s
+
+-- what is said to what is asked, and changed by it: to each call that a search is of, and else to the operation's own call
+abbrev pub IsPlanFor : StateParts → Session → ℕ → Operation → Body → Effect → Type 0
+IsPlanFor st s client (operation.Find search) said change = (c : Call) → IsSearchOf c search → IsPlan st s client c said change
+IsPlanFor st s client o said change = IsPlan st s client (call_of o) said change

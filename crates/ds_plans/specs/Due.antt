@@ -14,23 +14,21 @@ use Rattle.ds_model.specs.Answers.{BodyAnswers}
 use Rattle.ds_model.specs.Groups.{IsSeenPlace}
 use Rattle.ds_model.specs.Legal.{acknowledged_in, accepted_in, printed_next_in, drawn_by_call}
 use Rattle.ds_model.specs.Sessions.{Session, count_of, raised_at}
+use Rattle.ds_protocol.specs.declared.operations.Operation.{Operation}
+use Rattle.ds_protocol.specs.declared.operations.Operation.TheVariants as operation
+use Rattle.ds_protocol.specs.Operations.{call_of, ids_asked}
+use Rattle.ds_protocol.specs.Searches.{IsSearchOf}
 use Rattle.ds_plans.specs.declared.effect.Effect.{Effect}
 use Rattle.ds_plans.specs.Effects.{IsAllowed, store_after, session_after}
 use Rattle.ds_plans.specs.States.{StateParts, world}
 
--- the journal's length at the request's Touch, the first of the ids that its Issue drew, the count that its Apply raised the shard's to, and
--- for each shard its count at a View
+-- the journal's length at the request's Touch, the first of the ids that its Issue drew, the count that its Apply raised the shard's to,
+-- and for each shard its count at a View
 pub record GatheredParts : Type 0 where
   pub place : Option ℕ
   pub first : Option ℕ
   pub applied : Option ℕ
   pub views : List (Option ℕ)
-
--- how many ids a request draws
-abbrev pub ids_asked : Call → ℕ
-ids_asked (call.Put key true properties) = 1
-ids_asked (call.AllocateIds count) = count
-ids_asked _ = 0
 
 abbrev pub ids_from : ℕ → Option ℕ → List ℕ
 ids_from count None = []
@@ -82,6 +80,11 @@ pub record IsDue (st : StateParts) (s : Session) (client : ℕ) (c : Call) (ids 
 -- this is due, or there was no memory to tell it
 abbrev pub IsDuePlan : StateParts → Session → ℕ → Call → List ℕ → Body → Effect → Type 0
 IsDuePlan st s client c ids said change = (said ≡ body.NoMemory) ⊎ IsDue st s client c ids said change
+
+-- what is due to what is asked: to each call that a search is of, which draws no ids, and else to the operation's own call
+abbrev pub IsDueFor : StateParts → Session → ℕ → Operation → GatheredParts → Body → Effect → Type 0
+IsDueFor st s client (operation.Find search) g said change = (c : Call) → IsSearchOf c search → IsDuePlan st s client c [] said change
+IsDueFor st s client o g said change = IsDuePlan st s client (call_of o) (ids_of (call_of o) g) said change
 
 -- each shard's entries up to the place are among those counted
 abbrev pub AreCovering : StateParts → ℕ → List ℕ → Type 0

@@ -1,15 +1,15 @@
 -- What a reply changes of the store and of its client's session.
 use Rattle.std.specs.Prelude.{◌≡◌, ℕ, ◌+◌, ◌≤◌, Bool, true, false, [], ◌∷◌, ◌++◌, Option, Some, None, length, All, ⊤}
 use Rattle.std.specs.Option.{option_map}
-use Rattle.ds_base.specs.Keys.{KeyParts}
 use Rattle.ds_base.specs.Limits.{greatest_id}
 use Rattle.ds_log.specs.declared.Commit.{Commit}
 use Rattle.ds_log.specs.Conflicts.{conflict_of}
 use Rattle.ds_log.specs.Ids.{first_unissued, AreIssued}
 use Rattle.ds_log.specs.Logs.{key_of}
 use Rattle.ds_model.specs.Answers.{begun}
-use Rattle.ds_model.specs.Groups.{group_refusal, write_refusal, touching, touching_if, writing, with_transaction}
+use Rattle.ds_model.specs.Groups.{group_refusal, touching, touching_if, writing, with_transaction}
 use Rattle.ds_model.specs.Sessions.{Session, Transaction, saw_place, saw_next, saw_entries, count_of, greater_counts}
+use Rattle.ds_protocol.specs.Transactions.{MayWrite}
 use Rattle.ds_plans.specs.declared.effect.CountSeen.{CountSeen}
 use Rattle.ds_plans.specs.declared.effect.CountsSeen.{CountsSeen}
 use Rattle.ds_plans.specs.declared.effect.Effect.{Effect}
@@ -54,10 +54,14 @@ session_after (effect.Settle place c) st s =
     saw_place c.commit (record (saw_place place s) { counts = greater_counts s.counts c.counts })
 session_after (effect.SeeCount c) st s = saw_place c.commit (saw_entries c.shard c.count (saw_place c.place s))
 
--- a transaction that may touch the group and has room for a write
-abbrev pub MayWrite : Option Transaction → KeyParts → Type 0
-MayWrite None group = ⊥
-MayWrite (Some t) group = (group_refusal (Some t) (Some group) ≡ None) × (write_refusal (Some t) ≡ None)
+-- no commit, no id and no touch: it changes nothing but what its client has seen, or ends its transaction
+abbrev pub only_shows : Effect → Bool
+only_shows (effect.Draw count) = false
+only_shows (effect.CommitWrite w) = false
+only_shows (effect.CommitTransaction draft) = false
+only_shows (effect.WriteGroup w) = false
+only_shows (effect.ReadGroup r) = false
+only_shows _ = true
 
 -- a commit by itself: it touched nothing, and its ids are issued
 pub record MayCommitWrite (w : WriteCommit) (st : StateParts) : Type 0 where

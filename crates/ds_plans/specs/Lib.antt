@@ -3,9 +3,7 @@ pub mod Due
 pub mod Effects
 pub mod Queries
 pub mod Reads
-pub mod Refused
 pub mod States
 pub mod Taken
 pub mod Told
-pub mod Transactions
 pub mod WritePlans

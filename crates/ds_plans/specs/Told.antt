@@ -15,6 +15,7 @@ use Rattle.ds_plans.specs.declared.effect.GroupRead.{GroupRead}
 use Rattle.ds_plans.specs.declared.gathered.Step.{Step}
 use Rattle.ds_plans.specs.declared.gathered.Step.TheVariants as steps
 use Rattle.ds_plans.specs.Due.{GatheredParts}
+use Rattle.ds_protocol.specs.Refused.{tells_no_step}
 use Rattle.ds_plans.specs.Effects.{store_after, session_after}
 use Rattle.ds_plans.specs.Reads.{IsReached}
 use Rattle.ds_plans.specs.States.{StateParts}
@@ -81,20 +82,6 @@ pub record IsGroupRead (st : StateParts) (s : Session) (g : GatheredParts) (grou
   pub lawful : IsTrue (is_key group)
 
 -- ---- refusals
-
--- the bodies that tell no number of a step
-abbrev pub tells_no_step : Body → Bool
-tells_no_step (body.Put key written) = false
-tells_no_step (body.Delete key written) = false
-tells_no_step (body.Get entity m) = false
-tells_no_step (body.Query select results looked cursor) = false
-tells_no_step (body.Gql select results looked cursor) = false
-tells_no_step (body.Commit n) = false
-tells_no_step (body.Conflict commit group m) = false
-tells_no_step (body.AllocateIds first count) = false
-tells_no_step (body.Settle m counts) = false
-tells_no_step (body.Apply applied count m shard) = false
-tells_no_step _ = true
 
 -- nothing changes but the id counter that is shown, as by a refusal
 abbrev pub is_refusal : Effect → Bool

@@ -1,9 +1,7 @@
 -- What a put or a delete says and changes, told of its one write.
-use Rattle.std.specs.Prelude.{◌≡◌, ◌⊎◌, ℕ, ◌+◌, ◌≤◌, Bool, cond, nat_le, List, ◌++◌, Option, Some, None, length}
+use Rattle.std.specs.Prelude.{◌≡◌, ◌⊎◌, ℕ, ◌+◌, ◌≤◌, Bool, List, ◌++◌, Option, Some, None, length}
 use Rattle.std.specs.List.{range_with_len}
 use Rattle.ds_base.specs.declared.entity.Property.{Property}
-use Rattle.ds_base.specs.declared.key.Ident.{Ident}
-use Rattle.ds_base.specs.declared.key.Ident.TheVariants.{Id, Name}
 use Rattle.ds_base.specs.Entities.{EntityParts}
 use Rattle.ds_base.specs.Keys.{KeyParts}
 use Rattle.ds_base.specs.Limits.{greatest_id}
@@ -19,16 +17,11 @@ use Rattle.ds_model.specs.Answers.{WriteAnswers}
 use Rattle.ds_model.specs.Groups.{group_refusal, write_refusal}
 use Rattle.ds_model.specs.Legal.{written_commit}
 use Rattle.ds_model.specs.Refusals.{refusal_of}
-use Rattle.ds_model.specs.Sessions.{Session, first_id}
+use Rattle.ds_model.specs.Sessions.{Session}
 use Rattle.ds_plans.specs.declared.effect.Effect.{Effect}
 use Rattle.ds_plans.specs.declared.effect.Effect.TheVariants as effect
 use Rattle.ds_plans.specs.Effects.{IsAllowed, ids_drawn, store_after, session_after}
 use Rattle.ds_plans.specs.States.{StateParts, world}
-
--- the counter above an id that only it gives
-abbrev pub id_above : Ident → ℕ
-id_above (Id n) = cond (nat_le first_id n) (n + 1) 0
-id_above (Name x) = 0
 
 -- a write that nothing refuses: its group may be touched, the transaction has room for it, the id that is drawn for it is left, and the
 -- others of its key are issued

@@ -1,14 +1,15 @@
 //! The reply to an open request, as soon as nothing is missing: to requests that are neither puts, deletes, gets nor queries.
 ghost use Rattle.std.specs.Prelude.{◌≡◌, ◌≤◌, ◌<◌, [], None, Some, length, IfSome, IsTrue};
 ghost use Rattle.ds_request.specs.declared.call.Call.{Call};
-ghost use Rattle.ds_request.specs.Lawful.{IsLawfulCall};
+ghost use Rattle.ds_protocol.specs.Operations.{IsAskedOf, IsLawfulOperation, call_of};
 ghost use Rattle.ds_applied.specs.AppliedLists.{AreCounts, entries_by};
 ghost use Rattle.ds_model.specs.Asked.{has_shard};
 ghost use Rattle.ds_model.specs.Answers.{AppliedCount};
 ghost use Rattle.ds_model.specs.Groups.{IsSeenPlace};
+ghost use Rattle.ds_model.specs.Refusals.{refusal_of};
 ghost use Rattle.ds_model.specs.Sessions.{count_of};
 ghost use Rattle.ds_plans.specs.declared.gathered.Step.{Step};
-ghost use Rattle.ds_plans.specs.Due.{AreCovering, GatheredParts, IsDuePlan, IsGathered, ids_of};
+ghost use Rattle.ds_plans.specs.Due.{AreCovering, GatheredParts, IsDueFor, IsDuePlan, IsGathered, ids_of};
 ghost use Rattle.ds_plans.specs.Reads.{IsPulled};
 ghost use Rattle.ds_plans.specs.States.{AreUpTo, IsSession};
 ghost use Rattle.ds_plans.specs.Told.{AreViewsOf, IsTold, ToldByNumbers, ToldSettled};
@@ -19,51 +20,118 @@ use crate::session::Session;
 use crate::state::State;
 use ds_base::limits::MAX_ID;
 use ds_base::{Counts, TryCopy};
+use ds_protocol::{Operation, OperationRefused, refusal_of};
 use ds_reply::Body;
-use ds_request::Call;
 use std::alloc::Global;
 
 impl State {
     /// What is said to an open request and what that changes, as soon as nothing is missing; `None` where a further step of its client is.
-    /// `step` is the one that was just taken; where none was, as at the opening, it is a Touch, which by itself ends no request. The store
-    /// and the applied counts stay as they are.
+    /// `step` is the one that was just taken; where none was, as at the opening, it is a Touch, which by itself ends no request. What was
+    /// asked is lent, and the store and the applied counts stay as they are.
     pub fn plan_due(
         &mut self,
         alloc: Global,
         session: &Session,
         client: u32,
-        call: Call,
+        asked: &Result<Operation, OperationRefused>,
         gathered: &Gathered,
         step: Step,
     ) -> Option<Plan>
-        requires lawful { IsLawfulCall call }
-        requires shard { IsTrue (has_shard self.old.store.shards call) }
+        requires asked { (call : Call) × (IsAskedOf call asked.now × IsTrue (has_shard self.old.store.shards call)
+            × IsGathered self.old session.now call gathered.now) }
         requires seen { IsSession self.old session.now }
-        requires gathered { IsGathered self.old session.now call gathered.now }
-        ensures plan { IfSome result (λ p. IsDuePlan self.new session.now client call (ids_of call gathered.now) p.body p.effect) }
+        ensures plan { IfSome result (λ p. (call : Call) → IsAskedOf call asked.now
+            → IsDuePlan self.new session.now client call (ids_of call gathered.now) p.body p.effect) }
         ensures told { IfSome result (λ p. IsTold self.new session.now gathered.now step p.body p.effect) }
         ensures store { self.new.store ≡ self.old.store }
         ensures counts { self.new.applied.counts ≡ self.old.applied.counts }
     {
-        match call {
-            Call::Put {
-                key,
-                incomplete,
-                properties,
-            } => self.put_due(
-                alloc, session, client, key, incomplete, properties, gathered, step,
+        match asked {
+            Ok(operation) => self.operation_due(alloc, session, client, operation, gathered, step),
+            Err(refused) => {
+                let plan = Plan::refused(refused.body());
+                Some(self.refused_due(session, client, gathered, plan))
+            }
+        }
+    }
+
+    /// What is said to an operation. The refusals that the definitions, the transaction and the request decide come first; those of a
+    /// search are its own.
+    fn operation_due(
+        &mut self,
+        alloc: Global,
+        session: &Session,
+        client: u32,
+        operation: &Operation,
+        gathered: &Gathered,
+        step: Step,
+    ) -> Option<Plan>
+        requires lawful { IsLawfulOperation operation.now }
+        requires shard { IsTrue (has_shard self.old.store.shards (call_of operation.now)) }
+        requires seen { IsSession self.old session.now }
+        requires gathered { IsGathered self.old session.now (call_of operation.now) gathered.now }
+        ensures plan { IfSome result (λ p. IsDueFor self.new session.now client operation.now gathered.now p.body p.effect) }
+        ensures told { IfSome result (λ p. IsTold self.new session.now gathered.now step p.body p.effect) }
+        ensures store { self.new.store ≡ self.old.store }
+        ensures counts { self.new.applied.counts ≡ self.old.applied.counts }
+    {
+        match refusal_of(alloc, &self.defs, session.open(), operation) {
+            Some(body) => Some(self.refused_due(session, client, gathered, Plan::refused(body))),
+            None => self.unrefused_due(alloc, session, client, operation, gathered, step),
+        }
+    }
+
+    /// What is said to an open request that nothing refuses but the journal, the id counter, or what a search tests itself.
+    fn unrefused_due(
+        &mut self,
+        alloc: Global,
+        session: &Session,
+        client: u32,
+        operation: &Operation,
+        gathered: &Gathered,
+        step: Step,
+    ) -> Option<Plan>
+        requires unrefused { refusal_of self.old.store.definitions session.now (call_of operation.now) ≡ None }
+        requires lawful { IsLawfulOperation operation.now }
+        requires shard { IsTrue (has_shard self.old.store.shards (call_of operation.now)) }
+        requires seen { IsSession self.old session.now }
+        requires gathered { IsGathered self.old session.now (call_of operation.now) gathered.now }
+        ensures plan { IfSome result (λ p. IsDueFor self.new session.now client operation.now gathered.now p.body p.effect) }
+        ensures told { IfSome result (λ p. IsTold self.new session.now gathered.now step p.body p.effect) }
+        ensures store { self.new.store ≡ self.old.store }
+        ensures counts { self.new.applied.counts ≡ self.old.applied.counts }
+    {
+        match operation {
+            Operation::Put { entity, incomplete } => self.put_due(
+                alloc,
+                session,
+                client,
+                entity,
+                *incomplete,
+                gathered,
+                step,
             ),
-            Call::Delete { key } => self.delete_due(alloc, session, client, key, gathered, step),
-            Call::Begin { xg } => Some(self.plan_begin(session, client, xg)),
-            Call::Commit => self.commit_due(alloc, session, client, step),
-            Call::Rollback => Some(self.plan_rollback(session, client)),
-            Call::AllocateIds { count } => self.allocate_due(
-                session, client, count, gathered, step,
+            Operation::Delete { key } => self.delete_due(
+                alloc, session, client, key, gathered, step,
             ),
-            Call::Get { key } => self.get_due(alloc, session, client, &key, gathered, step),
-            Call::Settle => self.settle_due(alloc, session, client, gathered),
-            Call::Apply { shard } => self.apply_due(alloc, session, client, shard, gathered, step),
-            _ => self.search_due(alloc, session, client, call, gathered, step),
+            Operation::Begin { several_groups } => Some(self.plan_begin(
+                session,
+                client,
+                *several_groups,
+            )),
+            Operation::Commit => self.commit_due(alloc, session, client, step),
+            Operation::Rollback => Some(self.plan_rollback(session, client)),
+            Operation::AllocateIds { count } => self.allocate_due(
+                session, client, *count, gathered, step,
+            ),
+            Operation::Get { key } => self.get_due(alloc, session, client, key, gathered, step),
+            Operation::Settle => self.settle_due(alloc, session, client, gathered),
+            Operation::Apply { shard } => self.apply_due(
+                alloc, session, client, *shard, gathered, step,
+            ),
+            Operation::Find(search) => self.found_due(
+                alloc, session, client, search, gathered, step,
+            ),
         }
     }
 

@@ -3,28 +3,26 @@ ghost use Rattle.std.specs.Prelude.{◌≡◌, ◌≤◌, ◌<◌, [], None, Som
 ghost use Rattle.std.specs.Option.{option_map};
 ghost use Rattle.ds_base.specs.Keys.{root_of};
 ghost use Rattle.ds_request.specs.declared.call.Call.{Call};
-ghost use Rattle.ds_request.specs.Lawful.{IsLawfulCall};
 ghost use Rattle.ds_model.specs.Groups.{ReadsAt, group_refusal};
 ghost use Rattle.ds_protocol.specs.Searches.{IsLawfulSearch, IsSearchOf};
 ghost use Rattle.ds_plans.specs.declared.gathered.Step.{Step};
 ghost use Rattle.ds_plans.specs.Due.{IsDuePlan, IsGathered, ids_of};
 ghost use Rattle.ds_plans.specs.Queries.{IsPrepared};
 ghost use Rattle.ds_plans.specs.Reads.{IsPulled, IsReached};
-ghost use Rattle.ds_plans.specs.Refused.{IsRefusal, is_quiet};
+ghost use Rattle.ds_protocol.specs.Refused.{IsRefusal, is_quiet};
 ghost use Rattle.ds_plans.specs.States.{AreUpTo, IsSession};
-ghost use Rattle.ds_plans.specs.Told.{IsGroupRead, IsPlaceOf, IsTold, ToldAtCounts, tells_no_step};
+ghost use Rattle.ds_plans.specs.Told.{IsGroupRead, IsPlaceOf, IsTold, ToldAtCounts};
+ghost use Rattle.ds_protocol.specs.Refused.{tells_no_step};
 ghost use Rattle.ds_plans.specs.Answered.{IsPlan};
 
 use crate::effect::{CountsSeen, Effect, GroupRead, Plan};
 use crate::gathered::{Gathered, Step};
-use crate::queries::{forget, give_up};
 use crate::session::Session;
 use crate::state::State;
 use ds_base::{Counts, Key, NoMemory, TryCopy};
 use ds_log::shard_of;
-use ds_protocol::{Ready, Search, group_of, prepare, search_of};
+use ds_protocol::{Ready, Search, group_of, prepare};
 use ds_reply::Body;
-use ds_request::Call;
 use std::alloc::Global;
 
 impl State {
@@ -127,66 +125,37 @@ impl State {
         }))
     }
 
-    /// A query or a statement waits as its form has it; any other call is none, and is told want of memory.
-    pub(crate) fn search_due(
-        &mut self,
-        alloc: Global,
-        session: &Session,
-        client: u32,
-        call: Call,
-        gathered: &Gathered,
-        step: Step,
-    ) -> Option<Plan>
-        requires lawful { IsLawfulCall call }
-        requires seen { IsSession self.old session.now }
-        requires gathered { IsGathered self.old session.now call gathered.now }
-        ensures plan { IfSome result (λ p. IsDuePlan self.new session.now client call (ids_of call gathered.now) p.body p.effect) }
-        ensures told { IfSome result (λ p. IsTold self.new session.now gathered.now step p.body p.effect) }
-        ensures store { self.new.store ≡ self.old.store }
-        ensures counts { self.new.applied.counts ≡ self.old.applied.counts }
-    {
-        match search_of(alloc, call) {
-            Some(Ok(search)) => self.found_due(alloc, session, client, search, gathered, step),
-            Some(Err(body)) => Some(Plan::refused(body)),
-            None => Some(Plan::no_memory()),
-        }
-    }
-
     /// What a search finds; it may be refused by its form, its cursors, or for want of an index, which waits for nothing.
-    fn found_due(
+    pub(crate) fn found_due(
         &mut self,
         alloc: Global,
         session: &Session,
         client: u32,
-        search: Search,
+        search: &Search,
         gathered: &Gathered,
         step: Step,
     ) -> Option<Plan>
-        requires lawful { IsLawfulSearch search }
+        requires lawful { IsLawfulSearch search.now }
         requires seen { IsSession self.old session.now }
         requires gathered { (call : Call) × IsGathered self.old session.now call gathered.now }
-        ensures plan { IfSome result (λ p. (call : Call) → IsSearchOf call search → IsPlan self.new session.now client call p.body p.effect) }
+        ensures plan { IfSome result (λ p. (call : Call) → IsSearchOf call search.now
+            → IsPlan self.new session.now client call p.body p.effect) }
         ensures told { IfSome result (λ p. IsTold self.new session.now gathered.now step p.body p.effect) }
         ensures store { self.new.store ≡ self.old.store }
         ensures counts { self.new.applied.counts ≡ self.old.applied.counts }
     {
-        let ready = match prepare(alloc, &self.defs, session.in_transaction(), &search) {
+        let ready = match prepare(alloc, &self.defs, session.in_transaction(), search) {
             Ok(ready) => ready,
             Err(body) => {
-                give_up(search);
                 return Some(Plan::refused(body));
             }
         };
-        match group_of(alloc, &search) {
+        match group_of(alloc, search) {
             Ok(Some(group)) => self.in_group_due(
-                alloc, session, client, search, ready, group, gathered, step,
+                alloc, session, client, search, &ready, group, gathered, step,
             ),
-            Ok(None) => self.in_all_due(alloc, session, client, search, ready, gathered),
-            Err(_) => {
-                give_up(search);
-                forget(ready);
-                Some(Plan::no_memory())
-            }
+            Ok(None) => self.in_all_due(alloc, session, client, search, &ready, gathered),
+            Err(_) => { Some(Plan::no_memory()) }
         }
     }
 
@@ -196,33 +165,26 @@ impl State {
         alloc: Global,
         session: &Session,
         client: u32,
-        search: Search,
-        ready: Ready,
+        search: &Search,
+        ready: &Ready,
         group: Key,
         gathered: &Gathered,
         step: Step,
     ) -> Option<Plan>
-        requires prepared { IsPrepared self.old session.now search ready }
-        requires group { Some group ≡ option_map root_of search.query.ancestor }
+        requires prepared { IsPrepared self.old session.now search.now ready.now }
+        requires group { Some group ≡ option_map root_of search.now.query.ancestor }
         requires seen { IsSession self.old session.now }
         requires gathered { (call : Call) × IsGathered self.old session.now call gathered.now }
-        ensures plan { IfSome result (λ p. (call : Call) → IsSearchOf call search → IsPlan self.new session.now client call p.body p.effect) }
+        ensures plan { IfSome result (λ p. (call : Call) → IsSearchOf call search.now
+            → IsPlan self.new session.now client call p.body p.effect) }
         ensures told { IfSome result (λ p. IsTold self.new session.now gathered.now step p.body p.effect) }
         ensures store { self.new.store ≡ self.old.store }
         ensures counts { self.new.applied.counts ≡ self.old.applied.counts }
     {
         match self.group_due(alloc, session, group, gathered, step) {
             Ok(Some(read)) => Some(self.find_in_group(alloc, session, client, search, ready, read)),
-            Ok(None) => {
-                give_up(search);
-                forget(ready);
-                None
-            }
-            Err(body) => {
-                give_up(search);
-                forget(ready);
-                Some(Plan::refused(body))
-            }
+            Ok(None) => { None }
+            Err(body) => { Some(Plan::refused(body)) }
         }
     }
 
@@ -232,15 +194,16 @@ impl State {
         alloc: Global,
         session: &Session,
         client: u32,
-        search: Search,
-        ready: Ready,
+        search: &Search,
+        ready: &Ready,
         gathered: &Gathered,
     ) -> Option<Plan>
-        requires prepared { IsPrepared self.old session.now search ready }
-        requires group { search.query.ancestor ≡ None }
+        requires prepared { IsPrepared self.old session.now search.now ready.now }
+        requires group { search.now.query.ancestor ≡ None }
         requires seen { IsSession self.old session.now }
         requires gathered { (call : Call) × IsGathered self.old session.now call gathered.now }
-        ensures plan { IfSome result (λ p. (call : Call) → IsSearchOf call search → IsPlan self.new session.now client call p.body p.effect) }
+        ensures plan { IfSome result (λ p. (call : Call) → IsSearchOf call search.now
+            → IsPlan self.new session.now client call p.body p.effect) }
         ensures told { (step : Step) → IfSome result (λ p. IsTold self.new session.now gathered.now step p.body p.effect) }
         ensures store { self.new.store ≡ self.old.store }
         ensures counts { self.new.applied.counts ≡ self.old.applied.counts }
@@ -248,23 +211,15 @@ impl State {
         let counts = match gathered.counts(alloc) {
             Ok(Some(counts)) => counts,
             Ok(None) => {
-                give_up(search);
-                forget(ready);
                 return None;
             }
             Err(_) => {
-                give_up(search);
-                forget(ready);
                 return Some(Plan::no_memory());
             }
         };
         match self.pull(alloc) {
             Ok(()) => Some(self.find_in_all_at(alloc, session, client, search, ready, counts)),
-            Err(_) => {
-                give_up(search);
-                forget(ready);
-                Some(Plan::no_memory())
-            }
+            Err(_) => { Some(Plan::no_memory()) }
         }
     }
 
@@ -274,42 +229,34 @@ impl State {
         alloc: Global,
         session: &Session,
         client: u32,
-        search: Search,
-        ready: Ready,
+        search: &Search,
+        ready: &Ready,
         counts: Counts,
     ) -> Plan
-        requires prepared { IsPrepared self.now session.now search ready }
-        requires group { search.query.ancestor ≡ None }
+        requires prepared { IsPrepared self.now session.now search.now ready.now }
+        requires group { search.now.query.ancestor ≡ None }
         requires seen { IsSession self.now session.now }
         requires shown { AreUpTo session.now.counts counts }
         requires within { AreUpTo counts self.now.applied.counts }
         requires pulled { IsPulled self.now }
-        ensures plan { (call : Call) → IsSearchOf call search → IsPlan self.now session.now client call result.body result.effect }
+        ensures plan { (call : Call) → IsSearchOf call search.now → IsPlan self.now session.now client call result.body result.effect }
         ensures told { ToldAtCounts self.now session.now counts result.body result.effect }
     {
         let Ok(told) = counts.copy(alloc) else {
-            give_up(search);
-            forget(ready);
             return Plan::no_memory();
         };
         let Ok(_all) = self.applied.counts(alloc) else {
-            give_up(search);
-            forget(ready);
             return Plan::no_memory();
         };
         let commit = self.applied.counted_place(counts.as_slice());
-        match self.find_at_counts(alloc, search, &ready, told) {
+        match self.find_at_counts(alloc, search, ready, told) {
             Ok(body) => {
-                forget(ready);
                 Plan {
                     body,
                     effect: Effect::SeeCounts(CountsSeen { commit, counts }),
                 }
             }
-            Err(_) => {
-                forget(ready);
-                Plan::no_memory()
-            }
+            Err(_) => { Plan::no_memory() }
         }
     }
 }

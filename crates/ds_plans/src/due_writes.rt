@@ -1,10 +1,9 @@
 //! The replies to open puts and deletes, as soon as nothing is missing.
 ghost use Rattle.std.specs.Prelude.{◌≡◌, ◌≤◌, ◌∷◌, [], true, false, None, Some, IfOk, IfSome, IsTrue};
-ghost use Rattle.ds_base.specs.Entities.{EntityParts};
 ghost use Rattle.ds_base.specs.Keys.{ends_in_id, root_of};
 ghost use Rattle.ds_log.specs.declared.Write.TheVariants as write;
 ghost use Rattle.ds_request.specs.declared.call.Call.{Call};
-ghost use Rattle.ds_request.specs.Entities.{IsPut};
+ghost use Rattle.ds_model.specs.Refusals.{refusal_of};
 ghost use Rattle.ds_model.specs.Groups.{IsSeenPlace};
 ghost use Rattle.ds_plans.specs.Due.{IsDuePlan, IsGathered, ids_of};
 ghost use Rattle.ds_plans.specs.Effects.{store_after};
@@ -19,7 +18,7 @@ use crate::gathered::{Gathered, Step};
 use crate::session::Session;
 use crate::state::State;
 use ds_base::limits::MAX_ID;
-use ds_base::{Entity, Key, NoMemory, Properties};
+use ds_base::{Entity, Key, NoMemory, TryCopy};
 use ds_reply::Body;
 use std::alloc::Global;
 
@@ -30,29 +29,34 @@ impl State {
         alloc: Global,
         session: &Session,
         client: u32,
-        key: Key,
+        entity: &Entity,
         incomplete: bool,
-        properties: Properties,
         gathered: &Gathered,
         step: Step,
     ) -> Option<Plan>
-        requires put { IsPut key incomplete properties }
+        requires unrefused { refusal_of self.now.store.definitions session.now
+            (Call.Put entity.now.key incomplete entity.now.properties) ≡ None }
+        requires ends_in_id { IsTrue incomplete → IsTrue (ends_in_id entity.now.key.elems) }
         requires seen { IsSession self.now session.now }
-        requires gathered { IsGathered self.now session.now (Call.Put key incomplete properties) gathered.now }
-        ensures plan { IfSome result (λ p. IsDuePlan self.now session.now client (Call.Put key incomplete properties)
-            (ids_of (Call.Put key incomplete properties) gathered.now) p.body p.effect) }
+        requires gathered { IsGathered self.now session.now (Call.Put entity.now.key incomplete entity.now.properties) gathered.now }
+        ensures plan { IfSome result (λ p. IsDuePlan self.now session.now client (Call.Put entity.now.key incomplete entity.now.properties)
+            (ids_of (Call.Put entity.now.key incomplete entity.now.properties) gathered.now) p.body p.effect) }
         ensures told { IfSome result (λ p. IsTold self.now session.now gathered.now step p.body p.effect) }
     {
-        match self.check_put(alloc, session, client, key, incomplete, properties) {
-            Ok(entity) => self.entity_due(
-                alloc, session, client, entity, incomplete, gathered, step,
-            ),
+        match self.check_put(session, client, entity, incomplete) {
+            Ok(()) => self.entity_due(alloc, session, client, entity, incomplete, gathered, step),
             Err(plan) => Some(self.refused_due(session, client, gathered, plan)),
         }
     }
 
     /// A put that is refused. Where an id was drawn for it, it was not refused before, and so it isn't now.
-    fn refused_due(&self, session: &Session, client: u32, gathered: &Gathered, plan: Plan) -> Plan
+    pub(crate) fn refused_due(
+        &self,
+        session: &Session,
+        client: u32,
+        gathered: &Gathered,
+        plan: Plan,
+    ) -> Plan
         requires unchanged { store_after plan.effect self.now.store ≡ self.now.store }
         requires silent { IsTrue (is_silent plan.body plan.effect) }
         ensures plan { (call : Call) → IsPlan self.now session.now client call plan.body plan.effect
@@ -61,7 +65,7 @@ impl State {
     {
         match gathered.first() {
             Some(_) => {
-                plan.discard();
+                drop(plan);
                 Plan::no_memory()
             }
             None => plan,
@@ -74,17 +78,17 @@ impl State {
         alloc: Global,
         session: &Session,
         client: u32,
-        entity: Entity,
+        entity: &Entity,
         incomplete: bool,
         gathered: &Gathered,
         step: Step,
     ) -> Option<Plan>
-        requires checked { IsChecked self.now session.now entity.key incomplete entity.properties entity }
-        requires ends_in_id { IsTrue incomplete → IsTrue (ends_in_id entity.key.elems) }
+        requires checked { IsChecked self.now session.now entity.now.key incomplete entity.now.properties entity.now }
+        requires ends_in_id { IsTrue incomplete → IsTrue (ends_in_id entity.now.key.elems) }
         requires seen { IsSession self.now session.now }
-        requires gathered { IsGathered self.now session.now (Call.Put entity.key incomplete entity.properties) gathered.now }
-        ensures plan { IfSome result (λ p. IsDuePlan self.now session.now client (Call.Put entity.key incomplete entity.properties)
-            (ids_of (Call.Put entity.key incomplete entity.properties) gathered.now) p.body p.effect) }
+        requires gathered { IsGathered self.now session.now (Call.Put entity.now.key incomplete entity.now.properties) gathered.now }
+        ensures plan { IfSome result (λ p. IsDuePlan self.now session.now client (Call.Put entity.now.key incomplete entity.now.properties)
+            (ids_of (Call.Put entity.now.key incomplete entity.now.properties) gathered.now) p.body p.effect) }
         ensures told { IfSome result (λ p. IsTold self.now session.now gathered.now step p.body p.effect) }
     {
         if incomplete {
@@ -100,15 +104,15 @@ impl State {
         alloc: Global,
         session: &Session,
         client: u32,
-        entity: Entity,
+        entity: &Entity,
         gathered: &Gathered,
         step: Step,
     ) -> Option<Plan>
-        requires checked { IsChecked self.now session.now entity.key false entity.properties entity }
+        requires checked { IsChecked self.now session.now entity.now.key false entity.now.properties entity.now }
         requires seen { IsSession self.now session.now }
-        requires gathered { IsGathered self.now session.now (Call.Put entity.key false entity.properties) gathered.now }
-        ensures plan { IfSome result (λ p. IsDuePlan self.now session.now client (Call.Put entity.key false entity.properties)
-            (ids_of (Call.Put entity.key false entity.properties) gathered.now) p.body p.effect) }
+        requires gathered { IsGathered self.now session.now (Call.Put entity.now.key false entity.now.properties) gathered.now }
+        ensures plan { IfSome result (λ p. IsDuePlan self.now session.now client (Call.Put entity.now.key false entity.now.properties)
+            (ids_of (Call.Put entity.now.key false entity.now.properties) gathered.now) p.body p.effect) }
         ensures told { IfSome result (λ p. IsTold self.now session.now gathered.now step p.body p.effect) }
     {
         self.say_put_due(alloc, session, client, entity, gathered, step)
@@ -120,14 +124,14 @@ impl State {
         alloc: Global,
         session: &Session,
         client: u32,
-        entity: Entity,
+        entity: &Entity,
         gathered: &Gathered,
         step: Step,
     ) -> Option<Plan>
         requires place { IfSome gathered.now.place (IsSeenPlace self.now.store.journal session.now) }
-        requires writable { IsWritable self.now session.now (write.Put entity) false }
+        requires writable { IsWritable self.now session.now (write.Put entity.now) false }
         requires seen { IsSession self.now session.now }
-        ensures says { IfSome result (λ p. SaysWrite Body.Put self.now session.now client (write.Put entity) false p.body p.effect) }
+        ensures says { IfSome result (λ p. SaysWrite Body.Put self.now session.now client (write.Put entity.now) false p.body p.effect) }
         ensures told { IfSome result (λ p. IsTold self.now session.now gathered.now step p.body p.effect) }
     {
         match self.write_due(alloc, session, entity.key(), gathered, step) {
@@ -135,7 +139,17 @@ impl State {
                 if !due {
                     return None;
                 }
-                Some(self.say_put(alloc, session, client, entity, false, gathered.place()))
+                match entity.copy(alloc) {
+                    Ok(entity) => Some(self.say_put(
+                        alloc,
+                        session,
+                        client,
+                        entity,
+                        false,
+                        gathered.place(),
+                    )),
+                    Err(_) => Some(Plan::no_memory()),
+                }
             }
             Err(_) => Some(Plan::no_memory()),
         }
@@ -147,16 +161,16 @@ impl State {
         alloc: Global,
         session: &Session,
         client: u32,
-        entity: Entity,
+        entity: &Entity,
         gathered: &Gathered,
         step: Step,
     ) -> Option<Plan>
-        requires checked { IsChecked self.now session.now entity.key true entity.properties entity }
-        requires ends_in_id { IsTrue (ends_in_id entity.key.elems) }
+        requires checked { IsChecked self.now session.now entity.now.key true entity.now.properties entity.now }
+        requires ends_in_id { IsTrue (ends_in_id entity.now.key.elems) }
         requires seen { IsSession self.now session.now }
-        requires gathered { IsGathered self.now session.now (Call.Put entity.key true entity.properties) gathered.now }
-        ensures plan { IfSome result (λ p. IsDuePlan self.now session.now client (Call.Put entity.key true entity.properties)
-            (ids_of (Call.Put entity.key true entity.properties) gathered.now) p.body p.effect) }
+        requires gathered { IsGathered self.now session.now (Call.Put entity.now.key true entity.now.properties) gathered.now }
+        ensures plan { IfSome result (λ p. IsDuePlan self.now session.now client (Call.Put entity.now.key true entity.now.properties)
+            (ids_of (Call.Put entity.now.key true entity.now.properties) gathered.now) p.body p.effect) }
         ensures told { IfSome result (λ p. IsTold self.now session.now gathered.now step p.body p.effect) }
     {
         match gathered.first() {
@@ -170,15 +184,15 @@ impl State {
         &self,
         session: &Session,
         client: u32,
-        entity: Entity,
+        entity: &Entity,
         gathered: &Gathered,
         step: Step,
     ) -> Option<Plan>
         requires none { gathered.now.first ≡ None }
-        requires checked { IsChecked self.now session.now entity.key true entity.properties entity }
+        requires checked { IsChecked self.now session.now entity.now.key true entity.now.properties entity.now }
         requires seen { IsSession self.now session.now }
-        ensures plan { IfSome result (λ p. IsDuePlan self.now session.now client (Call.Put entity.key true entity.properties)
-            (ids_of (Call.Put entity.key true entity.properties) gathered.now) p.body p.effect) }
+        ensures plan { IfSome result (λ p. IsDuePlan self.now session.now client (Call.Put entity.now.key true entity.now.properties)
+            (ids_of (Call.Put entity.now.key true entity.now.properties) gathered.now) p.body p.effect) }
         ensures told { IfSome result (λ p. IsTold self.now session.now gathered.now step p.body p.effect) }
     {
         let next = self.book.next();
@@ -197,25 +211,27 @@ impl State {
         alloc: Global,
         session: &Session,
         client: u32,
-        entity: Entity,
+        entity: &Entity,
         id: u64,
         gathered: &Gathered,
         step: Step,
     ) -> Option<Plan>
         requires id { gathered.now.first ≡ Some id }
-        requires checked { IsChecked self.now session.now entity.key true entity.properties entity }
-        requires ends_in_id { IsTrue (ends_in_id entity.key.elems) }
+        requires checked { IsChecked self.now session.now entity.now.key true entity.now.properties entity.now }
+        requires ends_in_id { IsTrue (ends_in_id entity.now.key.elems) }
         requires seen { IsSession self.now session.now }
-        requires gathered { IsGathered self.now session.now (Call.Put entity.key true entity.properties) gathered.now }
-        ensures plan { IfSome result (λ p. IsDuePlan self.now session.now client (Call.Put entity.key true entity.properties)
-            (ids_of (Call.Put entity.key true entity.properties) gathered.now) p.body p.effect) }
+        requires gathered { IsGathered self.now session.now (Call.Put entity.now.key true entity.now.properties) gathered.now }
+        ensures plan { IfSome result (λ p. IsDuePlan self.now session.now client (Call.Put entity.now.key true entity.now.properties)
+            (ids_of (Call.Put entity.now.key true entity.now.properties) gathered.now) p.body p.effect) }
         ensures told { IfSome result (λ p. IsTold self.now session.now gathered.now step p.body p.effect) }
     {
         // for the proof alone: it tells what the counter is at most
         let _next = self.book.next();
-        let mut entity = entity;
+        let Ok(mut entity) = entity.copy(alloc) else {
+            return Some(Plan::no_memory());
+        };
         entity.renumber(id);
-        self.say_put_due(alloc, session, client, entity, gathered, step)
+        self.say_put_due(alloc, session, client, &entity, gathered, step)
     }
 
     /// A delete waits for a Commit outside a transaction, and for a Touch inside one; a refusal waits for nothing.
@@ -224,28 +240,29 @@ impl State {
         alloc: Global,
         session: &Session,
         client: u32,
-        key: Key,
+        key: &Key,
         gathered: &Gathered,
         step: Step,
     ) -> Option<Plan>
+        requires unrefused { refusal_of self.now.store.definitions session.now (Call.Delete key.now) ≡ None }
         requires seen { IsSession self.now session.now }
-        requires gathered { IsGathered self.now session.now (Call.Delete key) gathered.now }
-        ensures plan { IfSome result (λ p. IsDuePlan self.now session.now client (Call.Delete key) [] p.body p.effect) }
+        requires gathered { IsGathered self.now session.now (Call.Delete key.now) gathered.now }
+        ensures plan { IfSome result (λ p. IsDuePlan self.now session.now client (Call.Delete key.now) [] p.body p.effect) }
         ensures told { IfSome result (λ p. IsTold self.now session.now gathered.now step p.body p.effect) }
     {
-        let Ok(due) = self.write_due(alloc, session, &key, gathered, step) else {
+        let Ok(due) = self.write_due(alloc, session, key, gathered, step) else {
             return Some(Plan::no_memory());
         };
         let plan = self.plan_delete(alloc, session, client, key, gathered.place());
         if due || plan.is_refusal() {
             return Some(plan);
         }
-        plan.discard();
+        drop(plan);
         None
     }
 
-    /// Whether the write of a key waits for no further step: outside a transaction it waits for a Commit, and inside one for a Touch, unless
-    /// its group is touched. A refusal is want of memory.
+    /// Whether the write of a key waits for no further step: outside a transaction it waits for a Commit, and inside one for a Touch,
+    /// unless its group is touched. A refusal is want of memory.
     fn write_due(
         &self,
         alloc: Global,

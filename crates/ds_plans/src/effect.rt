@@ -38,12 +38,23 @@ pub enum Effect {
 }
 
 impl Effect {
-    /// The effect is dropped, which is shown here once.
-    pub(crate) fn discard(self) {}
-}
+    ghost use Rattle.ds_plans.specs.Effects.{only_shows};
 
-/// What was to be said is dropped, which is shown here once.
-pub(crate) fn discard_body(_body: Body) {}
+    /// Whether it changes nothing but what its client has seen, or ends its transaction: no commit, no id and no touch, so it takes no
+    /// memory.
+    pub(crate) fn only_shows(&self) -> bool
+        ensures { result ≡ only_shows self.now }
+    {
+        match self {
+            Effect::Draw { count: _ }
+            | Effect::CommitWrite(_)
+            | Effect::CommitTransaction(_)
+            | Effect::WriteGroup(_)
+            | Effect::ReadGroup(_) => false,
+            _ => true,
+        }
+    }
+}
 
 /// A write that is committed by itself, and its number is shown.
 #[derive(Drop)]
@@ -133,13 +144,6 @@ impl Plan {
         ensures effect { result.effect ≡ Effect.Nothing }
     {
         Plan::refused(Body::NoMemory)
-    }
-
-    /// The plan is dropped. It owns much, so that is shown here once, and not in each function that gives a plan up.
-    pub(crate) fn discard(self) {
-        let Plan { body, effect } = self;
-        discard_body(body);
-        effect.discard();
     }
 
     /// Whether it changes nothing but the id counter that is shown, as a refusal does.

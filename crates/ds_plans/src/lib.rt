@@ -6,15 +6,16 @@
 //! Begin with `answering`: its clause `answered` says that the reply is the definitions' over every journal that begins with the new one.
 //!
 //! Where many clients share the store, a request is open while its client takes steps, each one hold of a lock or one look at a snapshot:
-//! `steps` has what a step reads and changes of the store, and `gathered` the steps themselves and what an open request has gathered by them.
-//! `due` (with `due_reads` and `due_writes`) plans the reply as soon as nothing is missing: its clause `plan` says that it is an answer, and
-//! `told` that its places, counts, commits and ids are the gathered ones.
+//! `steps` has what a step reads and changes of the store, and `gathered` the steps themselves and what an open request has gathered by
+//! them. `due` (with `due_reads` and `due_writes`) plans the reply as soon as nothing is missing: its clause `plan` says that it is an
+//! answer, and `told` that its places, counts, commits and ids are the gathered ones. What is asked stands in `ds_protocol`, which takes a
+//! call apart, and is lent to both ways of planning.
 //!
-//! Of the definitions begin with `specs/Answered`: what an answer is, told of the store and of the client's session before and after;
-//! and what a plan is. `States` says what a store and a session keep, `Effects` what a plan changes and when it may. `Due` says what an open
-//! request has gathered, `Taken` which step is taken, and `Told` which of these numbers a reply tells. In `proofs/`, `Lifted`
-//! leads from a plan to the reply and `Grown` shows that no session comes to have seen what isn't there; `PutPlans`, `TransactionPlans`
-//! and others whose names end in `Plans` have what is said to each request.
+//! Of the definitions begin with `specs/Answered`: what an answer is, told of the store and of the client's session before and after; and
+//! what a plan is. `States` says what a store and a session keep, `Effects` what a plan changes and when it may. `Due` says what an open
+//! request has gathered, `Taken` which step is taken, and `Told` which of these numbers a reply tells. In `proofs/`, `Lifted` leads from a
+//! plan to the reply and `Grown` shows that no session comes to have seen what isn't there; `PutPlans`, `TransactionPlans` and others whose
+//! names end in `Plans` have what is said to each request.
 #![tactic(auto)]
 
 mod answering;
@@ -35,5 +36,5 @@ mod writes;
 
 pub use effect::Plan;
 pub use gathered::{Gathered, Step};
-pub use session::{Session, raise_all, zeros};
+pub use session::Session;
 pub use state::State;

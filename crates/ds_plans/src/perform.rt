@@ -1,5 +1,5 @@
 //! Taking effect, and saying so.
-ghost use Rattle.std.specs.Prelude.{◌≡◌, ◌+◌, ◌≤◌, ◌++◌, ◌∷◌, [], None, length, All, IsOk, IfOk, OnOk, OnErr};
+ghost use Rattle.std.specs.Prelude.{◌≡◌, ◌+◌, ◌≤◌, ◌++◌, ◌∷◌, [], None, length, All, IsOk, IfOk, IsTrue, OnOk, OnErr};
 ghost use Rattle.ds_base.specs.Limits.{greatest_id};
 ghost use Rattle.ds_log.specs.Conflicts.{conflict_of};
 ghost use Rattle.ds_log.specs.Ids.{AreIssued};
@@ -8,21 +8,87 @@ ghost use Rattle.ds_request.specs.declared.call.Call.{Call};
 ghost use Rattle.ds_protocol.specs.Saying.{no_memory_reply};
 ghost use Rattle.ds_plans.specs.Answered.{CallAnswered, IsPlan};
 ghost use Rattle.ds_model.specs.Sessions.{saw_next};
-ghost use Rattle.ds_plans.specs.Effects.{IsAllowed, MayCommit, MayCommitWrite, MayWriteGroup, ids_drawn, store_after, session_after};
+ghost use Rattle.ds_plans.specs.Effects.{IsAllowed, MayCommit, MayCommitWrite, MayWriteGroup, ids_drawn, only_shows, store_after};
+ghost use Rattle.ds_plans.specs.Effects.{session_after};
 ghost use Rattle.ds_plans.specs.States.{IsSession, Grows};
 
-use crate::effect::{Effect, GroupWrite, Plan, WriteCommit, discard_body};
+use crate::effect::{Effect, GroupWrite, Plan, WriteCommit};
 use crate::session::Session;
 use crate::state::State;
 use ds_base::{Buffer, NoMemory};
 use ds_journal::{Book, Draft};
-use ds_protocol::{make_room, say_no_memory, write_within};
+use ds_protocol::{make_room, say_if_room, say_no_memory, write_within};
 use ds_reply::Reply;
 use std::alloc::Global;
 
 impl State {
     /// Says what is planned, and makes it so; or says that there was no memory, and nothing changes.
     pub fn perform(
+        &mut self,
+        alloc: Global,
+        session: &mut Session,
+        client: u32,
+        number: u64,
+        plan: Plan,
+        keep: usize,
+        out: &mut Buffer,
+    ) -> Reply
+        requires room { keep + length (reply_text (no_memory_reply client number)) ≤ out.old.spare }
+        requires allowed { IsAllowed plan.effect self.old session.old }
+        ensures answered { (c : Call) → IsPlan self.old session.old client c plan.body plan.effect
+            → CallAnswered self.old.store self.new.store session.old session.new client number c result }
+        ensures seen { IsSession self.old session.old → IsSession self.new session.new }
+        ensures grows { Grows self.old self.new }
+        ensures text { out.new.bytes ≡ out.old.bytes ++ reply_text result }
+        ensures kept { keep ≤ out.new.spare }
+    {
+        if plan.effect.only_shows() {
+            self.show(alloc, session, client, number, plan, keep, out)
+        } else {
+            self.make_so(alloc, session, client, number, plan, keep, out)
+        }
+    }
+
+    /// Says what changes nothing but what its client has seen, in one pass over the reply.
+    fn show(
+        &mut self,
+        alloc: Global,
+        session: &mut Session,
+        client: u32,
+        number: u64,
+        plan: Plan,
+        keep: usize,
+        out: &mut Buffer,
+    ) -> Reply
+        requires room { keep + length (reply_text (no_memory_reply client number)) ≤ out.old.spare }
+        requires shows { IsTrue (only_shows plan.effect) }
+        requires allowed { IsAllowed plan.effect self.old session.old }
+        ensures answered { (c : Call) → IsPlan self.old session.old client c plan.body plan.effect
+            → CallAnswered self.old.store self.new.store session.old session.new client number c result }
+        ensures seen { IsSession self.old session.old → IsSession self.new session.new }
+        ensures grows { Grows self.old self.new }
+        ensures text { out.new.bytes ≡ out.old.bytes ++ reply_text result }
+        ensures kept { keep ≤ out.new.spare }
+    {
+        let Plan { body, effect } = plan;
+        let reply = Reply {
+            client,
+            line: number,
+            body,
+        };
+        if !say_if_room(&reply, keep, out) {
+            drop(effect);
+            drop(reply.body);
+            return say_no_memory(client, number, keep, out);
+        }
+        match self.take(alloc, session, effect) {
+            Ok(()) => reply,
+            Err(_) => unreachable!(),
+        }
+    }
+
+    /// Takes the room of the reply first, and then what the effect needs.
+    fn make_so(
         &mut self,
         alloc: Global,
         session: &mut Session,
@@ -48,8 +114,8 @@ impl State {
             body,
         };
         if !make_room(&reply, keep, out) {
-            effect.discard();
-            discard_body(reply.body);
+            drop(effect);
+            drop(reply.body);
             return say_no_memory(client, number, keep, out);
         }
         match self.take(alloc, session, effect) {
@@ -58,7 +124,7 @@ impl State {
                 reply
             }
             Err(_) => {
-                discard_body(reply.body);
+                drop(reply.body);
                 say_no_memory(client, number, keep, out)
             }
         }
@@ -76,6 +142,7 @@ impl State {
         ensures seen { OnOk result (session.new ≡ session_after effect self.old.store session.old) }
         ensures err { OnErr result (self.new ≡ self.old) }
         ensures unseen { OnErr result (session.new ≡ session.old) }
+        ensures sure { IsTrue (only_shows effect) → IsOk result }
     {
         match effect {
             Effect::Nothing => Ok(()),
@@ -206,8 +273,5 @@ fn commit_drawn(book: &mut Book, draft: Draft, drawn: bool) -> Result<u64, NoMem
 {
     book.make_room(&draft)?;
     draw_for(book, drawn);
-    match book.commit(draft) {
-        Ok(number) => Ok(number),
-        Err(_) => unreachable!(),
-    }
+    Ok(book.append(draft))
 }

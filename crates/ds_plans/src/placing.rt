@@ -1,25 +1,21 @@
 //! Where a write stands, and what it changes.
-ghost use Rattle.std.specs.Prelude.{◌≡◌, ◌+◌, ◌≤◌, ◌∷◌, ℕ, [], None, Option, Some, length, max, IfSome, IfOk, IsTrue};
+ghost use Rattle.std.specs.Prelude.{◌≡◌, ◌≤◌, ℕ, None, Option, Some, length, IfSome};
 ghost use Rattle.ds_log.specs.Logs.{group_of, key_of};
 ghost use Rattle.ds_model.specs.Groups.{IsSeenPlace};
-ghost use Rattle.ds_model.specs.Sessions.{next_above};
 ghost use Rattle.ds_plans.specs.States.{IsSession};
 ghost use Rattle.ds_plans.specs.Told.{WriteToldOnceDue};
-ghost use Rattle.ds_plans.specs.Transactions.{transaction_of};
-ghost use Rattle.ds_plans.specs.WritePlans.{IsWritable, IsWritePlan, id_above};
-ghost use Rattle.ds_base.specs.Keys.{is_elem, is_ident};
-ghost use Rattle.std.specs.List.{list_all};
+ghost use Rattle.ds_protocol.specs.Transactions.{transaction_of};
+ghost use Rattle.ds_plans.specs.WritePlans.{IsWritable, IsWritePlan};
 
 use crate::effect::{Effect, GroupWrite, WriteCommit};
 use crate::session::Session;
 use crate::state::State;
-use ds_base::limits::FIRST_DRAWN_ID;
-use ds_base::{Elem, Ident, Key, NoMemory};
-use ds_journal::Draft;
-use ds_log::{Touches, Write, Writes};
+use ds_base::Key;
+use ds_log::Write;
+use ds_protocol::{draft_of_write, next_above};
 use ds_reply::WriteAt;
 use ds_txn::Txn;
-use std::alloc::{AllocError, Global};
+use std::alloc::Global;
 
 /// Where a write stands, and what it changes.
 #[derive(Drop)]
@@ -68,7 +64,7 @@ impl State {
             → IfSome result (λ p. WriteToldOnceDue self.now session.now touch drawn (group_of write) p.at p.effect) }
     {
         let next = next_above(write.key().elems().as_slice());
-        let Ok(draft) = draft_of(alloc, client, write) else {
+        let Ok(draft) = draft_of_write(alloc, client, write) else {
             return None;
         };
         let commit = self.book.journal().len() as u64 + 1;
@@ -141,38 +137,5 @@ impl State {
             Some(place) => place,
             None => self.book.journal().len() as u64,
         }
-    }
-}
-
-/// The commit of one write outside a transaction. A refusal is want of memory.
-fn draft_of(alloc: Global, client: u32, write: Write) -> Result<Draft, NoMemory>
-    ensures { IfOk result (λ d. d ≡ record { client = client; touched = []; writes = write ∷ [] }) }
-{
-    let mut writes = Writes::new(alloc);
-    match writes.push(write) {
-        Ok(()) => Draft::make(alloc, client, Touches::new(alloc), writes),
-        Err(_) => Err(AllocError),
-    }
-}
-
-/// The id counter above each id of a path that only the server gives.
-fn next_above(path: &[Elem]) -> u64
-    requires { IsTrue (list_all is_elem path.now) }
-    ensures { result ≡ next_above path.now }
-{
-    let mut next = 0;
-    for elem in path {
-        next = next.max(above(&elem.ident));
-    }
-    next
-}
-
-fn above(ident: &Ident) -> u64
-    requires { IsTrue (is_ident ident.now) }
-    ensures { result ≡ id_above ident.now }
-{
-    match ident {
-        Ident::Id(id) if *id >= FIRST_DRAWN_ID => *id + 1,
-        Ident::Id(_) | Ident::Name(_) => 0,
     }
 }

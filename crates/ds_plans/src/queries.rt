@@ -4,7 +4,6 @@ ghost use Rattle.std.specs.Option.{option_map};
 ghost use Rattle.ds_base.specs.Keys.{root_of};
 ghost use Rattle.ds_query.specs.Lawful.{IsLawfulNormal};
 ghost use Rattle.ds_request.specs.declared.call.Call.{Call};
-ghost use Rattle.ds_request.specs.Lawful.{IsLawfulCall};
 ghost use Rattle.ds_applied.specs.AppliedLists.{AreCounts, shard_views};
 ghost use Rattle.ds_base.specs.EntityOrder.{sorted_by_key};
 ghost use Rattle.ds_protocol.specs.Finishing.{AreByKey};
@@ -21,50 +20,35 @@ use crate::session::Session;
 use crate::state::State;
 use ds_base::{Counts, Entity, Key, NoMemory, Seen};
 use ds_plain::answer_of;
-use ds_protocol::{Ready, Search, finish, group_of, prepare, search_of};
+use ds_protocol::{Ready, Search, finish, group_of, prepare};
 use ds_reply::Body;
-use ds_request::Call;
 use std::alloc::Global;
 
 impl State {
-    /// What a query or a statement finds is told. Any other call is none, and is told want of memory.
-    pub fn plan_search(&mut self, alloc: Global, session: &Session, client: u32, call: Call) -> Plan
-        requires lawful { IsLawfulCall call }
-        requires seen { IsSession self.old session.now }
-        ensures plan { IsPlan self.new session.now client call result.body result.effect }
-        ensures store { self.new.store ≡ self.old.store }
-        ensures counts { AreUpTo self.old.applied.counts self.new.applied.counts }
-    {
-        match search_of(alloc, call) {
-            Some(Ok(search)) => self.plan_found(alloc, session, client, search),
-            Some(Err(body)) => Plan::refused(body),
-            None => Plan::no_memory(),
-        }
-    }
-
     /// What a search finds is told, unless it is refused: by its form, its cursors, or for want of an index; then by its group.
-    fn plan_found(&mut self, alloc: Global, session: &Session, client: u32, search: Search) -> Plan
-        requires lawful { IsLawfulSearch search }
+    pub(crate) fn plan_found(
+        &mut self,
+        alloc: Global,
+        session: &Session,
+        client: u32,
+        search: &Search,
+    ) -> Plan
+        requires lawful { IsLawfulSearch search.now }
         requires seen { IsSession self.old session.now }
-        ensures plan { (call : Call) → IsSearchOf call search → IsPlan self.new session.now client call result.body result.effect }
+        ensures plan { (call : Call) → IsSearchOf call search.now → IsPlan self.new session.now client call result.body result.effect }
         ensures store { self.new.store ≡ self.old.store }
         ensures counts { AreUpTo self.old.applied.counts self.new.applied.counts }
     {
-        let ready = match prepare(alloc, &self.defs, session.in_transaction(), &search) {
+        let ready = match prepare(alloc, &self.defs, session.in_transaction(), search) {
             Ok(ready) => ready,
             Err(body) => {
-                give_up(search);
                 return Plan::refused(body);
             }
         };
-        match group_of(alloc, &search) {
-            Ok(Some(group)) => self.plan_in_group(alloc, session, client, search, ready, group),
-            Ok(None) => self.plan_in_all(alloc, session, client, search, ready),
-            Err(_) => {
-                give_up(search);
-                forget(ready);
-                Plan::no_memory()
-            }
+        match group_of(alloc, search) {
+            Ok(Some(group)) => self.plan_in_group(alloc, session, client, search, &ready, group),
+            Ok(None) => self.plan_in_all(alloc, session, client, search, &ready),
+            Err(_) => { Plan::no_memory() }
         }
     }
 
@@ -74,30 +58,24 @@ impl State {
         alloc: Global,
         session: &Session,
         client: u32,
-        search: Search,
-        ready: Ready,
+        search: &Search,
+        ready: &Ready,
         group: Key,
     ) -> Plan
-        requires prepared { IsPrepared self.old session.now search ready }
-        requires group { Some group ≡ option_map root_of search.query.ancestor }
+        requires prepared { IsPrepared self.old session.now search.now ready.now }
+        requires group { Some group ≡ option_map root_of search.now.query.ancestor }
         requires seen { IsSession self.old session.now }
-        ensures plan { (call : Call) → IsSearchOf call search → IsPlan self.new session.now client call result.body result.effect }
+        ensures plan { (call : Call) → IsSearchOf call search.now → IsPlan self.new session.now client call result.body result.effect }
         ensures store { self.new.store ≡ self.old.store }
         ensures counts { AreUpTo self.old.applied.counts self.new.applied.counts }
     {
         if let Some(body) = session.group_refusal(alloc, Some(&group)) {
-            give_up(search);
-            forget(ready);
             return Plan::refused(body);
         }
         let place = self.stands_at(session, &group, None);
         match self.reach(alloc, group, place) {
             Ok(read) => self.find_in_group(alloc, session, client, search, ready, read),
-            Err(_) => {
-                give_up(search);
-                forget(ready);
-                Plan::no_memory()
-            }
+            Err(_) => { Plan::no_memory() }
         }
     }
 
@@ -107,38 +85,30 @@ impl State {
         alloc: Global,
         session: &Session,
         client: u32,
-        search: Search,
-        ready: Ready,
+        search: &Search,
+        ready: &Ready,
         read: GroupRead,
     ) -> Plan
-        requires prepared { IsPrepared self.now session.now search ready }
-        requires reached { IsGroupSearch self.now session.now search read }
-        ensures plan { (call : Call) → IsSearchOf call search → IsPlan self.now session.now client call result.body result.effect }
+        requires prepared { IsPrepared self.now session.now search.now ready.now }
+        requires reached { IsGroupSearch self.now session.now search.now read }
+        ensures plan { (call : Call) → IsSearchOf call search.now → IsPlan self.now session.now client call result.body result.effect }
         ensures told { ToldAtPlace self.now session.now read.place result.body result.effect }
     {
         let Ok(visible) = self.applied.visible(alloc, read.shard, read.entries) else {
-            give_up(search);
-            forget(ready);
             return Plan::no_memory();
         };
         let Ok(entities) = visible.entities(alloc) else {
-            give_up(search);
-            forget(ready);
             return Plan::no_memory();
         };
         let seen = Seen::Place(read.place);
-        match find(alloc, search, &ready, entities.as_slice(), seen) {
+        match find(alloc, search, ready, entities.as_slice(), seen) {
             Ok(body) => {
-                forget(ready);
                 Plan {
                     body,
                     effect: Effect::ReadGroup(read),
                 }
             }
-            Err(_) => {
-                forget(ready);
-                Plan::no_memory()
-            }
+            Err(_) => { Plan::no_memory() }
         }
     }
 
@@ -148,23 +118,19 @@ impl State {
         alloc: Global,
         session: &Session,
         client: u32,
-        search: Search,
-        ready: Ready,
+        search: &Search,
+        ready: &Ready,
     ) -> Plan
-        requires prepared { IsPrepared self.old session.now search ready }
-        requires group { search.query.ancestor ≡ None }
+        requires prepared { IsPrepared self.old session.now search.now ready.now }
+        requires group { search.now.query.ancestor ≡ None }
         requires seen { IsSession self.old session.now }
-        ensures plan { (call : Call) → IsSearchOf call search → IsPlan self.new session.now client call result.body result.effect }
+        ensures plan { (call : Call) → IsSearchOf call search.now → IsPlan self.new session.now client call result.body result.effect }
         ensures store { self.new.store ≡ self.old.store }
         ensures counts { AreUpTo self.old.applied.counts self.new.applied.counts }
     {
         match self.pull(alloc) {
             Ok(()) => self.find_in_all(alloc, session, client, search, ready),
-            Err(_) => {
-                give_up(search);
-                forget(ready);
-                Plan::no_memory()
-            }
+            Err(_) => { Plan::no_memory() }
         }
     }
 
@@ -174,18 +140,16 @@ impl State {
         alloc: Global,
         session: &Session,
         client: u32,
-        search: Search,
-        ready: Ready,
+        search: &Search,
+        ready: &Ready,
     ) -> Plan
-        requires prepared { IsPrepared self.now session.now search ready }
-        requires group { search.query.ancestor ≡ None }
+        requires prepared { IsPrepared self.now session.now search.now ready.now }
+        requires group { search.now.query.ancestor ≡ None }
         requires seen { IsSession self.now session.now }
         requires pulled { IsPulled self.now }
-        ensures { (call : Call) → IsSearchOf call search → IsPlan self.now session.now client call result.body result.effect }
+        ensures { (call : Call) → IsSearchOf call search.now → IsPlan self.now session.now client call result.body result.effect }
     {
         let Ok(counts) = self.applied.counts(alloc) else {
-            give_up(search);
-            forget(ready);
             return Plan::no_memory();
         };
         self.find_in_all_at(alloc, session, client, search, ready, counts)
@@ -195,27 +159,25 @@ impl State {
     pub(crate) fn find_at_counts(
         &self,
         alloc: Global,
-        search: Search,
+        search: &Search,
         ready: &Ready,
         counts: Counts,
     ) -> Result<Body, NoMemory>
         requires lawful { IsLawfulNormal ready.now.normal }
         requires counts { AreCounts self.now.applied.lists counts }
-        ensures found { IfOk result (λ b. b ≡ told_over search ready.now.normal ready.now.window
+        ensures found { IfOk result (λ b. b ≡ told_over search.now ready.now.normal ready.now.window
             (sorted_by_key (shard_views self.now.applied.lists counts)) (Seen.Counts counts)) }
         ensures quiet { IfOk result IsQuiet }
     {
         let visible = match self.applied.all_visible(alloc, counts.as_slice()) {
             Ok(visible) => visible,
             Err(error) => {
-                give_up(search);
                 return Err(error);
             }
         };
         let entities = match visible.entities(alloc) {
             Ok(entities) => entities,
             Err(error) => {
-                give_up(search);
                 return Err(error);
             }
         };
@@ -229,23 +191,17 @@ impl State {
     }
 }
 
-/// The search is dropped. It owns much, so that is shown here once, and not in each function that gives a search up.
-pub(crate) fn give_up(_search: Search) {}
-
-/// What was prepared of a search is dropped, which is shown here once.
-pub(crate) fn forget(_ready: Ready) {}
-
 /// What the reply says of the results of a prepared search over entities, which stand by key. A refusal is want of memory.
 fn find(
     alloc: Global,
-    search: Search,
+    search: &Search,
     ready: &Ready,
     entities: &[&Entity],
     seen: Seen,
 ) -> Result<Body, NoMemory>
     requires lawful { IsLawfulNormal ready.now.normal }
     requires by_key { AreByKey (map (λ e. e.now) entities.now) }
-    ensures found { IfOk result (λ b. b ≡ told_over search ready.now.normal ready.now.window (map (λ e. e.now) entities.now) seen) }
+    ensures found { IfOk result (λ b. b ≡ told_over search.now ready.now.normal ready.now.window (map (λ e. e.now) entities.now) seen) }
     ensures quiet { IfOk result IsQuiet }
 {
     let page = answer_of(alloc, entities, &ready.normal, &ready.window)?;

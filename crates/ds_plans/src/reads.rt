@@ -4,7 +4,6 @@ ghost use Rattle.ds_request.specs.declared.call.Call.{Call};
 ghost use Rattle.ds_model.specs.Groups.{ReadsAt, group_refusal};
 ghost use Rattle.ds_base.specs.Keys.{root_of};
 ghost use Rattle.ds_plans.specs.Answered.{IsPlan};
-ghost use Rattle.std.specs.Option.{option_copied};
 ghost use Rattle.ds_model.specs.Answers.{AppliedCount};
 ghost use Rattle.ds_model.specs.Sessions.{count_of, list_of};
 ghost use Rattle.ds_plans.specs.Reads.{AreAllApplied, AreSeen, IsReached, IsPulled, IsSameButCounts};
@@ -14,7 +13,7 @@ ghost use Rattle.ds_plans.specs.Told.{ToldAtPlace};
 use crate::effect::{CountSeen, CountsSeen, Effect, GroupRead, Plan};
 use crate::session::Session;
 use crate::state::State;
-use ds_base::{Entity, Key, NoMemory, TryCopy};
+use ds_base::{Key, NoMemory, copy_of};
 use ds_log::shard_of;
 use ds_reply::Body;
 use std::alloc::Global;
@@ -79,7 +78,7 @@ impl State {
         let Ok(visible) = self.applied.visible(alloc, read.shard, read.entries) else {
             return Plan::no_memory();
         };
-        let Ok(entity) = copy_found(alloc, visible.get(key)) else {
+        let Ok(entity) = copy_of(alloc, visible.get(key)) else {
             return Plan::no_memory();
         };
         Plan {
@@ -265,15 +264,5 @@ impl State {
                 commit: self.applied.last_commit(shard, count),
             }),
         }
-    }
-}
-
-/// A copy of the entity, if there is one. A refusal is want of memory.
-fn copy_found(alloc: Global, found: Option<&Entity>) -> Result<Option<Entity>, NoMemory>
-    ensures { IfOk result (λ entity. entity ≡ option_copied found.entry) }
-{
-    match found {
-        Some(entity) => Ok(Some(entity.copy(alloc)?)),
-        None => Ok(None),
     }
 }

@@ -69,7 +69,10 @@ impl State {
         ensures first { IfSome result (λ first. first ≡ self.old.store.next) }
         ensures drawn_id { IfSome result (λ first. first_drawn_id ≤ first) }
         ensures left { IfSome result (λ first. first + count ≤ greatest_id) }
-        ensures drawn { IfSome result (λ first. self.new ≡ record self.old { store = record self.old.store { next = self.old.store.next + count } }) }
+        ensures drawn { IfSome result (λ first. self.new ≡ record self.old {
+          store =
+              record self.old.store { next = self.old.store.next + count };
+        }) }
         ensures none { result ≡ None → self.new ≡ self.old }
     {
         // for the proof alone: it tells what the counter is at least

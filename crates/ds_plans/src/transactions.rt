@@ -1,20 +1,20 @@
 //! Transactions begin and end, and ids are drawn.
 ghost use Rattle.std.specs.Prelude.{◌≡◌, ◌≤◌, Some, IfOk};
 ghost use Rattle.ds_log.specs.Conflicts.{conflict_of};
-ghost use Rattle.ds_model.specs.Answers.{commit_of};
 ghost use Rattle.ds_request.specs.declared.call.Call.{Call};
 ghost use Rattle.ds_plans.specs.Answered.{IsPlan};
 ghost use Rattle.ds_plans.specs.States.{IsSession};
 ghost use Rattle.ds_plans.specs.Told.{ToldAlways, ToldAtCommit};
-ghost use Rattle.ds_plans.specs.Transactions.{HasTouched, transaction_of};
+ghost use Rattle.ds_protocol.specs.Transactions.{HasTouched, transaction_of};
 
 use crate::effect::{Effect, Plan};
 use crate::session::Session;
 use crate::state::State;
+use ds_base::TryCopy;
 use ds_base::limits::MAX_ID;
-use ds_base::{NoMemory, TryCopy};
 use ds_journal::Draft;
 use ds_log::Conflict;
+use ds_protocol::draft_of_transaction;
 use ds_reply::Body;
 use ds_txn::Txn;
 use std::alloc::Global;
@@ -85,7 +85,7 @@ impl State {
         ensures plan { IsPlan self.now session.now client Call.Commit result.body result.effect }
         ensures told { ToldAtCommit self.now session.now result.body result.effect }
     {
-        let Ok(draft) = draft_of(alloc, client, txn) else {
+        let Ok(draft) = draft_of_transaction(alloc, client, txn) else {
             return Plan::no_memory();
         };
         match self.book.check(&draft) {
@@ -131,12 +131,4 @@ impl State {
             Err(_) => Plan::no_memory(),
         }
     }
-}
-
-/// The commit that the transaction asks for. A refusal is want of memory.
-fn draft_of(alloc: Global, client: u32, txn: &Txn) -> Result<Draft, NoMemory>
-    ensures { IfOk result (λ d. d ≡ commit_of client (transaction_of txn.now)) }
-{
-    let parts = txn.parts(alloc)?;
-    Draft::make(alloc, client, parts.touched, parts.writes)
 }

@@ -1,5 +1,8 @@
 pub mod Ends
 pub mod Halving
-pub mod NamedColumns
+pub mod Meetings
+pub mod Plans
+pub mod PutRefusals
+pub mod Raises
 pub mod Refusals
 pub mod SearchReplies

@@ -102,7 +102,8 @@ pub refused_form : (definitions : List IndexDef) (inside : Bool) (search : Searc
     → ((s : Session) → IsInside inside s → form_refusal s search.query ≡ Some b) → IsRefused definitions inside search b
 refused_form definitions inside search b form = record {
   places = record { start = Nothing; end = Nothing };
-  read = λ s i. subst (λ o. IfUnrefused o (PlacesRead (normal_form search.query).branches search (record { start = Nothing; end = Nothing })))
+  read = λ s i. subst (λ o. IfUnrefused o (PlacesRead (normal_form search.query).branches search
+      (record { start = Nothing; end = Nothing })))
       (sym (form s i)) tt;
   told = λ s i. ap (λ o. first_refusal (o ∷ None ∷ None ∷ missing_refusal definitions (normal_form search.query).branches
       ∷ ancestor_group_refusal s.transaction search.query.ancestor ∷ [])) (form s i);

@@ -33,7 +33,8 @@ pub finds : (r : Search) (n : Normal) (w : Window) (places : Places) (es : List 
     → results ≡ items_of n.merged r.query.select es (map row_parts rows)
     → Finds (search_parts r) places es r.query.select results (cursor_of r.cursor n.branches next)
 finds r n w places es results rows next normal window given goes_on told =
-    subst (λ (m : Normal). Finds (search_parts r) places es r.query.select results (cursor_of r.cursor m.branches next)) (sym normal) (record {
+    subst (λ (m : Normal). Finds (search_parts r) places es r.query.select results (cursor_of r.cursor m.branches next)) (sym normal)
+    (record {
       select = refl;
       exact =
           told ∙ ap (items_of n.merged r.query.select es) given
@@ -50,12 +51,13 @@ pub search_answers : (w : World) (s : Session) (c : Call) (r : Search) (places :
     → FoundOver w s (search_parts r) places r.query.ancestor selected results seen told after
     → SearchAnswers w s c (search_parts r) places (found r.statement selected results seen told) after
 search_answers w s c r places selected results seen told after is over =
-    subst (λ b. SearchAnswers w s c (search_parts r) places (found b selected results seen told) after) (sym is.written) (by c is.exact) where
-      by : (c : Call) → search_of c ≡ Some (Ok (search_parts r))
-          → SearchAnswers w s c (search_parts r) places (found (is_statement c) selected results seen told) after
-      by (call.Query namespace kind ancestor filters orders select offset limit start end cursor) e = over
-      by (call.Gql namespace text args names start end cursor) e = over
-      by _ e = cc
+    subst (λ b. SearchAnswers w s c (search_parts r) places (found b selected results seen told) after) (sym is.written) (by c is.exact)
+  where
+    by : (c : Call) → search_of c ≡ Some (Ok (search_parts r))
+        → SearchAnswers w s c (search_parts r) places (found (is_statement c) selected results seen told) after
+    by (call.Query namespace kind ancestor filters orders select offset limit start end cursor) e = over
+    by (call.Gql namespace text args names start end cursor) e = over
+    by _ e = cc
 
 -- ---- the whole reply
 
@@ -87,7 +89,8 @@ pub search_group_refused : (w : World) (s : Session) (c : Call) (search : Asked.
 search_group_refused w s c search inside n window b ready i group = record {
   places = ready.places;
   read = read_unless (form_refusal s search.query) _ ready.read;
-  answered = subst (λ o. UnlessRefused o s b s (SearchAnswers w s c search ready.places b s)) (sym (ready.unrefused s i ∙ group)) (refl, refl);
+  answered = subst (λ o. UnlessRefused o s b s (SearchAnswers w s c search ready.places b s)) (sym (ready.unrefused s i
+      ∙ group)) (refl, refl);
 }
 
 -- a search is refused before its group is looked at

@@ -1,11 +1,11 @@
 -- What a reply tells of a page of rows.
 use Rattle.std.specs.Prelude.{◌≡◌, ℕ, ◌<◌, ◌≤◌, Bool, true, false, List, map, length, slice_index_or, Option}
 use Rattle.std.specs.List.Sorted.{IsSorted}
-use Rattle.std.specs.Ordering.{on, is_lt}
-use Rattle.std.specs.declared.cmp.Ordering.{Ordering}
+use Rattle.std.specs.Ordering.{is_lt}
 use Rattle.ds_base.specs.declared.results.Item.{Item}
 use Rattle.ds_base.specs.declared.results.Seen.{Seen}
 use Rattle.ds_base.specs.Entities.{EntityParts}
+use Rattle.ds_base.specs.EntityOrder.{entity_cmp}
 use Rattle.ds_base.specs.KeyOrder.{key_cmp}
 use Rattle.ds_base.specs.Keys.{KeyParts}
 use Rattle.ds_bytes.specs.Rows.{RowParts}
@@ -22,10 +22,6 @@ use Rattle.ds_protocol.specs.declared.searching.Search.{Search}
 -- a row without its place
 abbrev pub row_parts : Row → RowParts
 row_parts r = record { values = r.values; key = r.key }
-
--- entities compare by their keys
-abbrev pub entity_cmp : EntityParts → EntityParts → Ordering
-entity_cmp = on (λ (e : EntityParts). e.key) key_cmp
 
 -- the entities stand in the order of their keys
 abbrev pub AreByKey : List EntityParts → Type 0

@@ -1,6 +1,11 @@
 pub mod Cursors
 pub mod Finishing
+pub mod Operations
 pub mod Preparing
 pub mod Quiet
+pub mod Refused
 pub mod Saying
 pub mod Searches
+pub mod Transactions
+pub mod Watermarks
+pub mod Writing

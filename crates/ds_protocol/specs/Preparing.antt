@@ -1,13 +1,16 @@
 -- What is promised of a search that is prepared, and of one that is refused.
-use Rattle.std.specs.Prelude.{◌≡◌, Bool, List, Some, None, is_some}
+use Rattle.std.specs.Prelude.{◌≡◌, Bool, List, [], ◌∷◌, Some, None, is_some, IsTrue, ⊤}
 use Rattle.ds_indexdef.specs.declared.IndexDef.{IndexDef}
 use Rattle.ds_query.specs.declared.branch.Branch.{Branch}
 use Rattle.ds_query.specs.declared.branch.Normal.{Normal}
 use Rattle.ds_query.specs.declared.branch.Window.{Window}
 use Rattle.ds_query.specs.Normals.{normal_form}
 use Rattle.ds_cursor.specs.Cursors.{IsPlaceIn}
+use Rattle.ds_planner.specs.declared.planned.ScanPlan.{ScanPlan}
 use Rattle.ds_planner.specs.declared.planning.PlanRefused.{PlanRefused}
 use Rattle.ds_planner.specs.declared.planning.PlanRefused.TheVariants as refused
+use Rattle.ds_planner.specs.Lean.{IsLean}
+use Rattle.ds_planner.specs.Suits.{suits}
 use Rattle.ds_reply.specs.declared.reply.Body.{Body}
 use Rattle.ds_reply.specs.declared.reply.Body.TheVariants as body
 use Rattle.ds_model.specs.Answers.{window_of}
@@ -41,6 +44,19 @@ pub record IsRefused (definitions : List IndexDef) (inside : Bool) (search : Sea
   pub read : (s : Session) → IsInside inside s
       → IfUnrefused (form_refusal s search.query) (PlacesRead (normal_form search.query).branches search places)
   pub told : (s : Session) → IsInside inside s → search_refusal definitions s search places ≡ Some b
+
+-- ---- plans
+
+-- the plan answers the branch, and no scan of it is one too many
+pub record IsPlanFor (definitions : List IndexDef) (q : Branch) (p : ScanPlan) : Type 0 where
+  pub serves : IsTrue (suits q definitions p.scans)
+  pub lean : IsLean q definitions p.scans
+
+-- branch by branch, a plan for it
+abbrev pub ArePlansFor : List IndexDef → List Branch → List ScanPlan → Type 0
+ArePlansFor definitions [] [] = ⊤
+ArePlansFor definitions (q ∷ qs) (p ∷ ps) = IsPlanFor definitions q p × ArePlansFor definitions qs ps
+ArePlansFor definitions _ _ = ⊥
 
 -- ---- the planner's refusals
 

@@ -6,12 +6,12 @@ use Rattle.ds_query.specs.Filters.{has_operands}
 use Rattle.ds_gql.specs.declared.statement.Statement.{Statement}
 use Rattle.ds_request.specs.declared.call.Call.{Call}
 use Rattle.ds_request.specs.declared.call.Call.TheVariants as call
-use Rattle.ds_reply.specs.declared.reply.Body.{Body}
-use Rattle.ds_reply.specs.declared.reply.Body.TheVariants as body
 use Rattle.ds_model.specs.Asked
 use Rattle.ds_model.specs.Asked.{search_of, has_cursors}
+use Rattle.ds_protocol.specs.declared.operations.OperationRefused.{OperationRefused}
+use Rattle.ds_protocol.specs.declared.operations.OperationRefused.TheVariants as refused
 use Rattle.ds_protocol.specs.declared.searching.Search.{Search}
-use Rattle.ds_protocol.specs.Quiet.{IsQuiet}
+use Rattle.ds_protocol.specs.Refused.{operation_body}
 
 -- a search, however it was written
 abbrev pub search_parts : Search → Asked.Search
@@ -38,8 +38,8 @@ pub record IsSearchOf (c : Call) (s : Search) : Type 0 where
   pub written : s.statement ≡ is_statement c
   pub lawful : IsLawfulSearch s
 
--- the call's search, or the reply of one that can't be read; want of memory is free
-abbrev pub SearchRead : Call → Option (Result Search Body) → Type 0
+-- the call's search, or why its statement can't be read; want of memory is free
+abbrev pub SearchRead : Call → Option (Result Search OperationRefused) → Type 0
 SearchRead c None = search_of c ≡ None
 SearchRead c (Some (Ok s)) = IsSearchOf c s
-SearchRead c (Some (Err b)) = ((b ≡ body.NoMemory) ⊎ (search_of c ≡ Some (Err b))) × IsQuiet b
+SearchRead c (Some (Err why)) = (why ≡ refused.NoMemory) ⊎ (search_of c ≡ Some (Err (operation_body why)))

@@ -2,7 +2,6 @@
 ghost use Rattle.std.specs.Prelude.{◌≡◌, ◌++◌, ◌∷◌, [], List, map, IfOk, unwrap_or, Some};
 ghost use Rattle.std.specs.Option.{option_copied};
 ghost use Rattle.ds_base.specs.declared.index_value.IndexValue.TheVariants.{Null};
-ghost use Rattle.ds_base.specs.KeyColumn.{is_key_name};
 ghost use Rattle.ds_model.specs.Results.{items_of, item_of, projected_values, entity_of};
 ghost use Rattle.ds_query.specs.RowValues.{value_named, value_columns};
 ghost use Rattle.ds_protocol.specs.Finishing.{AreByKey, row_parts, found, found_of};
@@ -13,9 +12,9 @@ use crate::finding::entity_of;
 use crate::searching::Search;
 use ds_base::{
     Column, Columns, Entity, IndexValue, IndexValues, Item, Names, NoMemory, Results, Seen,
-    TextString, TryCopy, is_key_name,
+    TextString, TryCopy, copy_of,
 };
-use ds_query::{Normal, Place, Row, RowList, Select};
+use ds_query::{Normal, Place, Row, RowList, Select, value_named};
 use ds_reply::Body;
 use std::alloc::Global;
 
@@ -24,7 +23,7 @@ use std::alloc::Global;
 /// and an entity shares its properties. A refusal is want of memory.
 pub fn finish(
     alloc: Global,
-    search: Search,
+    search: &Search,
     normal: &Normal,
     entities: &[&Entity],
     rows: RowList,
@@ -32,18 +31,14 @@ pub fn finish(
     seen: Seen,
 ) -> Result<Body, NoMemory>
     requires { AreByKey (map (λ e. e.now) entities.now) }
-    ensures found { IfOk result (λ b. b ≡ found_of search normal.now (map (λ e. e.now) entities.now) rows (option_copied next.entry) seen) }
+    ensures found { IfOk result (λ b. b ≡ found_of search.now normal.now (map (λ e. e.now) entities.now) rows (option_copied next.entry)
+        seen) }
     ensures quiet { IfOk result IsQuiet }
 {
-    let Search {
-        statement,
-        query,
-        cursor,
-        ..
-    } = search;
-    let results = items(alloc, &normal.merged, &query.select, entities, rows)?;
-    let cursor = next_cursor(alloc, cursor, &normal.branches, next)?;
-    Ok(found(statement, query.select, results, seen, cursor))
+    let results = items(alloc, &normal.merged, &search.query.select, entities, rows)?;
+    let cursor = next_cursor(alloc, search.cursor, &normal.branches, next)?;
+    let select = search.query.select.copy(alloc)?;
+    Ok(found(search.statement, select, results, seen, cursor))
 }
 
 /// What a statement or a query found.
@@ -104,7 +99,7 @@ fn item_of(
     ensures { IfOk result (λ item. item ≡ item_of columns.now select.now (map (λ e. e.now) entities.now) (row_parts row)) }
 {
     let entity = match select {
-        Select::Entities => shared(alloc, entity_of(entities, &row.key))?,
+        Select::Entities => copy_of(alloc, entity_of(entities, &row.key))?,
         _ => None,
     };
     let projected = match select {
@@ -116,16 +111,6 @@ fn item_of(
         entity,
         projected,
     })
-}
-
-/// An entity that shares the properties.
-fn shared(alloc: Global, entity: Option<&Entity>) -> Result<Option<Entity>, NoMemory>
-    ensures { IfOk result (λ copy. copy ≡ option_copied entity.entry) }
-{
-    match entity {
-        Some(entity) => Ok(Some(entity.copy(alloc)?)),
-        None => Ok(None),
-    }
 }
 
 /// The values in the columns of these names, in their order.
@@ -156,25 +141,4 @@ fn value_of(
         Some(value) => value.copy(alloc),
         None => Ok(IndexValue::Null),
     }
-}
-
-/// The value in the column of this name.
-fn value_named<'a>(
-    name: &TextString,
-    columns: &[Column],
-    values: &'a [IndexValue],
-) -> Option<&'a IndexValue>
-    ensures { option_copied result ≡ value_named name.now (value_columns columns.now) values.now }
-{
-    let mut slot = 0;
-    for column in columns {
-        if is_key_name(&column.name) {
-            continue;
-        }
-        if name.text() == column.name.text() {
-            return values.get(slot);
-        }
-        slot += 1;
-    }
-    None
 }

@@ -1,22 +1,37 @@
-//! What a line asks, and how its reply is written: the protocol's two sides, for any server. It knows no store.
+//! What a line asks, what a request means, and how its reply is written: the protocol's two sides, for any server. It knows no store.
 //!
 //! It stands on `ds_request` and `ds_gql` (how lines and statements are read), on `ds_query`, `ds_cursor` and `ds_planner` (normal forms,
-//! cursors, missing indexes), and on `ds_reply` (replies as text); its contracts are the definitions of `ds_model`. Follow a line: `ask`
-//! gives its request, `search_of` the search of a query or a statement, `prepare` the normal form and the window of a search or the first
-//! refusal; a server then finds rows, `finish` makes the reply's body of them, and `say` writes a reply into room that was taken before.
+//! cursors, plans), on `ds_txn` and `ds_journal` (transactions, and commits before a journal takes them), and on `ds_reply` (replies as
+//! text); its contracts are the definitions of `ds_model`. Follow a line: `ask` gives its request, `operation_of` takes it apart,
+//! `refusal_of` is the first refusal of what is no search, and `prepare` the normal form, the window and the plans of a search or its first
+//! refusal. `OpenTransaction` is a client's transaction and `Watermark` what it has seen, with the rules by which replies raise it. A
+//! server then asks its store; `draft_of_write` and `draft_of_transaction` are the commits that are asked for, `finish` makes the body of a
+//! search's rows, and `say` writes a reply into room that was taken before.
 #![tactic(auto)]
 
 mod asking;
 mod cursors;
+mod drafting;
 mod finding;
 mod finishing;
 mod forms;
+mod ids;
+mod operations;
 mod preparing;
+mod refusing;
 mod saying;
 mod searching;
+mod transaction;
+mod watermark;
 
 pub use asking::{Refused, ask};
+pub use drafting::{draft_of_transaction, draft_of_write};
 pub use finishing::{finish, items};
+pub use ids::{first_unissued, next_above};
+pub use operations::{Operation, OperationRefused, operation_of};
 pub use preparing::{Ready, prepare};
-pub use saying::{make_room, room, say, say_no_memory, write_within};
-pub use searching::{Search, group_of, search_of};
+pub use refusing::refusal_of;
+pub use saying::{make_room, room, say, say_if_room, say_no_memory, write_within};
+pub use searching::{Search, group_of};
+pub use transaction::OpenTransaction;
+pub use watermark::Watermark;

@@ -1,11 +1,12 @@
 //! The normal form and the window of a search, or the first refusal before its group is looked at.
-ghost use Rattle.std.specs.Prelude.{◌≡◌, ◌⊎◌, IfOk, IfErr, OnOk, None, Some, All, IsTrue};
+ghost use Rattle.std.specs.Prelude.{◌≡◌, ◌⊎◌, ◌++◌, ◌∷◌, [], IfOk, IfErr, OnOk, None, Some, All, IsTrue};
 ghost use Rattle.std.specs.List.{list_all};
 ghost use Rattle.ds_base.specs.Keys.{is_namespace};
 ghost use Rattle.ds_query.specs.Filters.{has_operands};
 ghost use Rattle.ds_query.specs.Lawful.{IsLawfulBranch, IsLawfulNormal, SuitsSeveral};
-ghost use Rattle.ds_model.specs.Refusals.{missing_refusal};
-ghost use Rattle.ds_protocol.specs.Preparing.{IsReady, IsRefused, ArePlacesOf, missing_told};
+ghost use Rattle.ds_planner.specs.Missing.{missing_of};
+ghost use Rattle.ds_model.specs.Refusals.{missing_body, missing_refusal};
+ghost use Rattle.ds_protocol.specs.Preparing.{IsReady, IsRefused, IsPlanFor, ArePlacesOf, ArePlansFor, missing_told};
 ghost use Rattle.ds_protocol.specs.Quiet.{IsQuiet};
 ghost use Rattle.ds_protocol.specs.Searches.{IsLawfulSearch, search_parts};
 
@@ -13,7 +14,7 @@ use crate::cursors::window_of;
 use crate::forms::normal_form;
 use crate::searching::Search;
 use ds_indexdef::Defs;
-use ds_planner::{PlanRefused, plan};
+use ds_planner::{PlanRefused, ScanPlan, plan};
 use ds_query::{Branch, Normal, Window};
 use ds_reply::Body;
 use std::alloc::Global;
@@ -25,9 +26,11 @@ pub struct Ready {
     pub normal: Normal,
     /// Which of its results are given. An end at the place before the first row is told as a limit of no results.
     pub window: Window,
+    /// For each branch the index scans that answer it.
+    pub plans: Vec<ScanPlan>,
 }
 
-/// The normal form and the window of a search, where nothing is refused before its group is looked at.
+/// The normal form and the window of a search, and a plan for each branch, where nothing is refused before its group is looked at.
 ///
 /// The refusals, of which the first that holds is answered: a rule that the query breaks, or more than 30 branches (`BadQuery`,
 /// `TooManySubqueries`); in a transaction a query without an ancestor (`NeedAncestor`); the texts of the start and then of the end that are
@@ -42,6 +45,7 @@ pub fn prepare(
     requires { IsLawfulSearch search.now }
     ensures ready { IfOk result (λ r. IsReady defs.now in_transaction (search_parts search.now) r.normal r.window) }
     ensures lawful { IfOk result (λ r. IsLawfulNormal r.normal) }
+    ensures planned { IfOk result (λ r. ArePlansFor defs.now r.normal.branches r.plans.items) }
     ensures places { IfOk result (λ r. All (ArePlacesOf r.window) r.normal.branches) }
     ensures placeless { IfOk result (λ r. SuitsSeveral r.normal.several r.window) }
     ensures refused { IfErr result (λ b. (b ≡ Body.NoMemory) ⊎ IsRefused defs.now in_transaction (search_parts search.now) b) }
@@ -49,24 +53,54 @@ pub fn prepare(
 {
     let normal = normal_form(alloc, in_transaction, &search.query)?;
     let window = window_of(alloc, normal.branches.as_slice(), search)?;
-    test_indexes(alloc, defs, normal.branches.as_slice())?;
-    Ok(Ready { normal, window })
+    let plans = plans_of(alloc, defs, normal.branches.as_slice())?;
+    Ok(Ready {
+        normal,
+        window,
+        plans,
+    })
 }
 
-/// Tests that each branch has an index, or tells what the first without one misses.
-fn test_indexes(alloc: Global, defs: &Defs, branches: &[Branch]) -> Result<(), Body>
+/// A plan for each branch, or what the first without one misses.
+fn plans_of(alloc: Global, defs: &Defs, branches: &[Branch]) -> Result<Vec<ScanPlan>, Body>
     requires { All IsLawfulBranch branches.now }
     ensures ok { OnOk result (missing_refusal defs.now branches.now ≡ None) }
+    ensures planned { IfOk result (λ plans. ArePlansFor defs.now branches.now plans.items) }
     ensures refused { IfErr result (λ b. (b ≡ Body.NoMemory) ⊎ (missing_refusal defs.now branches.now ≡ Some b)) }
     ensures quiet { IfErr result IsQuiet }
 {
+    let mut plans = Vec::new(alloc);
     for branch in branches {
-        match plan(alloc, branch, defs) {
-            Ok(_) => (),
-            Err(refused) => return Err(missing_body(refused)),
-        }
+        let plan = plan_of(alloc, defs, branch)?;
+        put_plan(&mut plans, plan)?;
     }
-    Ok(())
+    Ok(plans)
+}
+
+/// Puts a plan behind the others, or tells that there is no memory.
+fn put_plan(plans: &mut Vec<ScanPlan>, plan: ScanPlan) -> Result<(), Body>
+    ensures ok { OnOk result (plans.new.items ≡ plans.old.items ++ plan ∷ []) }
+    ensures refused { IfErr result (λ b. b ≡ Body.NoMemory) }
+    ensures quiet { IfErr result IsQuiet }
+{
+    match plans.push(plan) {
+        Ok(()) => Ok(()),
+        Err(_) => Err(Body::NoMemory),
+    }
+}
+
+/// A plan for the branch, or what it misses.
+fn plan_of(alloc: Global, defs: &Defs, branch: &Branch) -> Result<ScanPlan, Body>
+    requires { IsLawfulBranch branch.now }
+    ensures ok { OnOk result (missing_of branch.now defs.now ≡ None) }
+    ensures planned { IfOk result (IsPlanFor defs.now branch.now) }
+    ensures refused { IfErr result (λ b. (b ≡ Body.NoMemory) ⊎ (missing_body (missing_of branch.now defs.now) ≡ Some b)) }
+    ensures quiet { IfErr result IsQuiet }
+{
+    match plan(alloc, branch, defs) {
+        Ok(plan) => Ok(plan),
+        Err(refused) => Err(missing_body(refused)),
+    }
 }
 
 /// What the reply says where there is no plan.

@@ -1,5 +1,5 @@
 //! Writing one reply into room that is taken before anything is changed.
-ghost use Rattle.std.specs.Prelude.{◌≡◌, ◌+◌, ◌-◌, ◌^◌, ◌≤◌, ◌++◌, min, length, IsTrue};
+ghost use Rattle.std.specs.Prelude.{◌≡◌, ◌+◌, ◌-◌, ◌^◌, ◌≤◌, ◌++◌, false, min, length, IsTrue};
 ghost use Rattle.ds_reply.specs.Replies.{reply_text};
 ghost use Rattle.ds_protocol.specs.Saying.{Says, no_memory_reply};
 
@@ -51,6 +51,25 @@ pub fn say_no_memory(client: u32, number: u64, keep: usize, out: &mut Buffer) ->
     reply
 }
 
+/// Writes a reply in one pass, and leaves `keep` bytes of room behind it; false, and nothing is written, where there is no memory for that.
+/// It is for what may still be refused, so that the reply's length needn't be known before.
+pub fn say_if_room(reply: &Reply, keep: usize, out: &mut Buffer) -> bool
+    ensures text { IsTrue result → out.new.bytes ≡ out.old.bytes ++ reply_text reply.now }
+    ensures kept { IsTrue result → keep ≤ out.new.spare }
+    ensures same { result ≡ false → out.new.bytes ≡ out.old.bytes }
+    ensures room { result ≡ false → out.old.spare ≤ out.new.spare }
+{
+    let before = out.bytes().len();
+    if write_reply(reply, out).is_err() {
+        return false;
+    }
+    if out.make_room(keep).is_err() {
+        out.truncate(before);
+        return false;
+    }
+    true
+}
+
 /// Writes a reply to a line, or where there is no room for it that there was no memory; `keep` bytes of room are left.
 pub fn say(client: u32, number: u64, body: Body, keep: usize, out: &mut Buffer) -> Reply
     requires { keep + length (reply_text (no_memory_reply client number)) ≤ out.old.spare }
@@ -63,10 +82,9 @@ pub fn say(client: u32, number: u64, body: Body, keep: usize, out: &mut Buffer) 
         line: number,
         body,
     };
-    if !make_room(&reply, keep, out) {
+    if !say_if_room(&reply, keep, out) {
         return say_no_memory(client, number, keep, out);
     }
-    write_within(&reply, out);
     reply
 }
 

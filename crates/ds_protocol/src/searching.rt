@@ -4,14 +4,13 @@ ghost use Rattle.ds_base.specs.Keys.{root_of};
 ghost use Rattle.ds_gql.specs.Statements.{statement_of};
 ghost use Rattle.ds_request.specs.Lawful.{IsLawfulCall};
 ghost use Rattle.ds_model.specs.Asked.{statement_search};
-ghost use Rattle.ds_protocol.specs.Quiet.{IsQuiet};
 ghost use Rattle.ds_protocol.specs.Searches.{search_parts, SearchRead, has_operands_of};
 
+use crate::operations::OperationRefused;
 use ds_base::{Key, NoMemory, TextString};
 use ds_gql::laws::statements_have_values;
 use ds_gql::{Bindings, GqlRefused, Statement, parse};
 use ds_query::Query;
-use ds_reply::Body;
 use ds_request::Call;
 use std::alloc::Global;
 
@@ -37,7 +36,7 @@ pub struct Search {
 /// What a query or a statement searches for; `None` for every other call. The parts of a query are moved; a statement is read, in the
 /// namespace of its request, and its cursors work as a query's. `BadGql` comes exactly where its text is no statement; `NoMemory` is want
 /// of memory alone.
-pub fn search_of(alloc: Global, call: Call) -> Option<Result<Search, Body>>
+pub(crate) fn search_of(alloc: Global, call: Call) -> Option<Result<Search, OperationRefused>>
     requires { IsLawfulCall call }
     ensures { SearchRead call result }
 {
@@ -86,26 +85,30 @@ pub fn search_of(alloc: Global, call: Call) -> Option<Result<Search, Body>>
             let bindings = Bindings { args, names };
             Some(match read(alloc, &text, &bindings) {
                 Ok(statement) => Ok(search_in(namespace, statement, start, end, cursor)),
-                Err(body) => Err(body),
+                Err(refused) => Err(refused),
             })
         }
         _ => None,
     }
 }
 
-/// The statement that a text is, or what the reply says.
-fn read(alloc: Global, text: &TextString, bindings: &Bindings) -> Result<Statement, Body>
+/// The statement that a text is, or where it is none.
+fn read(
+    alloc: Global,
+    text: &TextString,
+    bindings: &Bindings,
+) -> Result<Statement, OperationRefused>
     ensures ok { IfOk result (λ s. statement_of text.now bindings.now ≡ Ok s) }
     ensures lawful { IfOk result has_operands_of }
-    ensures refused { IfErr result (λ b. (b ≡ Body.NoMemory) ⊎ ((place : ℕ) × (statement_of text.now bindings.now ≡ Err place) × (b ≡ Body.BadGql place))) }
-    ensures quiet { IfErr result IsQuiet }
+    ensures refused { IfErr result (λ e. (e ≡ OperationRefused.NoMemory)
+        ⊎ ((place : ℕ) × (statement_of text.now bindings.now ≡ Err place) × (e ≡ OperationRefused.BadGql place))) }
 {
     // A law, which does nothing: the proof alone needs it.
     statements_have_values();
     match parse(alloc, text.text(), bindings) {
         Ok(statement) => Ok(statement),
-        Err(GqlRefused::At(at)) => Err(Body::BadGql { at }),
-        Err(GqlRefused::NoMemory) => Err(Body::NoMemory),
+        Err(GqlRefused::At(place)) => Err(OperationRefused::BadGql { place }),
+        Err(GqlRefused::NoMemory) => Err(OperationRefused::NoMemory),
     }
 }
 

@@ -54,7 +54,8 @@ room_of_all = sum_by room_of
 -- there was no memory, and changes none
 abbrev pub IsReply : World → List Session → ℕ → Result Request Body → Body → List Session → Type 0
 IsReply w sessions client (Ok r) said after =
-    (s : Session) × (t : Session) × (slice_get sessions client ≡ Some s) × (after ≡ slice_set sessions client t) × BodyAnswers w s (Ok r) said t
+    (s : Session) × (t : Session) × (slice_get sessions client ≡ Some s) × (after ≡ slice_set sessions client t)
+    × BodyAnswers w s (Ok r) said t
 IsReply w sessions client (Err b) said after = ((said ≡ b) ⊎ (said ≡ body.NoMemory)) × (after ≡ sessions)
 
 pub record Turn (w : World) (sessions : List Session) (a : Asked) (reply : Reply) (after : List Session) : Type 0 where
@@ -101,7 +102,8 @@ pub record RanRound (old new : CoreParts) (round : List NumberedLine) (text : Li
   pub shards : new.shards ≡ old.shards
   pub clients : length new.sessions ≡ greatest_client + 1
   pub steps : (window : Option ℕ) (more : List Commit)
-      → RoundSteps (asked old.shards) (world_of old.definitions old.shards window (new.journal ++ more)) round 0 (met old.sessions) replies new.sessions
+      → RoundSteps (asked old.shards) (world_of old.definitions old.shards window (new.journal ++ more)) round 0 (met old.sessions)
+      replies new.sessions
   pub printed : text ≡ replies_text replies
   pub journal : new.journal ≡ old.journal ++ added
   pub acknowledges : flat_map acknowledged replies ≡ range_with_len (length old.journal + 1) (length added)
@@ -117,18 +119,21 @@ first_core definitions shards =
     record { definitions = definitions; shards = shards; journal = []; next = first_drawn_id; sessions = first_sessions shards }
 
 -- the rounds were run, one after another, from the first sessions on: the same of all replies so far
-pub record HasRun (definitions : List IndexDef) (shards : ℕ) (rounds : List (List NumberedLine)) (now : CoreParts) (text : List ℕ) : Type 0 where
+pub record HasRun (definitions : List IndexDef) (shards : ℕ) (rounds : List (List NumberedLine)) (now : CoreParts) (text : List ℕ)
+    : Type 0 where
   pub replies : List Reply
   pub kept_definitions : now.definitions ≡ definitions
   pub kept_shards : now.shards ≡ shards
   pub clients : length now.sessions ≡ greatest_client + 1
   pub steps : (window : Option ℕ) (more : List Commit)
-      → RoundsSteps (asked shards) (world_of definitions shards window (now.journal ++ more)) rounds (first_sessions shards) replies now.sessions
+      → RoundsSteps (asked shards) (world_of definitions shards window (now.journal ++ more)) rounds (first_sessions shards)
+      replies now.sessions
   pub printed : text ≡ replies_text replies
   pub acknowledges : flat_map acknowledged replies ≡ range_with_len 1 (length now.journal)
   pub counted : length replies ≡ length (answered_lines (asked shards) rounds)
   pub rises : first_drawn_id ≤ now.next
-  pub draws : drawn_in (asked shards) (answered_lines (asked shards) rounds) replies ≡ range_with_len first_drawn_id (now.next - first_drawn_id)
+  pub draws : drawn_in (asked shards) (answered_lines (asked shards) rounds) replies
+      ≡ range_with_len first_drawn_id (now.next - first_drawn_id)
   pub accepts : All (λ id. id < now.next) (flat_map accepted replies)
   pub prints : All (λ next. next ≤ now.next) (flat_map printed_next replies)
 
@@ -152,7 +157,8 @@ status_of refused.InputLimit = status.InputLimit
 status_of refused.NoMemory = status.NoMemory
 
 -- what a step of the server leaves: the run goes on, or has ended
-abbrev pub Leaves : List (List ℕ) → (List ℕ → Option (List ℕ)) → Step → Option (List ℕ) → Option (List ℕ) → Option (List ℕ) → Option (List ℕ) → ReaderParts → CoreParts → List ℕ → Type 0
+abbrev pub Leaves : List (List ℕ) → (List ℕ → Option (List ℕ)) → Step → Option (List ℕ) → Option (List ℕ) → Option (List ℕ)
+    → Option (List ℕ) → ReaderParts → CoreParts → List ℕ → Type 0
 Leaves words content step.Served left_first left held_first held reader now text =
     HasServed words content left_first left held_first held reader now
 Leaves words content step.Done left_first left held_first held reader now text =

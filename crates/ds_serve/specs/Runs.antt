@@ -30,7 +30,8 @@ WereRun status.ReadFault ended read rounds = (length read < most_input_bytes) ×
 WereRun status.InputLimit ended read rounds = (length read ≡ most_input_bytes) × (rounds ≡ ended_rounds read)
 WereRun status.WriteFault ended read rounds = (behind : List (List NumberedLine)) × AreFirst rounds behind (rounds_in ended 1 read)
 WereRun status.NoMemory ended read rounds =
-    (behind : List (List NumberedLine)) × AreFirst rounds behind (rounds_in ended 1 read) × ((0 < length behind) ⊎ ((ended ≡ false) × (length read < most_input_bytes)))
+    (behind : List (List NumberedLine)) × AreFirst rounds behind (rounds_in ended 1 read)
+    × ((0 < length behind) ⊎ ((ended ≡ false) × (length read < most_input_bytes)))
 WereRun _ ended read rounds = (read ≡ []) × (rounds ≡ [])
 
 -- of a text a sink took the first bytes, and these are the rest: nothing is lost and nothing doubled; of a sink that doesn't tell

@@ -24,9 +24,11 @@ closed-more (y ∷ ys) (suc i) x is below none all = All-cons IsClosed y (take (
 pub loop-open-preserved : goal.loop-open-preserved
 loop-open-preserved c =
     let none : is_some c.open-item.result ≡ false = search rules in
-    subst (λ n. All IsClosed (take n c.args.opens.now)) (let more : suc c.loop-open.open-index ≡ c.loop-open.open-index + 1 = omega arith in more)
+    subst (λ n. All IsClosed (take n c.args.opens.now)) (let more : suc c.loop-open.open-index ≡ c.loop-open.open-index + 1 =
+    omega arith in more)
     (closed-more c.args.opens.now c.loop-open.open-index c.open-item.result c.open-item.is (omega (arith, c.loop-open-test.true)) none
     c.loop-open.invariant)
 
 pub returns : goal.returns
-returns c = λ _. subst (All IsClosed) (take_all c.loop-open.open-index c.args.opens.now (omega (arith, c.loop-open-test.false))) c.loop-open.invariant
+returns c = λ _. subst (All IsClosed) (take_all c.loop-open.open-index c.args.opens.now (omega (arith, c.loop-open-test.false)))
+    c.loop-open.invariant

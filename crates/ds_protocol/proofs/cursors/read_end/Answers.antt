@@ -9,7 +9,8 @@ use Rattle.ds_protocol.proofs.cursors.read_end.Goals as goal
 pub returns-in-Err-BadCursor-clause-refused : goal.returns-in-Err-BadCursor-clause-refused
 returns-in-Err-BadCursor-clause-refused c =
     let is : CursorIs c.args.branch.now c.text.result.now (Err cursor.BadCursor) =
-    subst (λ (e : CursorRefused). UnlessNoMemory cursor_fault (CursorIs c.args.branch.now c.text.result.now) (Err e)) c.in-Err-BadCursor.field-0-is
+    subst (λ (e : CursorRefused). UnlessNoMemory cursor_fault (CursorIs c.args.branch.now c.text.result.now) (Err e))
+    c.in-Err-BadCursor.field-0-is
     c.in-Err-BadCursor.ensures in
     inr (record {
       end = Refused cursor.BadCursor;
@@ -20,7 +21,8 @@ returns-in-Err-BadCursor-clause-refused c =
 pub returns-in-Err-CursorMismatch-clause-refused : goal.returns-in-Err-CursorMismatch-clause-refused
 returns-in-Err-CursorMismatch-clause-refused c =
     let is : CursorIs c.args.branch.now c.text.result.now (Err cursor.CursorMismatch) =
-    subst (λ (e : CursorRefused). UnlessNoMemory cursor_fault (CursorIs c.args.branch.now c.text.result.now) (Err e)) c.in-Err-CursorMismatch.field-0-is
+    subst (λ (e : CursorRefused). UnlessNoMemory cursor_fault (CursorIs c.args.branch.now c.text.result.now) (Err e))
+    c.in-Err-CursorMismatch.field-0-is
     c.in-Err-CursorMismatch.ensures in
     inr (record {
       end = Refused cursor.CursorMismatch;

@@ -13,7 +13,8 @@ returns-in_err-start-clause-refused c =
     let P : Body → Type 0 = λ b. (b ≡ body.NoMemory) ⊎ WindowRefused (c.args.branch.now ∷ []) (search_parts c.args.search.now) b in
     let b = c.in_err-start.field-0.0 in
     let r : c.from_residual.result ≡ Err b = search rules in
-    let given : (b ≡ body.NoMemory) ⊎ IsEndRefused c.args.branch.now field.Start c.args.search.now.start b = c.in_err-start.ensures.refused in
+    let given : (b ≡ body.NoMemory) ⊎ IsEndRefused c.args.branch.now field.Start c.args.search.now.start b =
+    c.in_err-start.ensures.refused in
     subst (λ x. IfErr x P) (sym r) (elim given [
       | inl e ↦ inl e
       | inr refused ↦ inr (start_refused c.args.branch.now (search_parts c.args.search.now) b refused)
@@ -27,7 +28,8 @@ returns-in_err-end-clause-refused c =
     let given : (b ≡ body.NoMemory) ⊎ IsEndRefused c.args.branch.now field.End c.args.search.now.end b = c.in_err-end.ensures.refused in
     subst (λ x. IfErr x P) (sym r) (elim given [
       | inl e ↦ inl e
-      | inr refused ↦ inr (end_refused c.args.branch.now (search_parts c.args.search.now) c.in_ok-start.start b c.in_ok-start.ensures.ok.read refused)
+      | inr refused ↦ inr (end_refused c.args.branch.now (search_parts c.args.search.now) c.in_ok-start.start b
+          c.in_ok-start.ensures.ok.read refused)
     ])
 
 pub returns-clause-ok : goal.returns-clause-ok

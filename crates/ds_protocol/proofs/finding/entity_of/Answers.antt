@@ -20,7 +20,8 @@ returns-then-eq c =
     let same : same_key (get_or es place e).key k ≡ true =
     ap (λ (x : EntityParts). same_key x.key k) here ∙ ap (λ (x : KeyParts). same_key x k) (sym c.key.ensures.value)
     ∙ sym c.eq.ensures ∙ c.if-eq.true in
-    sym (entity_at es k place e c.place_of-place.ensures (omega (arith, all, c.if-place-entities.true)) same ∙ ap (λ (x : EntityParts). Some x) here)
+    sym (entity_at es k place e c.place_of-place.ensures (omega (arith, all, c.if-place-entities.true)) same
+    ∙ ap (λ (x : EntityParts). Some x) here)
 
 pub returns : goal.returns
 returns c =

@@ -1,8 +1,5 @@
 use Rattle.std.proofs.Common.{◌<◌, arith, length, subst, sym}
-use Rattle.std.specs.Prelude.{IfSome}
-use Rattle.ds_plans.specs.declared.effect.Plan.{Plan}
-use Rattle.ds_core.specs.Machines.{MachineParts, IsDueTo}
-use Rattle.ds_core.specs.Witnesses.{IsToldTo}
+use Rattle.ds_core.specs.Machines.{MachineParts}
 use Rattle.ds_core.proofs.Clients.{client-open}
 use Rattle.ds_core.proofs.GatheredSteps.{called-due, called-own, called-still}
 use Rattle.ds_core.proofs.Turns.{turn-silent}
@@ -38,9 +35,7 @@ pub say-requires-clause-due : goal.say-requires-clause-due
 say-requires-clause-due c =
     called-due _ _ c.self.view_is c.requires.legal c.args.client c.requires.client c.plan_open.new.state
     c.index-session.result.now c.index-open.result.now c.in-Some.plan.body c.in-Some.plan.effect c.index-session.ensures
-    c.index-open.ensures
-    (subst (λ o. IfSome o (λ (p : Plan). IsDueTo c.plan_open.new.state c.index-session.result.now c.args.client c.index-open.result.now
-    p.body p.effect)) c.in-Some.is c.in_ok-plan.ensures.plan)
+    c.index-open.ensures c.in-Some.ensures.plan
 
 pub returns-in-None-clause-legal : goal.returns-in-None-clause-legal
 returns-in-None-clause-legal c =
@@ -62,9 +57,7 @@ returns-in-Some-clause-timed c =
     (c.say.ensures.timed c.args.step
     (timed-told _ _ c.self.view_is c.requires.legal c.args.client c.requires.client c.plan_open.new.state
     c.index-session.result.now c.index-open.result.now c.args.step c.in-Some.plan.body c.in-Some.plan.effect c.index-session.ensures
-    c.index-open.ensures
-    (subst (λ o. IfSome o (λ (p : Plan). IsToldTo c.plan_open.new.state c.index-session.result.now c.args.step c.index-open.result.now
-    p.body p.effect)) c.in-Some.is c.in_ok-plan.ensures.told)))
+    c.index-open.ensures c.in-Some.ensures.told))
 
 pub returns-in-None-clause-timed : goal.returns-in-None-clause-timed
 returns-in-None-clause-timed c =

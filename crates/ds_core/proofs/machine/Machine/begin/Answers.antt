@@ -23,15 +23,17 @@ index_mut-requires c =
 
 pub advance-requires-clause-legal : goal.advance-requires-clause-legal
 advance-requires-clause-legal c =
-    let opened = called-open _ _ c.self.view_is c.requires.legal c.args.client c.requires.client c.args.request c.shards-shards.result
-    c.open_request.new.open c.shards-shards.ensures.counts c.shards-shards.ensures.value c.requires.lawful
+    let opened = called-open _ _ c.self.view_is c.requires.legal c.args.client c.requires.client c.args.request c.asked_of-asked.result
+    c.shards-shards.result
+    c.open_request.new.open c.asked_of-asked.ensures c.shards-shards.ensures.counts c.shards-shards.ensures.value c.requires.lawful
     (sym (c.has_open.ensures None) ∙ c.if-has_open.false) c.in_ok-open_request.ensures in
     opened.0
 
 pub returns-clause-turn : goal.returns-clause-turn
 returns-clause-turn c =
-    let opened = called-open _ _ c.self.view_is c.requires.legal c.args.client c.requires.client c.args.request c.shards-shards.result
-    c.open_request.new.open c.shards-shards.ensures.counts c.shards-shards.ensures.value c.requires.lawful
+    let opened = called-open _ _ c.self.view_is c.requires.legal c.args.client c.requires.client c.args.request c.asked_of-asked.result
+    c.shards-shards.result
+    c.open_request.new.open c.asked_of-asked.ensures c.shards-shards.ensures.counts c.shards-shards.ensures.value c.requires.lawful
     (sym (c.has_open.ensures None) ∙ c.if-has_open.false) c.in_ok-open_request.ensures in
     turn-ok c.advance.result c.args.self.now _ c.advance.new.self c.args.client (Some c.args.request)
     (client-open c.args.self.now c.requires.legal c.args.client c.requires.client) opened.1 c.advance.ensures.turn
@@ -42,4 +44,4 @@ returns-then-has_open-clause-timed c = opens-had c.args.self.now
 pub returns-clause-timed : goal.returns-clause-timed
 returns-clause-timed c =
     timed-open _ _ c.self.view_is c.requires.legal c.args.client c.requires.client c.advance.result c.advance.new.self c.args.request
-    c.shards-shards.result c.open_request.new.open c.in_ok-open_request.ensures c.advance.ensures.timed
+    c.asked_of-asked.result c.shards-shards.result c.open_request.new.open c.in_ok-open_request.ensures c.advance.ensures.timed

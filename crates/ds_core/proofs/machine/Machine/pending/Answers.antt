@@ -3,7 +3,7 @@ use Rattle.std.specs.Prelude.{IfSome}
 use Rattle.ds_core.specs.Machines.{MachineParts}
 use Rattle.ds_core.specs.Steps.{ReadsUpTo}
 use Rattle.ds_core.proofs.Clients.{client-open}
-use Rattle.ds_core.proofs.GatheredSteps.{called-lawful, called-reads, called-still, on-ok}
+use Rattle.ds_core.proofs.GatheredSteps.{called-reads, called-still, on-ok}
 use Rattle.ds_core.proofs.machine.Machine.pending.Goals as goal
 
 pub index-requires : goal.index-requires
@@ -11,10 +11,6 @@ index-requires c =
     let there = subst (λ (x : MachineParts). c.args.client < length x.opens) (sym c.self.view_is)
     (client-open c.args.self.now c.requires.legal c.args.client c.requires.client) in
     omega (arith, there, c.self.inside.opens.ok.0)
-
-pub place_covered-requires-clause-lawful : goal.place_covered-requires-clause-lawful
-place_covered-requires-clause-lawful c =
-    called-lawful _ _ c.self.view_is c.requires.legal c.args.client c.requires.client c.index.result.now c.index.ensures
 
 pub entries_left-requires-clause-place : goal.entries_left-requires-clause-place
 entries_left-requires-clause-place c =

@@ -67,7 +67,8 @@ returns-in-None-clause-turn c =
 
 pub returns-in-Some-clause-timed : goal.returns-in-Some-clause-timed
 returns-in-Some-clause-timed c = λ step told.
-    say-timed-ok c.note_opened.result c.args.self.now c.perform.new.self c.close.new.self c.note_opened.new.self c.args.client (first_session 0)
+    say-timed-ok c.note_opened.result c.args.self.now c.perform.new.self c.close.new.self c.note_opened.new.self c.args.client
+    (first_session 0)
     c.in-Some.opened c.args.plan.body c.args.plan.effect step c.requires.legal
     (client-below c.args.self.now c.requires.legal c.args.client c.requires.client) (c.is_no_memory.ensures c.if-is_no_memory.false)
     (c.requires.due (first_session 0) None) (told (first_session 0) None) (c.in-Ok.ensures (first_session 0))

@@ -8,7 +8,7 @@ use Rattle.ds_core.proofs.whole.Core.answer.Goals as goal
 
 pub invariant_of-self : goal.invariant_of-self
 invariant_of-self c =
-    answered-core c.self.inside.state c.answer-reply.new.self c.self.inside.sessions.items _ c.self.inside.greatest.items
+    answered-core c.self.inside.state c.answer-reply.new.self c.self.inside.sessions.items _ c.self.inside.greatest.counts
     c.args.request.client c.answer-reply.new.session refl
     c.answer-reply.ensures.grows c.answer-reply.ensures.answered.told.shards c.answer-reply.ensures.seen c.self.invariant
 

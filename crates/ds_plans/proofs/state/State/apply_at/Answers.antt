@@ -12,7 +12,8 @@ tell_applied_at-requires-in-None-clause-applied c =
     let seen = up_to-count c.args.session.now.counts c.args.self.now.applied.counts c.args.shard c.requires.seen.counts_within in
     let now : c.count-applied.result ≡ count_of c.args.self.now.applied.counts c.args.shard = c.count-applied.ensures.value
     ∙ ap (λ (st : StateParts). count_of st.applied.counts c.args.shard) c.self.view_is in
-    let up : c.entries_up_to-up_to.result ≡ entries_by c.args.self.now.store.journal c.args.self.now.store.shards c.args.shard c.args.place =
+    let up : c.entries_up_to-up_to.result ≡ entries_by c.args.self.now.store.journal c.args.self.now.store.shards c.args.shard c.args.place
+    =
     c.entries_up_to-up_to.ensures.value c.self.inside.book.journal c.self.invariant.follows
     ∙ ap (λ n. entries_by c.self.inside.book.journal n c.args.shard c.args.place) c.self.invariant.shards
     ∙ ap (λ (st : StateParts). entries_by st.store.journal st.store.shards c.args.shard c.args.place) c.self.view_is in

@@ -13,7 +13,8 @@ returns-in_err-pull-clause-grows c = subst (AreUpTo c.args.self.now.applied.coun
 
 pub returns-then-count-entries-clause-applied : goal.returns-then-count-entries-clause-applied
 returns-then-count-entries-clause-applied c =
-    sym (none_pending c.args.self.now c.pull.new.self c.args.shard c.count.result c.entries.result (subst IsState c.self-2.view_is c.self-2.invariant)
+    sym (none_pending c.args.self.now c.pull.new.self c.args.shard c.count.result c.entries.result
+    (subst IsState c.self-2.view_is c.self-2.invariant)
     c.in_ok-pull.ensures.pulled c.requires c.pull.ensures.store c.pull.ensures.counts
     (c.count.ensures.value ∙ ap (λ (st : StateParts). count_of st.applied.counts c.args.shard) c.self-2.view_is)
     (c.entries.ensures ∙ ap (λ (st : StateParts). length (list_of st.applied.lists c.args.shard)) c.self-2.view_is)
@@ -21,7 +22,8 @@ returns-then-count-entries-clause-applied c =
 
 pub returns-then-count-entries-clause-counts : goal.returns-then-count-entries-clause-counts
 returns-then-count-entries-clause-counts c =
-    none_applied c.args.self.now c.pull.new.self c.args.shard c.count.result c.entries.result (subst IsState c.self-2.view_is c.self-2.invariant)
+    none_applied c.args.self.now c.pull.new.self c.args.shard c.count.result c.entries.result
+    (subst IsState c.self-2.view_is c.self-2.invariant)
     c.in_ok-pull.ensures.pulled c.requires c.pull.ensures.store c.pull.ensures.counts
     (c.count.ensures.value ∙ ap (λ (st : StateParts). count_of st.applied.counts c.args.shard) c.self-2.view_is)
     (c.entries.ensures ∙ ap (λ (st : StateParts). length (list_of st.applied.lists c.args.shard)) c.self-2.view_is)
@@ -39,7 +41,8 @@ returns-in_err-apply_one-clause-grows c =
 
 pub returns-clause-applied : goal.returns-clause-applied
 returns-clause-applied c =
-    sym (some_pending c.args.self.now c.pull.new.self c.args.shard c.count.result c.entries.result (subst IsState c.self-2.view_is c.self-2.invariant)
+    sym (some_pending c.args.self.now c.pull.new.self c.args.shard c.count.result c.entries.result
+    (subst IsState c.self-2.view_is c.self-2.invariant)
     c.in_ok-pull.ensures.pulled c.requires c.pull.ensures.store c.pull.ensures.counts
     (c.count.ensures.value ∙ ap (λ (st : StateParts). count_of st.applied.counts c.args.shard) c.self-2.view_is)
     (c.entries.ensures ∙ ap (λ (st : StateParts). length (list_of st.applied.lists c.args.shard)) c.self-2.view_is)
@@ -47,7 +50,8 @@ returns-clause-applied c =
 
 pub returns-clause-counts : goal.returns-clause-counts
 returns-clause-counts c =
-    one_applied c.args.self.now c.pull.new.self c.args.shard c.count.result c.entries.result (subst IsState c.self-2.view_is c.self-2.invariant)
+    one_applied c.args.self.now c.pull.new.self c.args.shard c.count.result c.entries.result
+    (subst IsState c.self-2.view_is c.self-2.invariant)
     c.in_ok-pull.ensures.pulled c.requires c.pull.ensures.store c.pull.ensures.counts
     (c.count.ensures.value ∙ ap (λ (st : StateParts). count_of st.applied.counts c.args.shard) c.self-2.view_is)
     (c.entries.ensures ∙ ap (λ (st : StateParts). length (list_of st.applied.lists c.args.shard)) c.self-2.view_is)

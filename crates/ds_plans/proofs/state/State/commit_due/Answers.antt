@@ -17,5 +17,6 @@ returns-then-is_commit-clause-told c = λ g. c.plan_commit.ensures.told g c.args
     (λ inside. elim c.then-is_commit.branch [
       | then-is_commit-via-then-is_commit w ↦ commit-is c.args.step cc
       | then-is_commit-via-else-is_commit+then-not-in_transaction w ↦
-          (let yes : is_some c.args.session.now.transaction ≡ true = inside in cc (yes, w.in_transaction.ensures, w.if-not-in_transaction.true))
+          (let yes : is_some c.args.session.now.transaction ≡ true =
+          inside in cc (yes, w.in_transaction.ensures, w.if-not-in_transaction.true))
     ])

@@ -19,5 +19,5 @@ if_due st s client e None checked says = tt
 if_due st s client e (Some p) checked says = complete_due st s client e p.body p.effect checked says
 
 pub returns-clause-plan : goal.returns-clause-plan
-returns-clause-plan c = if_due c.args.self.now c.args.session.now c.args.client c.args.entity c.say_put_due.result c.requires.checked
+returns-clause-plan c = if_due c.args.self.now c.args.session.now c.args.client c.args.entity.now c.say_put_due.result c.requires.checked
     c.say_put_due.ensures.says

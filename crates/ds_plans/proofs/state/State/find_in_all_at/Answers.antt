@@ -39,7 +39,7 @@ find_at_counts-requires-clause-counts c =
 
 pub returns-in-Ok-find_at_counts-clause-plan : goal.returns-in-Ok-find_at_counts-clause-plan
 returns-in-Ok-find_at_counts-clause-plan c = λ call of.
-    all_found_at c.args.self.now c.args.session.now c.args.client call c.args.search of c.args.ready c.requires.prepared
+    all_found_at c.args.self.now c.args.session.now c.args.client call c.args.search.now of c.args.ready.now c.requires.prepared
     (subst IsState c.self.view_is c.self.invariant) c.requires.pulled c.requires.group c.requires.seen c.args.counts c.in-Ok.told
     c.counted_place-commit.result c.requires.shown c.requires.within
     (subst (λ (st : StateParts). AreCounts st.applied.lists c.args.counts) c.self.view_is
@@ -59,6 +59,6 @@ pub returns-in-Ok-find_at_counts-clause-told : goal.returns-in-Ok-find_at_counts
 returns-in-Ok-find_at_counts-clause-told c = λ g step viewed.
     kept-told c.args.self.now c.args.session.now c.in-Ok-find_at_counts.body g step
     (effect.SeeCounts (record { commit = c.counted_place-commit.result; counts = c.args.counts }))
-    (search-numbers c.args.self.now c.args.session.now g step c.args.search c.args.ready.normal c.args.ready.window
+    (search-numbers c.args.self.now c.args.session.now g step c.args.search.now c.args.ready.now.normal c.args.ready.now.window
     (sorted_by_key (shard_views c.args.self.now.applied.lists c.in-Ok.told)) (seen.Counts c.in-Ok.told) c.in-Ok-find_at_counts.body
     c.in-Ok-find_at_counts.ensures.found (subst (AreViewsOf g) (sym c.in-Ok.ensures.copied) viewed)) refl refl

@@ -22,19 +22,20 @@ find-requires-clause-by_key c = view_by_key _ c.self.inside.applied.lists c.args
 
 pub returns-in-Ok-find-clause-plan : goal.returns-in-Ok-find-clause-plan
 returns-in-Ok-find-clause-plan c = λ call of.
-    group_found c.args.self.now c.args.session.now c.args.client call c.args.search of c.args.ready c.requires.prepared
+    group_found c.args.self.now c.args.session.now c.args.client call c.args.search.now of c.args.ready.now c.requires.prepared
     (subst IsState c.self.view_is c.self.invariant) c.args.read c.requires.reached
     c.in-Ok-find.body (c.in-Ok-find.ensures.found
-    ∙ ap (λ es. told_over c.args.search c.args.ready.normal c.args.ready.window es (seen.Place c.args.read.place))
+    ∙ ap (λ es. told_over c.args.search.now c.args.ready.now.normal c.args.ready.now.window es (seen.Place c.args.read.place))
     (ap (map (λ e. e.now)) c.as_slice.ensures.value ∙ c.in-Ok-entities.ensures ∙ c.in-Ok.ensures
     ∙ ap (λ (st : StateParts). shard_view st.applied.lists c.args.read.shard c.args.read.entries) c.self.view_is))
 
 pub returns-in-Err-clause-plan : goal.returns-in-Err-clause-plan
-returns-in-Err-clause-plan c = λ call of. memory_as c.args.self.now c.args.session.now c.args.client call _ _ c.no_memory-in-Err.ensures.body
+returns-in-Err-clause-plan c = λ call of. memory_as c.args.self.now c.args.session.now c.args.client call _ _
+    c.no_memory-in-Err.ensures.body
     c.no_memory-in-Err.ensures.effect
 
 pub returns-in-Ok-find-clause-told : goal.returns-in-Ok-find-clause-told
 returns-in-Ok-find-clause-told c = λ g step place.
     read-told c.args.self.now c.args.session.now c.in-Ok-find.body g step c.args.read
-    (search-numbers c.args.self.now c.args.session.now g step c.args.search c.args.ready.normal c.args.ready.window
+    (search-numbers c.args.self.now c.args.session.now g step c.args.search.now c.args.ready.now.normal c.args.ready.now.window
     (map (λ e. e.now) c.as_slice.result.now) (seen.Place c.args.read.place) c.in-Ok-find.body c.in-Ok-find.ensures.found place) place

@@ -11,21 +11,24 @@ use Rattle.ds_plans.proofs.state.State.found_due.Goals as goal
 
 pub returns-in-Err-clause-plan : goal.returns-in-Err-clause-plan
 returns-in-Err-clause-plan c = λ call of.
-    form_plan c.args.self.now c.args.session.now c.args.client call c.args.search of c.refused.result.body c.in-Err.body
+    form_plan c.args.self.now c.args.session.now c.args.client call c.args.search.now of c.refused.result.body c.in-Err.body
     c.refused.result.effect c.in_transaction.result
     c.refused.ensures.body c.refused.ensures.effect
     (subst (λ (st : StateParts). (c.in-Err.body ≡ NoMemory) ⊎ IsRefused st.store.definitions c.in_transaction.result
-    (search_parts c.args.search) c.in-Err.body) c.self.view_is c.in-Err.ensures.refused)
+    (search_parts c.args.search.now) c.in-Err.body) c.self.view_is c.in-Err.ensures.refused)
     (sym c.in_transaction.ensures) c.in-Err.ensures.quiet
-
-pub returns-in-Err-group_of-clause-plan : goal.returns-in-Err-group_of-clause-plan
-returns-in-Err-group_of-clause-plan c = λ call of. memory_as c.args.self.now c.args.session.now c.args.client call _ _
-    c.no_memory.ensures.body c.no_memory.ensures.effect
 
 pub returns-in-Err-clause-told : goal.returns-in-Err-clause-told
 returns-in-Err-clause-told c =
     refused-told c.args.self.now c.args.session.now c.refused.result.body c.in-Err.body c.refused.result.effect
     c.refused.ensures.body c.refused.ensures.effect
-    (form-bare c.self.inside.defs c.args.session.now c.in_transaction.result (search_parts c.args.search) c.in-Err.body
+    (form-bare c.self.inside.defs c.args.session.now c.in_transaction.result (search_parts c.args.search.now) c.in-Err.body
     (sym c.in_transaction.ensures) c.in-Err.ensures.refused)
     c.args.gathered.now c.args.step
+
+pub returns-clause-plan : goal.returns-clause-plan
+returns-clause-plan c = λ call of. memory_as c.args.self.now c.args.session.now c.args.client call _ _
+    c.no_memory.ensures.body c.no_memory.ensures.effect
+
+pub returns-in-Ok-None-clause-told : goal.returns-in-Ok-None-clause-told
+returns-in-Ok-None-clause-told c = c.in_all_due.ensures.told c.args.step

@@ -1,7 +1,7 @@
 use Rattle.std.proofs.Common.{refl, ap, sym, subst, Some, inr}
 use Rattle.std.specs.Prelude.{IfSome}
 use Rattle.ds_request.specs.declared.call.Call.TheVariants as call
-use Rattle.ds_model.specs.Groups.{ReadsAt, group_refusal}
+use Rattle.ds_model.specs.Groups.{group_refusal}
 use Rattle.ds_base.specs.Keys.{root_of}
 use Rattle.ds_plans.specs.Told.{IsGroupRead}
 use Rattle.ds_plans.proofs.DuePlans.{due_of}
@@ -19,7 +19,8 @@ get_reached-requires c =
 
 pub returns-in-Err-clause-plan : goal.returns-in-Err-clause-plan
 returns-in-Err-clause-plan c =
-    inr (due_of c.group_due.new.self c.args.session.now c.args.client (call.Get c.args.key.now) c.refused.result.body c.refused.result.effect
+    inr (due_of c.group_due.new.self c.args.session.now c.args.client (call.Get c.args.key.now) c.refused.result.body
+    c.refused.result.effect
     (refused_as c.group_due.new.self c.args.session.now c.args.client (call.Get c.args.key.now) c.refused.result.body
     c.in-Err.body c.refused.result.effect
     c.refused.ensures.body c.refused.ensures.effect c.in-Err.ensures.quiet refl

@@ -1,4 +1,4 @@
-use Rattle.std.proofs.Common.{◌≡◌, true, sym, subst}
+use Rattle.std.proofs.Common.{sym, subst}
 use Rattle.std.specs.Prelude.{IfSome, is_some}
 use Rattle.ds_protocol.specs.Preparing.{IsReady}
 use Rattle.ds_protocol.specs.Searches.{search_parts}
@@ -9,10 +9,11 @@ use Rattle.ds_plans.proofs.state.State.in_group_due.Goals as goal
 
 pub returns-in-Err-clause-plan : goal.returns-in-Err-clause-plan
 returns-in-Err-clause-plan c = λ call of.
-    group_plan c.group_due.new.self c.args.session.now c.args.client call c.args.search of c.args.ready
+    group_plan c.group_due.new.self c.args.session.now c.args.client call c.args.search.now of c.args.ready.now
     (record {
       form = subst (λ (st : StoreParts). IsReady st.definitions (is_some c.args.session.now.transaction)
-          (search_parts c.args.search) c.args.ready.normal c.args.ready.window) (sym c.group_due.ensures.store) c.requires.prepared.form;
+          (search_parts c.args.search.now) c.args.ready.now.normal c.args.ready.now.window) (sym c.group_due.ensures.store)
+          c.requires.prepared.form;
       lawful = c.requires.prepared.lawful;
     })
     c.refused.result.body c.in-Err.body c.refused.result.effect c.args.group
@@ -23,7 +24,7 @@ find_in_group-requires-clause-reached c =
     let read : IsGroupRead c.group_due.new.self c.args.session.now c.args.gathered.now c.args.group c.in-Ok-Some.read =
     subst (λ o. IfSome o (IsGroupRead c.group_due.new.self c.args.session.now c.args.gathered.now c.args.group)) c.in-Ok-Some.field-0-is
     c.in-Ok-Some.ensures.read in
-    group_search c.group_due.new.self c.args.session.now c.args.search c.in-Ok-Some.read c.args.group c.requires.group
+    group_search c.group_due.new.self c.args.session.now c.args.search.now c.in-Ok-Some.read c.args.group c.requires.group
     read.lawful read.allowed read.stands read.reached
 
 pub returns-in-Ok-Some-clause-told : goal.returns-in-Ok-Some-clause-told

@@ -1,7 +1,7 @@
-use Rattle.std.proofs.Common.{◌≡◌, ℕ, Option, Some, None, true, false, sym, subst}
+use Rattle.std.proofs.Common.{◌≡◌, ◌∙◌, ap, ℕ, Option, Some, None, true, false, sym, subst}
 use Rattle.std.specs.Prelude.{IfSome}
 use Rattle.ds_base.specs.Entities.{EntityParts}
-use Rattle.ds_base.specs.Keys.{ends_in_id}
+use Rattle.ds_base.specs.Keys.{ends_in_id, renumbered}
 use Rattle.ds_log.specs.declared.Write.TheVariants.{Put}
 use Rattle.ds_request.specs.declared.call.Call.TheVariants as call
 use Rattle.ds_reply.specs.declared.reply.Body.TheVariants as body
@@ -12,6 +12,9 @@ use Rattle.ds_plans.specs.States.{StateParts}
 use Rattle.ds_plans.specs.WritePlans.{IsChecked, IsWritable, SaysWrite}
 use Rattle.ds_plans.proofs.DuePlans.{id_due, id_writable, numbered}
 use Rattle.ds_plans.proofs.state.State.numbered_due.Goals as goal
+
+abbrev with_id : ℕ → EntityParts → EntityParts
+with_id id e = record { key = renumbered e.key id; properties = e.properties }
 
 if_due : (st : StateParts) (s : Session) (client : ℕ) (e : EntityParts) (id : ℕ) (g : GatheredParts) (o : Option Plan)
     (checked : IsChecked st s e.key true e.properties e) (drawn : g.first ≡ Some id)
@@ -24,13 +27,15 @@ if_due st s client e id g (Some p) checked drawn gathered ends says =
 
 pub say_put_due-requires-clause-writable : goal.say_put_due-requires-clause-writable
 say_put_due-requires-clause-writable c =
-    subst (λ (e : EntityParts). IsWritable c.args.self.now c.args.session.now (Put e) false) (sym c.renumber.ensures)
-    (id_writable c.args.self.now c.args.session.now c.args.client c.args.entity c.args.id c.args.gathered.now c.requires.checked
+    subst (λ (e : EntityParts). IsWritable c.args.self.now c.args.session.now (Put e) false)
+    (sym (c.renumber.ensures ∙ ap (with_id c.args.id) c.in-Ok.ensures.copied))
+    (id_writable c.args.self.now c.args.session.now c.args.client c.args.entity.now c.args.id c.args.gathered.now c.requires.checked
     c.requires.id c.requires.gathered)
 
 pub returns-clause-plan : goal.returns-clause-plan
 returns-clause-plan c =
-    if_due c.args.self.now c.args.session.now c.args.client c.args.entity c.args.id c.args.gathered.now c.say_put_due.result
+    if_due c.args.self.now c.args.session.now c.args.client c.args.entity.now c.args.id c.args.gathered.now c.say_put_due.result
     c.requires.checked c.requires.id c.requires.gathered c.requires.ends_in_id
-    (subst (λ (e : EntityParts). IfSome c.say_put_due.result (λ p. SaysWrite body.Put c.args.self.now c.args.session.now c.args.client (Put e)
-    false p.body p.effect)) c.renumber.ensures c.say_put_due.ensures.says)
+    (subst (λ (e : EntityParts). IfSome c.say_put_due.result (λ p. SaysWrite body.Put c.args.self.now c.args.session.now c.args.client
+    (Put e)
+    false p.body p.effect)) (c.renumber.ensures ∙ ap (with_id c.args.id) c.in-Ok.ensures.copied) c.say_put_due.ensures.says)

@@ -1,7 +1,7 @@
 use Rattle.std.proofs.Common.{◌∙◌, ap}
 use Rattle.ds_base.specs.Keys.{KeyParts, root_of}
 use Rattle.ds_model.specs.Sessions.{next_above}
-use Rattle.ds_plans.specs.Transactions.{transaction_of}
+use Rattle.ds_protocol.specs.Transactions.{transaction_of}
 use Rattle.ds_plans.proofs.WriteAnswers.{group_planned_as}
 use Rattle.std.proofs.Common.{refl, subst}
 use Rattle.ds_log.specs.Logs.{group_of}

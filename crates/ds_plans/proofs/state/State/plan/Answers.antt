@@ -1,20 +1,20 @@
 use Rattle.ds_plans.proofs.Grown.{up_to-same}
+use Rattle.ds_plans.proofs.OperationPlans.{always_plan, plan_of, shard_there}
 use Rattle.ds_plans.proofs.state.State.plan.Goals as goal
 
-pub returns-in-Put-clause-counts : goal.returns-in-Put-clause-counts
-returns-in-Put-clause-counts c = up_to-same c.args.self.now.applied.counts
+pub plan_operation-requires-clause-shard : goal.plan_operation-requires-clause-shard
+plan_operation-requires-clause-shard c =
+    shard_there c.args.self.now.store.shards c.in-Ok.operation c.args.call c.in-Ok.ensures.ok c.requires.shard
 
-pub returns-in-Delete-clause-counts : goal.returns-in-Delete-clause-counts
-returns-in-Delete-clause-counts c = up_to-same c.args.self.now.applied.counts
+pub returns-in-Ok-clause-plan : goal.returns-in-Ok-clause-plan
+returns-in-Ok-clause-plan c =
+    plan_of c.plan_operation.new.self c.args.session.now c.args.client c.in-Ok.operation c.args.call c.plan_operation.result.body
+    c.plan_operation.result.effect c.in-Ok.ensures.ok c.plan_operation.ensures.plan
 
-pub returns-in-Begin-clause-counts : goal.returns-in-Begin-clause-counts
-returns-in-Begin-clause-counts c = up_to-same c.args.self.now.applied.counts
+pub returns-in-Err-clause-plan : goal.returns-in-Err-clause-plan
+returns-in-Err-clause-plan c =
+    always_plan c.args.self.now c.args.session.now c.args.client c.args.call c.in-Err.refused c.refused.result.body c.body.result
+    c.refused.result.effect c.refused.ensures.body c.body.ensures c.refused.ensures.effect c.in-Err.ensures.refused
 
-pub returns-in-Commit-clause-counts : goal.returns-in-Commit-clause-counts
-returns-in-Commit-clause-counts c = up_to-same c.args.self.now.applied.counts
-
-pub returns-in-Rollback-clause-counts : goal.returns-in-Rollback-clause-counts
-returns-in-Rollback-clause-counts c = up_to-same c.args.self.now.applied.counts
-
-pub returns-in-AllocateIds-clause-counts : goal.returns-in-AllocateIds-clause-counts
-returns-in-AllocateIds-clause-counts c = up_to-same c.args.self.now.applied.counts
+pub returns-in-Err-clause-counts : goal.returns-in-Err-clause-counts
+returns-in-Err-clause-counts c = up_to-same c.args.self.now.applied.counts

@@ -3,7 +3,7 @@ use Rattle.ds_base.specs.Limits.{greatest_id, most_writes}
 use Rattle.ds_log.specs.declared.Commit.{Commit}
 use Rattle.ds_log.specs.Conflicts.{conflict_of}
 use Rattle.ds_plans.specs.States.{StateParts}
-use Rattle.ds_plans.specs.Transactions.{transaction_of}
+use Rattle.ds_protocol.specs.Transactions.{transaction_of}
 use Rattle.ds_plans.proofs.TransactionPlans.{commit_planned}
 use Rattle.ds_plans.proofs.state.State.plan_commit_of.Goals as goal
 

@@ -1,32 +1,30 @@
-use Rattle.std.proofs.Common.{inr, refl, sym, subst}
-use Rattle.ds_request.specs.declared.call.Call.{Call}
-use Rattle.ds_request.specs.declared.call.Call.TheVariants as call
-use Rattle.ds_plans.specs.Due.{IsDuePlan, ids_of}
-use Rattle.ds_plans.proofs.DuePlans.{due_of}
+use Rattle.std.proofs.Common.{Ok, subst}
+use Rattle.ds_protocol.specs.Operations.{IsAskedOf}
+use Rattle.ds_plans.proofs.OperationPlans.{always_due, due_asked, gathered_there, shard_there}
 use Rattle.ds_plans.proofs.state.State.plan_due.Goals as goal
 
-pub returns-in-Begin-clause-plan : goal.returns-in-Begin-clause-plan
-returns-in-Begin-clause-plan c =
-    subst (λ (x : Call). IsDuePlan c.args.self.now c.args.session.now c.args.client x (ids_of x c.args.gathered.now)
-    c.plan_begin.result.body c.plan_begin.result.effect) (sym c.in-Begin.is)
-    (inr (due_of c.args.self.now c.args.session.now c.args.client (call.Begin c.in-Begin.xg) c.plan_begin.result.body
-    c.plan_begin.result.effect c.plan_begin.ensures.plan refl))
+pub operation_due-requires : goal.operation_due-requires
+operation_due-requires c =
+    let asked : IsAskedOf c.requires.asked.0 (Ok c.in-Ok.operation) = subst (IsAskedOf c.requires.asked.0) c.in-Ok.is c.requires.asked.1.0
+    in
+    record {
+      lawful = asked.1;
+      shard = shard_there c.args.self.now.store.shards c.in-Ok.operation c.requires.asked.0 asked.0 c.requires.asked.1.1;
+      seen = c.requires.seen;
+      gathered = gathered_there c.args.self.now c.args.session.now c.in-Ok.operation c.requires.asked.0 c.args.gathered.now asked.0
+          c.requires.asked.1.2;
+    }
 
-pub returns-in-Rollback-clause-plan : goal.returns-in-Rollback-clause-plan
-returns-in-Rollback-clause-plan c =
-    subst (λ (x : Call). IsDuePlan c.args.self.now c.args.session.now c.args.client x (ids_of x c.args.gathered.now)
-    c.plan_rollback.result.body c.plan_rollback.result.effect) (sym c.in-Rollback.is)
-    (inr (due_of c.args.self.now c.args.session.now c.args.client call.Rollback c.plan_rollback.result.body
-    c.plan_rollback.result.effect c.plan_rollback.ensures.plan refl))
+pub returns-in-Ok-clause-plan : goal.returns-in-Ok-clause-plan
+returns-in-Ok-clause-plan c =
+    due_asked c.operation_due.new.self c.args.session.now c.args.client c.in-Ok.operation c.args.gathered.now c.operation_due.result
+    c.args.asked.now c.in-Ok.is c.operation_due.ensures.plan
 
-pub returns-in-Begin-clause-told : goal.returns-in-Begin-clause-told
-returns-in-Begin-clause-told c = c.plan_begin.ensures.told c.args.gathered.now c.args.step
+pub returns-in-Err-clause-plan : goal.returns-in-Err-clause-plan
+returns-in-Err-clause-plan c =
+    always_due c.args.self.now c.args.session.now c.args.client c.in-Err.refused c.args.gathered.now c.args.asked.now c.in-Err.is
+    c.refused-plan.result.body c.body.result c.refused-plan.result.effect c.refused_due.result.body c.refused_due.result.effect
+    c.refused-plan.ensures.body c.body.ensures c.refused-plan.ensures.effect c.refused_due.ensures.plan
 
-pub returns-in-Rollback-clause-told : goal.returns-in-Rollback-clause-told
-returns-in-Rollback-clause-told c = c.plan_rollback.ensures.told c.args.gathered.now c.args.step
-
-pub returns-in-Commit-clause-told : goal.returns-in-Commit-clause-told
-returns-in-Commit-clause-told c = c.commit_due.ensures.told c.args.gathered.now
-
-pub returns-in-Settle-clause-told : goal.returns-in-Settle-clause-told
-returns-in-Settle-clause-told c = c.settle_due.ensures.told c.args.step
+pub returns-in-Err-clause-told : goal.returns-in-Err-clause-told
+returns-in-Err-clause-told c = c.refused_due.ensures.told c.args.gathered.now c.args.step

@@ -9,7 +9,7 @@ use Rattle.ds_plans.proofs.state.State.plan_in_group.Goals as goal
 
 pub returns-in-Some-clause-plan : goal.returns-in-Some-clause-plan
 returns-in-Some-clause-plan c = λ call of.
-    group_plan c.args.self.now c.args.session.now c.args.client call c.args.search of c.args.ready c.requires.prepared
+    group_plan c.args.self.now c.args.session.now c.args.client call c.args.search.now of c.args.ready.now c.requires.prepared
     c.refused.result.body c.in-Some.body c.refused.result.effect c.args.group
     c.refused.ensures.body c.refused.ensures.effect c.requires.group c.in-Some.ensures.told c.in-Some.ensures.quiet
 
@@ -18,7 +18,7 @@ returns-in-Some-clause-counts c = up_to-same c.args.self.now.applied.counts
 
 pub find_in_group-requires-clause-reached : goal.find_in_group-requires-clause-reached
 find_in_group-requires-clause-reached c =
-    group_search c.reach.new.self c.args.session.now c.args.search c.in-Ok.read c.args.group c.requires.group
+    group_search c.reach.new.self c.args.session.now c.args.search.now c.in-Ok.read c.args.group c.requires.group
     (subst (λ k. is_key k ≡ true) c.group.view_is c.group.invariant)
     (unrefused_group _ c.in_default.ensures.told)
     (subst (λ (st : StoreParts). ReadsAt st.journal c.args.session.now c.args.group c.in-Ok.read.place) (sym c.reach.ensures.store)

@@ -1,0 +1,69 @@
+//! The ids of a written key: which of them only the server gives, and to which group they lead.
+ghost use Rattle.std.specs.Prelude.{◌≡◌, IfOk, IsTrue};
+ghost use Rattle.std.specs.List.{list_all};
+ghost use Rattle.ds_base.specs.Keys.{is_elem, is_ident};
+ghost use Rattle.ds_log.specs.Ids.{first_unissued};
+ghost use Rattle.ds_model.specs.Refusals.{group_asked, is_root};
+ghost use Rattle.ds_model.specs.Sessions.{next_above};
+ghost use Rattle.ds_protocol.specs.Writing.{id_above};
+
+use ds_base::limits::FIRST_DRAWN_ID;
+use ds_base::{Elem, Ident, Key, NoMemory};
+use ds_journal::ids::check_path;
+use std::alloc::Global;
+
+/// The first id of a path that only the server gives and, with the id counter at `next`, didn't give yet. It takes no memory.
+pub fn first_unissued(path: &[Elem], next: u64) -> Option<u64>
+    ensures { result ≡ first_unissued next path.now }
+{
+    match check_path(next, path) {
+        Ok(()) => None,
+        Err(refused) => Some(refused.id),
+    }
+}
+
+/// The id counter above each id of a path that only the server gives; 0 where there is none. A reply that accepts the path shows it. It
+/// takes no memory.
+pub fn next_above(path: &[Elem]) -> u64
+    requires { IsTrue (list_all is_elem path.now) }
+    ensures { result ≡ next_above path.now }
+{
+    let mut next = 0;
+    for elem in path {
+        next = next.max(above(&elem.ident));
+    }
+    next
+}
+
+fn above(ident: &Ident) -> u64
+    requires { IsTrue (is_ident ident.now) }
+    ensures { result ≡ id_above ident.now }
+{
+    match ident {
+        Ident::Id(id) if *id >= FIRST_DRAWN_ID => *id + 1,
+        Ident::Id(_) | Ident::Name(_) => 0,
+    }
+}
+
+/// The group of a written key; `None` for an incomplete root, whose id isn't drawn yet. A refusal is want of memory.
+pub(crate) fn group_asked(
+    alloc: Global,
+    key: &Key,
+    incomplete: bool,
+) -> Result<Option<Key>, NoMemory>
+    ensures { IfOk result (λ group. group ≡ group_asked incomplete key.now) }
+{
+    if incomplete && is_root(key.elems().as_slice()) {
+        return Ok(None);
+    }
+    Ok(Some(key.root(alloc)?))
+}
+
+fn is_root(path: &[Elem]) -> bool
+    ensures { result ≡ is_root path.now }
+{
+    match path {
+        [_] => true,
+        _ => false,
+    }
+}

@@ -1,0 +1,257 @@
+//! The transaction of a client: what it touches and writes, and what it refuses.
+ghost use Rattle.std.specs.Prelude.{◌≡◌, ◌⊎◌, ◌<◌, ◌∷◌, [], None, Some, is_some, length, IfSome, IsTrue, OnOk};
+ghost use Rattle.std.specs.Option.{option_copied, option_map};
+ghost use Rattle.ds_base.specs.Keys.{root_of};
+ghost use Rattle.ds_base.specs.Limits.{most_writes};
+ghost use Rattle.ds_model.specs.Answers.{begun};
+ghost use Rattle.ds_model.specs.Groups.{group_refusal, place_in, touching, touching_if, write_refusal, writing};
+ghost use Rattle.ds_model.specs.Refusals.{first_refusal, group_asked};
+ghost use Rattle.ds_protocol.specs.Refused.{IsRefusal, group_body, is_quiet, tells_no_step};
+ghost use Rattle.ds_protocol.specs.Transactions.{MayWrite, transaction_of};
+
+use crate::ids::group_asked;
+use ds_base::{Key, NoMemory, TryCopy};
+use ds_log::Write;
+use ds_reply::Body;
+use ds_txn::{Txn, TxnRefused};
+use std::alloc::Global;
+use std::marker::Model;
+
+/// The transaction that a client has open, or none. It is the half of a session that no store knows of.
+///
+/// Contracts see it as the definitions of sessions do.
+#[derive(Drop)]
+pub struct OpenTransaction {
+    open: Option<Txn>,
+}
+
+impl Model for OpenTransaction {
+    ghost use Rattle.ds_protocol.specs.Transactions.{OpenParts, open_parts};
+
+    ghost Value = { OpenParts };
+
+    ghost view = { λ t. open_parts t.open };
+}
+
+impl OpenTransaction {
+    /// No transaction.
+    pub fn none() -> OpenTransaction
+        ensures { result.transaction ≡ None }
+    {
+        OpenTransaction { open: None }
+    }
+
+    /// Whether there is a transaction.
+    pub fn is_open(&self) -> bool
+        ensures { result ≡ is_some self.now.transaction }
+    {
+        self.open.is_some()
+    }
+
+    /// The transaction, if there is one.
+    pub fn transaction(&self) -> Option<&Txn>
+        ensures { self.now.transaction ≡ option_map transaction_of (option_copied result) }
+    {
+        self.open.as_ref()
+    }
+
+    /// A transaction begins, which may touch several groups where that was asked for. It takes no memory.
+    pub fn begin(&mut self, alloc: Global, several_groups: bool)
+        ensures { self.new.transaction ≡ Some (begun several_groups) }
+    {
+        self.open = Some(Txn::begin(alloc, several_groups));
+    }
+
+    /// The transaction ends, if there is one.
+    pub fn end(&mut self)
+        ensures { self.new.transaction ≡ None }
+    {
+        self.open = None;
+    }
+
+    /// The place at which the group of this root key was touched; `None` where it wasn't.
+    pub fn place(&self, group: &Key) -> Option<u64>
+        ensures { result ≡ place_in self.now.transaction group.now }
+    {
+        match &self.open {
+            Some(txn) => txn.place(group),
+            None => None,
+        }
+    }
+
+    /// Makes room for a touch and a write behind it, where there is a transaction. A refusal is want of memory and changes nothing.
+    pub fn make_room(&mut self) -> Result<(), NoMemory>
+        ensures same { self.new.transaction ≡ self.old.transaction }
+        ensures room { OnOk result (IsTrue (is_some self.new.transaction) → 0 < self.new.room) }
+    {
+        match &mut self.open {
+            Some(txn) => txn.make_room(),
+            None => Ok(()),
+        }
+    }
+
+    /// The transaction, if there is one, touches a group, at this place where it hasn't touched it before. It takes no memory.
+    pub fn touch(&mut self, group: Key, place: u64)
+        requires allowed { group_refusal self.old.transaction (Some group) ≡ None }
+        requires room { IsTrue (is_some self.old.transaction) → 0 < self.old.room }
+        ensures { self.new.transaction ≡ touching_if group place self.old.transaction }
+    {
+        match &mut self.open {
+            Some(txn) => touch(txn, group, place),
+            None => (),
+        }
+    }
+
+    /// The transaction touches a group, at this place where it hasn't touched it before, and takes a write. It takes no memory.
+    pub fn write(&mut self, group: Key, place: u64, write: Write)
+        requires allowed { MayWrite self.old.transaction group }
+        requires room { 0 < self.old.room }
+        ensures { self.new.transaction ≡ option_map (λ t. writing write (touching group place t)) self.old.transaction }
+    {
+        match &mut self.open {
+            Some(txn) => {
+                touch(txn, group, place);
+                add_write(txn, write);
+            }
+            None => (),
+        }
+    }
+}
+
+impl OpenTransaction {
+    /// Why the transaction, if there is one, may not touch the group, `None` standing for one of a new root; or that there is no memory
+    /// to tell it.
+    pub fn group_refusal(&self, alloc: Global, group: Option<&Key>) -> Option<Body>
+        ensures told { IsRefusal (group_refusal self.now.transaction (option_copied group.entry)) result }
+        ensures quiet { IfSome result (λ b. IsTrue (is_quiet b)) }
+        ensures numberless { IfSome result (λ b. IsTrue (tells_no_step b)) }
+    {
+        match &self.open {
+            Some(txn) => group_refusal(alloc, txn, group),
+            None => None,
+        }
+    }
+
+    /// Why the transaction, if there is one, takes no further write.
+    pub fn write_refusal(&self) -> Option<Body>
+        ensures told { result ≡ write_refusal self.now.transaction }
+        ensures quiet { IfSome result (λ b. IsTrue (is_quiet b)) }
+        ensures numberless { IfSome result (λ b. IsTrue (tells_no_step b)) }
+    {
+        match &self.open {
+            Some(txn) if txn.may_write().is_err() => Some(Body::TooManyWrites),
+            _ => None,
+        }
+    }
+
+    /// Why the transaction, if there is one, takes no write to the group; or that there is no memory to tell it.
+    pub fn refusal(&self, alloc: Global, group: Option<&Key>) -> Option<Body>
+        ensures told { IsRefusal (first_refusal (group_refusal self.now.transaction (option_copied group.entry)
+            ∷ write_refusal self.now.transaction ∷ [])) result }
+        ensures quiet { IfSome result (λ b. IsTrue (is_quiet b)) }
+        ensures numberless { IfSome result (λ b. IsTrue (tells_no_step b)) }
+    {
+        match self.group_refusal(alloc, group) {
+            Some(body) => Some(body),
+            None => self.write_refusal(),
+        }
+    }
+
+    /// Why the transaction, if there is one, doesn't read the group of a key; or that there is no memory to tell it. Outside a transaction
+    /// nothing is copied.
+    pub fn read_refusal(&self, alloc: Global, key: &Key) -> Option<Body>
+        ensures told { IsRefusal (group_refusal self.now.transaction (Some (root_of key.now))) result }
+        ensures quiet { IfSome result (λ b. IsTrue (is_quiet b)) }
+        ensures numberless { IfSome result (λ b. IsTrue (tells_no_step b)) }
+    {
+        if !self.is_open() {
+            return None;
+        }
+        match key.root(alloc) {
+            Ok(group) => self.group_refusal(alloc, Some(&group)),
+            Err(_) => Some(Body::NoMemory),
+        }
+    }
+
+    /// Why the transaction, if there is one, takes no write of a key, whose last id isn't drawn yet where it is incomplete; or that there
+    /// is no memory to tell it. Outside a transaction nothing is copied.
+    pub fn key_refusal(&self, alloc: Global, key: &Key, incomplete: bool) -> Option<Body>
+        ensures told { IsRefusal (first_refusal (group_refusal self.now.transaction (group_asked incomplete key.now)
+            ∷ write_refusal self.now.transaction ∷ [])) result }
+        ensures quiet { IfSome result (λ b. IsTrue (is_quiet b)) }
+        ensures numberless { IfSome result (λ b. IsTrue (tells_no_step b)) }
+    {
+        if !self.is_open() {
+            return None;
+        }
+        match group_asked(alloc, key, incomplete) {
+            Ok(group) => self.refusal(alloc, group.as_ref()),
+            Err(_) => Some(Body::NoMemory),
+        }
+    }
+}
+
+fn group_refusal(alloc: Global, txn: &Txn, group: Option<&Key>) -> Option<Body>
+    ensures told { IsRefusal (group_refusal (Some (transaction_of txn.now)) (option_copied group.entry)) result }
+    ensures quiet { IfSome result (λ b. IsTrue (is_quiet b)) }
+    ensures numberless { IfSome result (λ b. IsTrue (tells_no_step b)) }
+{
+    match txn.may_touch(group) {
+        Ok(()) => None,
+        Err(refused) => Some(group_body(alloc, refused, group)),
+    }
+}
+
+/// What the reply says of a group that may not be touched.
+fn group_body(alloc: Global, refused: TxnRefused, group: Option<&Key>) -> Body
+    ensures told { (result ≡ group_body (option_copied group.entry) refused) ⊎ (result ≡ Body.NoMemory) }
+    ensures quiet { IsTrue (is_quiet result) }
+    ensures numberless { IsTrue (tells_no_step result) }
+{
+    match refused {
+        TxnRefused::SecondGroup => second_group(alloc, group),
+        TxnRefused::TooManyGroups => Body::TooManyGroups,
+        TxnRefused::NoMemory => Body::NoMemory,
+    }
+}
+
+fn second_group(alloc: Global, group: Option<&Key>) -> Body
+    ensures told { (result ≡ Body.SecondGroup (option_copied group.entry)) ⊎ (result ≡ Body.NoMemory) }
+    ensures quiet { IsTrue (is_quiet result) }
+    ensures numberless { IsTrue (tells_no_step result) }
+{
+    match group {
+        Some(group) => match group.copy(alloc) {
+            Ok(group) => Body::SecondGroup { group: Some(group) },
+            Err(_) => Body::NoMemory,
+        },
+        None => Body::SecondGroup { group: None },
+    }
+}
+
+/// Touches a group that may be touched, for which there is room.
+fn touch(txn: &mut Txn, group: Key, place: u64)
+    requires allowed { group_refusal (Some (transaction_of txn.old)) (Some group) ≡ None }
+    requires room { 0 < txn.old.touch_spare }
+    ensures touched { transaction_of txn.new ≡ touching group place (transaction_of txn.old) }
+    ensures write_room { txn.new.write_spare ≡ txn.old.write_spare }
+{
+    if txn.touch(group, place).is_err() {
+        unreachable!();
+    }
+}
+
+/// Takes a write, for which there is room.
+fn add_write(txn: &mut Txn, write: Write)
+    requires room { 0 < txn.old.write_spare }
+    requires few { length txn.old.writes < most_writes }
+    ensures { transaction_of txn.new ≡ writing write (transaction_of txn.old) }
+{
+    let taken = match write {
+        Write::Put(entity) => txn.put(entity).is_ok(),
+        Write::Delete(key) => txn.delete(key).is_ok(),
+    };
+    if !taken {
+        unreachable!();
+    }
+}
