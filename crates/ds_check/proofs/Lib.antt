@@ -1,0 +1,11 @@
+mod Appending
+mod Bytes
+mod CommitsBack
+mod CommitsPlain
+mod EntitiesBack
+mod FormsRefused
+mod JournalReading
+mod KeysBack
+mod PlainData
+mod PlainTexts
+mod ValuesBack
