@@ -1,0 +1,11 @@
+pub mod InShards
+pub mod InAnyOrder
+pub mod ShardPages
+pub mod FewerSteps
+pub mod Plans
+pub mod Lists
+pub mod GlobalPages
+pub mod GroupPages
+pub mod RowLoops
+pub mod SlotLaws
+pub mod LaneLaws

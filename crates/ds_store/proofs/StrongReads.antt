@@ -1,0 +1,57 @@
+-- What a query with an ancestor tells, of where it stands and what is found there.
+use Rattle.std.proofs.Common.{◌≡◌, ℕ, ◌≤◌, Bool, true, false, List, length, Option, Some, refl, sym, subst}
+use Rattle.std.specs.Prelude.{IsTrue, ◌&&◌, nat_le}
+use Rattle.std.proofs.lemmas.Bool.{leb-true}
+use Rattle.ds_base.specs.declared.results.Item.{Item}
+use Rattle.ds_base.specs.declared.results.Seen.TheVariants as saw
+use Rattle.ds_base.specs.Keys.{KeyParts, is_elem, is_key, is_namespace, is_path, root_of}
+use Rattle.ds_base.specs.Limits.{most_elements}
+use Rattle.std.specs.List.{list_all}
+use Rattle.ds_log.specs.Shards.{shard_of}
+use Rattle.ds_model.specs.Sessions.{list_of}
+use Rattle.ds_query.specs.declared.branch.Normal.{Normal}
+use Rattle.ds_query.specs.declared.branch.Window.{Window}
+use Rattle.ds_query.specs.declared.row.Place.{Place}
+use Rattle.ds_states.specs.Groups.{FindsInGroup}
+use Rattle.ds_states.specs.Searches.{ancestor_of}
+use Rattle.ds_store.specs.Passes.{PassParts}
+use Rattle.ds_store.specs.Standing.{StandsAt}
+use Rattle.ds_store.specs.Strong.{IsFoundInGroup}
+use Rattle.ds_store.proofs.Gets.{group_read}
+
+first_holds : (a b : Bool) → IsTrue (a && b) → IsTrue a
+first_holds true b h = refl
+first_holds false b h = absurd (cc (h))
+
+second_holds : (a b : Bool) → IsTrue (a && b) → IsTrue b
+second_holds true b h = h
+second_holds false b h = absurd (cc (h))
+
+-- a key's path has an element
+pub has_root : (key : KeyParts) → IsTrue (is_key key) → 1 ≤ length key.elems
+has_root key lawful =
+    let path : IsTrue (is_path key.elems) = second_holds (is_namespace key.namespace) (is_path key.elems) lawful in
+    let bounds = first_holds (nat_le 1 (length key.elems) && nat_le (length key.elems) most_elements) (list_all is_elem key.elems) path in
+    leb-true 1 (length key.elems) (first_holds (nat_le 1 (length key.elems)) (nat_le (length key.elems) most_elements) bounds)
+
+pub strong_in : (shards shard : ℕ) (before p q : PassParts) (key ancestor : KeyParts) (asked : Option ℕ) (m entries : ℕ) (n : Normal)
+    (w : Window) (results : List Item) (next : Option Place) → shard ≡ shard_of (root_of key) shards → key ≡ ancestor → q ≡ p
+    → 1 ≤ length key.elems → ancestor_of n.branches ≡ Some ancestor → StandsAt shards before p shard asked m entries
+    → FindsInGroup (list_of p.lists shard) entries n w results next
+    → IsFoundInGroup shards before q (root_of ancestor) asked n w results next (saw.Place m) entries
+strong_in shards shard before p q key ancestor asked m entries n w results next is key_is same long has stand finds =
+    let there : StandsAt shards before q (shard_of (root_of ancestor) shards) asked m entries =
+    subst (λ (k : KeyParts). StandsAt shards before q (shard_of (root_of k) shards) asked m entries) key_is
+    (subst (λ s. StandsAt shards before q s asked m entries) is (subst (λ r. StandsAt shards before r shard asked m entries) (sym same)
+    stand)) in
+    let found : FindsInGroup (list_of q.lists (shard_of (root_of ancestor) shards)) entries n w results next =
+    subst (λ (k : KeyParts). FindsInGroup (list_of q.lists (shard_of (root_of k) shards)) entries n w results next) key_is
+    (subst (λ s. FindsInGroup (list_of q.lists s) entries n w results next) is
+    (subst (λ (r : PassParts). FindsInGroup (list_of r.lists shard) entries n w results next) (sym same) finds)) in
+    let some : 1 ≤ length ancestor.elems = subst (λ (k : KeyParts). 1 ≤ length k.elems) key_is long in
+    record {
+      place = m;
+      told = refl;
+      read = group_read shards before q (root_of ancestor) asked m entries there;
+      found = found q.journal m shards ancestor some has there.first;
+    }

@@ -1,0 +1,83 @@
+use Rattle.std.proofs.Common.{◌≡◌, ◌+◌, ◌≤◌, [], ◌∷◌, Some, length, ap, not, refl, subst, sym, ◌∙◌}
+use Rattle.std.specs.Prelude.{All}
+use Rattle.ds_base.specs.Keys.{KeyParts, root_of}
+use Rattle.ds_log.specs.Shards.{shard_of}
+use Rattle.ds_model.specs.Sessions.{list_of}
+use Rattle.ds_states.specs.Groups.{IsGroupFound, look_ups_of}
+use Rattle.ds_states.specs.Searches.{ancestor_of, look_ups, most_of, search_bound}
+use Rattle.ds_states.specs.Snapshots.{SnapshotParts, snapshot_of}
+use Rattle.ds_store.specs.Answered.{IsExpired}
+use Rattle.ds_store.specs.Passes.{HasRead}
+use Rattle.ds_store.proofs.Gets.{expired_in}
+use Rattle.ds_store.proofs.PassReads.{on_err}
+use Rattle.ds_store.proofs.Seeing.{HasRead-itself}
+use Rattle.ds_store.proofs.StrongReads.{has_root, strong_in}
+use Rattle.ds_store.proofs.store.Store.strong_query_planned.Goals as goal
+
+pub returns-in_err-shard-clause-read : goal.returns-in_err-shard-clause-read
+returns-in_err-shard-clause-read g c = on_err c.from_residual.result (HasRead c.args.pass.now c.args.pass.now)
+    (HasRead-itself c.args.pass.now)
+
+pub query_in-requires-clause-shard : goal.query_in-requires-clause-shard
+query_in-requires-clause-shard g c = c.in_ok-stand.ensures.stands.there
+
+pub returns-in-There-clause-found : goal.returns-in-There-clause-found
+returns-in-There-clause-found g c = λ ancestor is.
+    let seen = c.stand.new.pass in
+    let stand = c.in_ok-stand.stand in
+    let shard = c.in_ok-shard.shard in
+    let key = c.in-Some.ancestor.now in
+    let named : key ≡ ancestor = cc (c.in-Some.ensures, c.as_slice.ensures, is) in
+    let found = subst (IsGroupFound (list_of seen.lists shard) g.J.Names.window stand.entries c.args.normal.now c.args.window.now)
+    c.in-There.is
+    c.in_ok-found.ensures.found in
+    strong_in c.args.self.now.shards shard c.args.pass.now seen c.query_in.new.self key ancestor c.args.at stand.place stand.entries
+    c.args.normal.now c.args.window.now c.in-There.found.results c.in-There.found.next
+    c.in_ok-shard.ensures.is named c.query_in.ensures.same (has_root key c.elems-elems.ensures.lawful) is c.in_ok-stand.ensures.stands found
+
+pub returns-in-There-clause-steps_bounded : goal.returns-in-There-clause-steps_bounded
+returns-in-There-clause-steps_bounded g c = λ ancestor is.
+    let seen = c.stand.new.pass in
+    let stand = c.in_ok-stand.stand in
+    let shard = c.in_ok-shard.shard in
+    let shards = c.args.self.now.shards in
+    let key = c.in-Some.ancestor.now in
+    let n = c.args.normal.now in
+    let w = c.args.window.now in
+    let named : key ≡ ancestor = cc (c.in-Some.ensures, c.as_slice.ensures, is) in
+    let there : shard ≡ shard_of (root_of ancestor) shards = c.in_ok-shard.ensures.is
+    ∙ ap (λ (k : KeyParts). shard_of (root_of k) shards) named in
+    let bound = subst (λ f. All (λ q. c.query_in.new.steps ≤ (c.args.steps.now + search_bound n w (most_of n w)
+    (snapshot_of g.J.Names.definitions g.J.Names.window (list_of seen.lists shard) stand.entries ∷ [])) + look_ups_of q.select f)
+    n.branches)
+    c.in-There.is c.in_ok-found.ensures.steps_bounded in
+    subst (λ (s : SnapshotParts). All (λ q. c.query_in.new.steps ≤ (c.args.steps.now + search_bound n w (most_of n w) (s ∷ []))
+    + look_ups q.select (length c.in-There.found.results)) n.branches)
+    (λ i. snapshot_of g.J.Names.definitions g.J.Names.window (list_of (sym c.query_in.ensures.same i).lists (there i)) stand.entries) bound
+
+pub returns-else-is_none-clause-expired : goal.returns-else-is_none-clause-expired
+returns-else-is_none-clause-expired g c = λ ancestor is.
+    let seen = c.stand.new.pass in
+    let stand = c.in_ok-stand.stand in
+    let shard = c.in_ok-shard.shard in
+    let key = c.in-Some.ancestor.now in
+    let named : key ≡ ancestor = cc (c.in-Some.ensures, c.as_slice.ensures, is) in
+    let gone = subst (IsGroupFound (list_of seen.lists shard) g.J.Names.window stand.entries c.args.normal.now c.args.window.now)
+    c.in-Gone.is
+    c.in_ok-found.ensures.found in
+    subst (λ (k : KeyParts). IsExpired c.args.self.now.shards g.J.Names.window c.args.pass.now c.stand-in-Gone.new.self (root_of k)
+    c.args.at
+    stand.entries c.in-Gone.applied c.in-Gone.commit) named
+    (expired_in c.args.self.now.shards shard g.J.Names.window c.args.pass.now seen c.query_in.new.self c.stand-in-Gone.new.self key
+    c.args.at
+    stand.place stand.entries stand.entries c.in-Gone.applied c.in-Gone.commit
+    c.in_ok-shard.ensures.is c.query_in.ensures.same c.in_ok-stand.ensures.stands refl gone.applied_is gone.commit_is gone.gone
+    (c.is_none.ensures ∙ ap not c.if-is_none.false) c.stand-in-Gone.ensures)
+
+pub returns-in_default-clause-read : goal.returns-in_default-clause-read
+returns-in_default-clause-read g c = HasRead-itself c.args.pass.now
+
+pub returns-in_err-found-clause-read : goal.returns-in_err-found-clause-read
+returns-in_err-found-clause-read g c =
+    on_err c.from_residual-in_err-found.result (HasRead c.args.pass.now c.query_in.new.self)
+    (subst (HasRead c.args.pass.now) (sym c.query_in.ensures.same) c.in_ok-stand.ensures.stands.read)

@@ -1,0 +1,42 @@
+-- What was opened before the names of a store are picked.
+use Rattle.std.specs.Prelude.{◌≡◌, ℕ, ◌+◌, List, [], map, replicate, length, Option, Some}
+use Rattle.ds_base.specs.Limits.{first_drawn_id}
+use Rattle.ds_draw.specs.Draws.{WordName}
+use Rattle.ds_hub.specs.Line.{HubId}
+use Rattle.ds_indexdef.specs.declared.IndexDef.{IndexDef}
+use Rattle.ds_shard.specs.Shards.{ShardParts}
+use Rattle.ds_store.specs.Origins.{origins}
+use Rattle.ds_store.specs.Passes.{PassParts}
+
+-- the journal's hub, those of the shards by number, each with the shard with which it begins, the two words, the definitions and the
+-- window, and for how many passes it was opened
+pub record OpenedParts : Type 0 where
+  pub journal : HubId
+  pub shards : List (HubId × Option ShardParts)
+  pub commits : WordName
+  pub ids : WordName
+  pub definitions : List IndexDef
+  pub window : ℕ
+  pub passes : ℕ
+
+abbrev pub hubs_of : OpenedParts → List HubId
+hubs_of opened = map (λ shard. shard.0) opened.shards
+
+-- each shard's hub begins with a shard that has absorbed nothing, under the definitions and the window
+abbrev pub AreBegun : OpenedParts → Type 0
+AreBegun opened = opened.shards ≡ origins opened.definitions opened.window (hubs_of opened)
+
+-- the names of a store are those that were opened
+pub record AreNamesOf (opened : OpenedParts) (journal : HubId) (shards : List HubId) (commits ids : WordName) (definitions : List IndexDef)
+    (window : ℕ) : Type 0 where
+  pub journal_is : journal ≡ opened.journal
+  pub shards_are : shards ≡ hubs_of opened
+  pub commits_is : commits ≡ opened.commits
+  pub ids_is : ids ≡ opened.ids
+  pub definitions_are : definitions ≡ opened.definitions
+  pub window_is : window ≡ opened.window
+
+-- a pass that has seen nothing, and done nothing
+abbrev pub nothing_seen : ℕ → PassParts
+nothing_seen shards =
+    record { journal = []; lists = replicate shards []; place = 0; next = first_drawn_id; commits = []; draws = [] }

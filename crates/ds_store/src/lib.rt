@@ -1,0 +1,51 @@
+//! The running store: commits appended under one lock and published at once, their entries applied later, shard by shard, and
+//! readers that wait for nobody. Every answer is still that of one serial history.
+//!
+//! The journal's commits stand in a `Book` (`ds_journal`) under the journal's lock, beside the writer of a hub (`ds_hub`) that tells
+//! them. Each shard is the state of a hub of its own, whose writer stands under the shard's lock with a reader of the journal and
+//! the entries that wait. What one caller has seen is a `Pass`: a reader of each hub, and seats (`ds_draw`) with which the numbers
+//! of commits and the ids are drawn. Contracts see a pass as its lists: the journal's commits, and of each shard the entries.
+//!
+//! Of a value under a lock only its type is known, so the names of all hubs and words are ghost members of the trait `Names`, in
+//! which the types are generic. `open` makes all hubs and words; a function that is generic in `Names` makes the store of them by
+//! `make`, runs it, and closes it; its caller picks the names, at `Brand`.
+//!
+//! Queries (`searching` for those of all shards, `strong` for those of one group) are answered by `ds_states`, which knows no lock: a pass
+//! enters its shards, which waits for nobody, and leaves them.
+//!
+//! Begin with `specs/Passes.antt`, what contracts see of a pass and of the store, and with `store`.
+#![tactic(auto)]
+
+mod answers;
+mod applying;
+mod arriving;
+mod closing;
+mod committing;
+mod desk;
+mod drawing;
+mod journal_state;
+mod making;
+mod names;
+mod opened;
+mod pass;
+mod reading;
+mod searching;
+mod shard_desk;
+mod standing;
+mod states;
+mod store;
+mod strong;
+mod tailing;
+
+pub use answers::{
+    Applied, Expired, GetRefused, Got, NewCause, NewCommit, NewRefused, Settled, Since,
+    StrongRefused,
+};
+pub use closing::Closed;
+pub use ds_states::Answer;
+pub use journal_state::JournalState;
+pub use making::{Made, Passes, Tail, make};
+pub use names::Names;
+pub use opened::{Opened, open};
+pub use pass::Pass;
+pub use store::Store;

@@ -1,0 +1,221 @@
+//! What one caller of the store has seen.
+ghost use Rattle.std.specs.Prelude.{◌≡◌, ◌+◌, ◌^◌, ◌<◌, ◌≤◌, ◌++◌, ◌∷◌, [], None, Some, max, length, slice_get, slice_set};
+ghost use Rattle.std.specs.Option.{option_map};
+ghost use mathlib.Core.List.{IsPrefix};
+ghost use Rattle.ds_base.specs.Limits.{first_drawn_id};
+ghost use Rattle.ds_draw.specs.Draws.{numbers};
+ghost use Rattle.ds_hub.specs.Growing.{AreLonger};
+ghost use Rattle.ds_store.specs.Passes.{OwnSeen};
+
+use crate::desk::look_up_to;
+use crate::journal_state::JournalState;
+use crate::names::Names;
+use ds_draw::{Seat, Word};
+use ds_hub::{Reader, Slot, Writer};
+use ds_log::Entry;
+use ds_shard::ShardState;
+use std::marker::{Model, PhantomData};
+use std::sync::Wait;
+
+/// What one caller has seen: a reader of the journal and one of each shard, the place of the greatest commit that was shown, and
+/// the seats with which numbers of commits and ids are drawn. Contracts see `PassParts`.
+#[derive(Drop)]
+pub struct Pass<J: Names> {
+    pub(crate) journal: Reader<(), JournalState>,
+    pub(crate) shards: Vec<Slot<Entry, ShardState>>,
+    pub(crate) place: u64,
+    pub(crate) commits: Seat,
+    pub(crate) ids: Seat,
+    /// The counter of the seat on the word of ids, which itself takes no bytes.
+    pub(crate) next: u64,
+    pub(crate) of: PhantomData<J>,
+}
+
+impl<J: Names> Model for Pass<J> {
+    ghost use Rattle.std.specs.Prelude.{◌≡◌, ◌≤◌, length, map};
+    ghost use Rattle.ds_base.specs.Limits.{first_drawn_id, most_shards};
+    ghost use Rattle.ds_hub.specs.Holding.{hub_in, known_in};
+    ghost use Rattle.ds_store.specs.Origins.{origins};
+    ghost use Rattle.ds_store.specs.Passes.{PassParts, OwnSeen};
+
+    ghost Value = { PassParts };
+
+    ghost view = { λ p. record {
+      journal = p.journal.known;
+      lists = map known_in p.shards.items;
+      place = p.place;
+      next = p.next;
+      commits = p.commits.draws;
+      draws = p.ids.draws;
+    } };
+
+    ghost invariant = { λ p. (p.journal.hub ≡ J.journal)
+        × (map hub_in p.shards.items ≡ origins J.definitions J.window J.shards)
+        × ((p.commits.word ≡ J.commits) × (p.ids.word ≡ J.ids)) × (p.next ≡ p.ids.counter) × OwnSeen p.commits.draws p.journal.known
+        × ((1 ≤ length J.shards) × (length J.shards ≤ most_shards)) × (first_drawn_id ≤ p.next) };
+}
+
+impl<J: Names> Pass<J> {
+    /// The place of the greatest commit that was shown, 0 at first. It takes no memory.
+    pub fn place(&self) -> u64
+        ensures { result ≡ self.now.place }
+    {
+        self.place
+    }
+
+    /// How many shards there are. It takes no memory.
+    pub fn shards(&self) -> u32
+        ensures { result ≡ length self.now.lists }
+    {
+        self.shards.len() as u32
+    }
+
+    /// How many entries of a shard were shown; `None` exactly where there is no such shard. It takes no memory.
+    pub fn count(&self, shard: u32) -> Option<u64>
+        ensures { result ≡ option_map length (slice_get self.now.lists shard) }
+    {
+        self.shards.get(shard as usize).map(|slot| slot.len())
+    }
+
+    /// The id counter, 2^52 at first: no id from here on was shown. It takes no memory.
+    pub fn next(&self) -> u64
+        ensures value { result ≡ self.now.next }
+        ensures least { first_drawn_id ≤ self.now.next }
+    {
+        self.next
+    }
+
+    /// Sees all commits that the journal's writer has published, and stands at the last of them.
+    pub(crate) fn see_journal<R: Wait>(&mut self, rt: &R, writer: &mut Writer<(), JournalState>)
+        requires hub { writer.old.hub ≡ J.journal }
+        requires bounded { length writer.old.published < 2 ^ 62 }
+        requires place { self.old.place ≤ length writer.old.published }
+        ensures writer { writer.new ≡ writer.old }
+        ensures pass { self.new ≡ record self.old { journal = writer.old.published; place = length writer.old.published } }
+        ensures grown { IsPrefix self.old.journal self.new.journal }
+    {
+        see_all(rt, writer, &mut self.journal);
+        self.place = writer.published();
+    }
+
+    /// Sees all entries of a shard that its writer has published.
+    pub(crate) fn see_shard<R: Wait>(
+        &mut self,
+        rt: &R,
+        shard: usize,
+        writer: &mut Writer<Entry, ShardState>,
+    )
+        requires hub { slice_get J.shards shard ≡ Some writer.old.hub }
+        ensures writer { writer.new ≡ writer.old }
+        ensures pass { self.new ≡ record self.old { lists = slice_set self.old.lists shard writer.old.published } }
+        ensures grown { AreLonger self.old.lists self.new.lists }
+        ensures seen { slice_get self.new.lists shard ≡ Some writer.old.published }
+    {
+        see_shard_in(rt, writer, &mut self.shards[shard]);
+    }
+
+    /// Stands no lower than at a place.
+    pub(crate) fn stand(&mut self, place: u64)
+        ensures { self.new ≡ record self.old { place = max self.old.place place } }
+    {
+        self.place = self.place.max(place);
+    }
+
+    /// Looks at the word of ids: the id counter rises to what it finds.
+    pub(crate) fn look(&mut self, ids: &Word)
+        requires { ids.now.name ≡ J.ids }
+        ensures pass { self.new ≡ record self.old { next = self.new.next } }
+        ensures risen { self.old.next ≤ self.new.next }
+        ensures limit { self.new.next < 2 ^ 63 }
+    {
+        self.next = ids.look(&mut self.ids);
+    }
+
+    /// Looks at the word of ids until it isn't below a number.
+    pub(crate) fn look_past<R: Wait>(&mut self, rt: &R, ids: &Word, least: u64)
+        requires { ids.now.name ≡ J.ids }
+        ensures pass { self.new ≡ record self.old { next = self.new.next } }
+        ensures risen { (self.old.next ≤ self.new.next) × (least ≤ self.new.next) }
+        ensures limit { self.new.next < 2 ^ 63 }
+    {
+        self.next = look_up_to(rt, ids, &mut self.ids, least);
+    }
+
+    /// Draws the number of the last commit that the journal's writer has published, and sees all commits.
+    pub(crate) fn own<R: Wait>(
+        &mut self,
+        rt: &R,
+        commits: &Word,
+        writer: &mut Writer<(), JournalState>,
+    )
+        requires name { commits.now.name ≡ J.commits }
+        requires hub { writer.old.hub ≡ J.journal }
+        requires bounded { (0 < length writer.old.published) × (length writer.old.published < 2 ^ 62) }
+        ensures writer { writer.new ≡ writer.old }
+        ensures pass { self.new ≡ record self.old {
+          journal = writer.old.published;
+          place = length writer.old.published;
+          commits = self.old.commits ++ length writer.old.published ∷ [];
+        } }
+        ensures grown { IsPrefix self.old.journal self.new.journal }
+    {
+        let number = writer.published();
+        see_all(rt, writer, &mut self.journal);
+        draw_one(rt, commits, &mut self.commits, number);
+        self.place = number;
+    }
+
+    /// Draws so many ids, once the word of ids comes to stand at the id counter.
+    pub(crate) fn draw_ids<R: Wait>(&mut self, rt: &R, ids: &Word, count: u64)
+        requires name { ids.now.name ≡ J.ids }
+        requires some { 0 < count }
+        requires limit { self.old.next + count < 2 ^ 63 }
+        ensures { self.new ≡ record self.old {
+          next = self.old.next + count;
+          draws = self.old.draws ++ numbers self.old.next (self.old.next + count);
+        } }
+    {
+        ids.draw_at(rt, &mut self.ids, self.next, count);
+        self.next += count;
+    }
+}
+
+/// Shows a reader of the journal all commits that are published.
+pub(crate) fn see_all<R: Wait>(
+    rt: &R,
+    writer: &mut Writer<(), JournalState>,
+    reader: &mut Reader<(), JournalState>,
+)
+    requires { reader.old.hub ≡ writer.old.hub }
+    ensures writer { writer.new ≡ writer.old }
+    ensures hub { reader.new.hub ≡ reader.old.hub }
+    ensures all { reader.new.known ≡ writer.old.published }
+    ensures grown { IsPrefix reader.old.known writer.old.published }
+{
+    writer.confirm(rt, reader);
+    reader.learn(writer.tell());
+}
+
+/// Draws one number, once the word comes to stand at it.
+fn draw_one<R: Wait>(rt: &R, word: &Word, seat: &mut Seat, number: u64)
+    requires word { seat.old.word ≡ word.now.name }
+    requires limit { number + 1 < 2 ^ 63 }
+    ensures { seat.new ≡ record { word = seat.old.word; draws = seat.old.draws ++ number ∷ []; counter = number + 1 } }
+{
+    word.draw_at(rt, seat, number, 1);
+}
+
+/// Shows a pass's reader of a shard all entries that are published. A view is left before.
+fn see_shard_in<R: Wait>(
+    rt: &R,
+    writer: &mut Writer<Entry, ShardState>,
+    slot: &mut Slot<Entry, ShardState>,
+)
+    requires { slot.old.hub ≡ writer.old.hub }
+    ensures writer { writer.new ≡ writer.old }
+    ensures slot { slot.new ≡ record slot.old { known = writer.old.published; shown = None } }
+    ensures grown { IsPrefix slot.old.known writer.old.published }
+{
+    writer.confirm_note(rt, &slot.tell());
+    slot.learn(writer.tell());
+}

@@ -1,0 +1,2 @@
+//! What a shard's state holds.
+pub(crate) mod entity_at;

@@ -1,0 +1,83 @@
+//! The store.
+ghost use Rattle.std.specs.Prelude.{◌≤◌, length};
+ghost use Rattle.std.specs.Sync.Mutex.{mutex_guard_value};
+
+use crate::desk::{JournalDesk, Words};
+use crate::names::Names;
+use crate::shard_desk::ShardDesk;
+use ds_draw::Seat;
+use ds_indexdef::Defs;
+use std::alloc::Global;
+use std::marker::Model;
+use std::sync::{Condvar, Mutex, MutexGuard, Wait};
+use std::thread;
+use std::time::Duration;
+
+/// A running store, which any number of threads share. Contracts see how many shards it has, and how many passes were made with it.
+#[derive(Drop)]
+pub struct Store<J: Names, H: Wait + Drop> {
+    pub(crate) journal: Mutex<JournalDesk<J, H>>,
+    pub(crate) shards: Vec<Mutex<ShardDesk<J, H>>>,
+    pub(crate) words: Words<J>,
+    pub(crate) definitions: Defs,
+    pub(crate) window: u64,
+    pub(crate) passes: u32,
+    /// Room for the seats of all passes and of the keeper, so that a close wants no memory.
+    pub(crate) commit_seats: Vec<Seat>,
+    pub(crate) id_seats: Vec<Seat>,
+    /// Tells of commits, whose entries wait to be applied.
+    pub(crate) changed: Condvar,
+    pub(crate) alloc: Global,
+}
+
+impl<J: Names, H: Wait + Drop> Model for Store<J, H> {
+    ghost use Rattle.std.specs.Prelude.{◌≡◌, ◌+◌, ◌≤◌, ◌<◌, [], length};
+    ghost use Rattle.std.specs.Vec.{vec_capacity};
+    ghost use Rattle.ds_store.specs.Passes.{StoreParts};
+
+    ghost Value = { StoreParts };
+
+    ghost view = { λ s. record { shards = length s.shards.items; passes = s.passes } };
+
+    ghost invariant = { λ s. (length s.shards.items ≡ length J.shards) × ((1 ≤ length J.shards) × (length J.shards ≤ 16))
+        × (s.definitions ≡ J.definitions) × (s.window ≡ J.window) × ((1 ≤ J.window) × (J.window ≤ 65536))
+        × ((s.words.commits.seats ≡ s.passes + 1) × (s.words.ids.seats ≡ s.passes + 1))
+        × ((s.commit_seats.items ≡ []) × (s.passes < vec_capacity s.commit_seats))
+        × ((s.id_seats.items ≡ []) × (s.passes < vec_capacity s.id_seats)) };
+}
+
+impl<J: Names, H: Wait + Drop> Store<J, H> {
+    /// The journal's lock, once the journal has at least so many commits, which it has at once.
+    pub(crate) fn lock_at<'a, R: Wait>(
+        &'a self,
+        rt: &R,
+        place: u64,
+    ) -> MutexGuard<'a, JournalDesk<J, H>>
+        ensures { place ≤ length (mutex_guard_value result).book.journal }
+    {
+        for _ in rt.forever() {
+            let desk = self.journal.lock(rt);
+            if desk.len() >= place {
+                return desk;
+            }
+            thread::yield_now();
+        }
+        unreachable!()
+    }
+
+    /// How often the store told of commits so far. Who looks for entries to apply reads it before, and waits by it where there are none:
+    /// then no commit is missed. No clause says so, since any thread may commit at any time.
+    pub fn changes(&self) -> u64 {
+        self.changed.notifications()
+    }
+
+    /// Sleeps until the store has told more than `seen` times, and no longer than a second.
+    pub fn await_change<R: Wait>(&self, rt: &R, seen: u64) {
+        self.changed.sleep(rt, seen, Duration::from_secs(1));
+    }
+
+    /// Wakes all threads that sleep in `await_change`.
+    pub fn wake_all(&self) {
+        self.changed.notify_all();
+    }
+}

@@ -1,0 +1,213 @@
+//! Queries with an ancestor.
+ghost use Rattle.std.specs.Prelude.{◌≡◌, ◌+◌, ◌≤◌, ◌<◌, ◌∷◌, [], All, None, Some, IfOk, IfErr, IfSome, OnErr, OnOk, length};
+ghost use Rattle.std.specs.Option.{option_copied};
+ghost use Rattle.ds_base.specs.Keys.{KeyParts, root_of};
+ghost use Rattle.ds_log.specs.Shards.{shard_of};
+ghost use Rattle.ds_model.specs.Sessions.{list_of};
+ghost use Rattle.ds_query.specs.Lawful.{IsLawfulNormal, SuitsSeveral};
+ghost use Rattle.ds_states.specs.Groups.{IsGroupFound, look_ups_of};
+ghost use Rattle.ds_states.specs.Plans.{ArePlansFor, first_missing};
+ghost use Rattle.ds_states.specs.Searches.{ancestor_of, look_ups, most_of, search_bound};
+ghost use Rattle.ds_states.specs.Snapshots.{snapshot_of};
+ghost use Rattle.ds_store.specs.Answered.{IsExpired, WhereExpired};
+ghost use Rattle.ds_store.specs.Passes.{HasRead};
+ghost use Rattle.ds_store.specs.Strong.{IsFoundInGroup, WhereGone, WhereMissing};
+
+use crate::answers::{Expired, GetRefused, StrongRefused};
+use crate::names::Names;
+use crate::pass::Pass;
+use crate::store::Store;
+use ds_base::{Key, NoMemory, Seen};
+use ds_engine::EngineRefused;
+use ds_indexdef::Defs;
+use ds_io::Steps;
+use ds_planner::ScanPlan;
+use ds_query::{Branch, Normal, Window};
+use ds_states::{Answer, GroupFound, plans_of, query_slot};
+use std::alloc::Global;
+use std::sync::Wait;
+use std::sync::ledger::Ledger;
+
+impl<J: Names, H: Wait + Drop> Store<J, H> {
+    /// What a query with an ancestor finds in the ancestor's group. It stands where a get of the group would, and is `Expired` just as
+    /// one. The steps are within the bounds of all branches over that shard, and one for each entity that is given. `MissingIndex` comes
+    /// exactly where a branch has no plan, and tells what the first such branch misses. Else a refusal is want of memory, or that the
+    /// shard's hub has ended.
+    pub fn strong_query<R: Wait, L: Ledger>(
+        &self,
+        rt: &R,
+        pass: &mut Pass<J>,
+        normal: &Normal,
+        window: &Window,
+        at: Option<u64>,
+        steps: &mut Steps<L>,
+    ) -> Result<Answer, StrongRefused>
+        requires lawful { IsLawfulNormal normal.now }
+        requires placeless { SuitsSeveral normal.now.several window.now }
+        requires at { IfSome at (λ place. place ≤ pass.old.place) }
+        ensures found { (ancestor : KeyParts) → ancestor_of normal.now.branches ≡ Some ancestor → IfOk result
+            (λ a. IsFoundInGroup self.now.shards pass.old pass.new (root_of ancestor) at normal.now window.now a.results a.next a.seen
+            a.beside) }
+        ensures served { OnOk result (first_missing J.definitions normal.now.branches ≡ None) }
+        ensures missing { IfErr result (WhereMissing (λ m. first_missing J.definitions normal.now.branches ≡ Some m)) }
+        ensures expired { (ancestor : KeyParts) → ancestor_of normal.now.branches ≡ Some ancestor → IfErr result (WhereGone
+            (λ x. IsExpired self.now.shards J.window pass.old pass.new (root_of ancestor) at x.snapshot x.applied x.commit)) }
+        ensures steps_bounded { (ancestor : KeyParts) → ancestor_of normal.now.branches ≡ Some ancestor
+            → IfOk result (λ a. All (λ q. steps.new ≤ (steps.old
+            + search_bound normal.now window.now (most_of normal.now window.now)
+            (snapshot_of J.definitions J.window (list_of pass.new.lists (shard_of (root_of ancestor) self.now.shards)) a.beside ∷ []))
+            + look_ups q.select (length a.results)) normal.now.branches) }
+        ensures read { OnErr result (HasRead pass.old pass.new) }
+    {
+        let plans = plans_of(self.alloc, normal.branches.as_slice(), &self.definitions)?;
+        Ok(self.strong_query_planned(rt, pass, normal, window, plans.as_slice(), at, steps)?)
+    }
+
+    /// The same by plans that are made already: for each branch one that answers it under the store's definitions and has no scan too many.
+    pub fn strong_query_planned<R: Wait, L: Ledger>(
+        &self,
+        rt: &R,
+        pass: &mut Pass<J>,
+        normal: &Normal,
+        window: &Window,
+        plans: &[ScanPlan],
+        at: Option<u64>,
+        steps: &mut Steps<L>,
+    ) -> Result<Answer, GetRefused>
+        requires lawful { IsLawfulNormal normal.now }
+        requires placeless { SuitsSeveral normal.now.several window.now }
+        requires plans { ArePlansFor J.definitions normal.now.branches plans.now }
+        requires at { IfSome at (λ place. place ≤ pass.old.place) }
+        ensures found { (ancestor : KeyParts) → ancestor_of normal.now.branches ≡ Some ancestor → IfOk result
+            (λ a. IsFoundInGroup self.now.shards pass.old pass.new (root_of ancestor) at normal.now window.now a.results a.next a.seen
+            a.beside) }
+        ensures expired { (ancestor : KeyParts) → ancestor_of normal.now.branches ≡ Some ancestor → IfErr result (λ e. WhereExpired
+            (λ x. IsExpired self.now.shards J.window pass.old pass.new (root_of ancestor) at x.snapshot x.applied x.commit) e) }
+        ensures steps_bounded { (ancestor : KeyParts) → ancestor_of normal.now.branches ≡ Some ancestor
+            → IfOk result (λ a. All (λ q. steps.new ≤ (steps.old
+            + search_bound normal.now window.now (most_of normal.now window.now)
+            (snapshot_of J.definitions J.window (list_of pass.new.lists (shard_of (root_of ancestor) self.now.shards)) a.beside ∷ []))
+            + look_ups q.select (length a.results)) normal.now.branches) }
+        ensures read { OnErr result (HasRead pass.old pass.new) }
+    {
+        let Some(ancestor) = ancestor_of(normal.branches.as_slice()) else {
+            return Err(GetRefused::NoMemory);
+        };
+        // For the proof alone: the call tells that a path has an element.
+        let _elems = ancestor.elems();
+        let shard = self.shard_of_key(ancestor)?;
+        let stand = self.stand(rt, pass, shard, at)?;
+        let found = pass.query_in(
+            self.alloc,
+            shard as usize,
+            &self.definitions,
+            self.window,
+            stand.entries,
+            normal,
+            window,
+            plans,
+            steps,
+        )?;
+        match found {
+            GroupFound::There(found) => Ok(Answer {
+                results: found.results,
+                next: found.next,
+                seen: Seen::Place(stand.place),
+                beside: stand.entries,
+            }),
+            GroupFound::Gone { applied, commit } => {
+                pass.stand(commit);
+                if at.is_none() {
+                    // It never comes: the shard was entered before anything above the place was published.
+                    return Err(GetRefused::NoMemory);
+                }
+                Err(GetRefused::Expired(Expired {
+                    snapshot: stand.entries,
+                    applied,
+                    commit,
+                }))
+            }
+        }
+    }
+}
+
+/// The ancestor of a query, which all its branches have.
+fn ancestor_of(branches: &[Branch]) -> Option<&Key>
+    ensures { option_copied result ≡ ancestor_of branches.now }
+{
+    match branches {
+        [] => None,
+        [first, ..] => first.ancestor.as_ref(),
+    }
+}
+
+impl<J: Names> Pass<J> {
+    /// Answers a query with an ancestor in the shard that was entered, at the stamp of so many entries, and leaves.
+    fn query_in<L: Ledger>(
+        &mut self,
+        alloc: Global,
+        shard: usize,
+        defs: &Defs,
+        kept: u64,
+        entries: u64,
+        normal: &Normal,
+        window: &Window,
+        plans: &[ScanPlan],
+        steps: &mut Steps<L>,
+    ) -> Result<GroupFound, NoMemory>
+        requires lawful { IsLawfulNormal normal.now }
+        requires placeless { SuitsSeveral normal.now.several window.now }
+        requires plans { ArePlansFor J.definitions normal.now.branches plans.now }
+        requires definitions { defs.now ≡ J.definitions }
+        requires kept { (kept ≡ J.window) × (1 ≤ J.window) }
+        requires shard { shard < length self.old.lists }
+        requires entries { entries ≤ length (list_of self.old.lists shard) }
+        ensures same { self.new ≡ self.old }
+        ensures found { IfOk result (IsGroupFound (list_of self.old.lists shard) J.window entries normal.now window.now) }
+        ensures steps_bounded { IfOk result (λ f. All (λ q. steps.new ≤ (steps.old
+            + search_bound normal.now window.now (most_of normal.now window.now)
+            (snapshot_of J.definitions J.window (list_of self.old.lists shard) entries ∷ []))
+            + look_ups_of q.select f) normal.now.branches) }
+    {
+        let slot = &mut self.shards[shard];
+        let found = query_slot(
+            alloc, slot, defs, kept, entries, normal, window, plans, steps,
+        );
+        slot.leave();
+        found
+    }
+}
+
+impl From<EngineRefused> for StrongRefused {
+    ghost use Rattle.std.specs.Prelude.{◌≡◌};
+    ghost use Rattle.ds_store.specs.Strong.{from_engine};
+
+    ghost from_gives = { λ refused strong. strong ≡ from_engine refused };
+
+    fn from(refused: EngineRefused) -> StrongRefused {
+        match refused {
+            EngineRefused::MissingIndex {
+                constraint,
+                suggestion,
+            } => StrongRefused::MissingIndex {
+                constraint,
+                suggestion,
+            },
+            EngineRefused::NoMemory => StrongRefused::NoMemory,
+        }
+    }
+}
+
+impl From<GetRefused> for StrongRefused {
+    ghost use Rattle.std.specs.Prelude.{◌≡◌};
+    ghost use Rattle.ds_store.specs.Strong.{from_get};
+
+    ghost from_gives = { λ refused strong. strong ≡ from_get refused };
+
+    fn from(refused: GetRefused) -> StrongRefused {
+        match refused {
+            GetRefused::Expired(expired) => StrongRefused::Expired(expired),
+            GetRefused::NoMemory => StrongRefused::NoMemory,
+        }
+    }
+}
