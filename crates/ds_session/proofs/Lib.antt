@@ -1,0 +1,15 @@
+pub mod ClosingLaws
+pub mod CountLaws
+pub mod GrowthLaws
+pub mod IdLaws
+pub mod LineLaws
+pub mod MeetingLaws
+pub mod ReadLaws
+pub mod ReplyLaws
+pub mod RoundLaws
+pub mod SayingLaws
+pub mod SearchLaws
+pub mod SeeingLaws
+pub mod TransactionLaws
+pub mod WriteLaws
+pub mod WrittenLaws
