@@ -1,7 +1,8 @@
 -- What a query with an ancestor tells, of where it stands and what is found there.
-use Rattle.std.proofs.Common.{◌≡◌, ℕ, ◌≤◌, Bool, true, false, List, length, Option, Some, refl, sym, subst}
-use Rattle.std.specs.Prelude.{IsTrue, ◌&&◌, nat_le}
+use Rattle.std.proofs.Common.{◌≡◌, ℕ, ◌≤◌, ◌+◌, Bool, true, false, List, [], ◌∷◌, length, Option, Some, refl, sym, subst, arith}
+use Rattle.std.specs.Prelude.{All, IsTrue, ◌&&◌, nat_le}
 use Rattle.std.proofs.lemmas.Bool.{leb-true}
+use Rattle.std.proofs.lemmas.List.Elements.{All-head}
 use Rattle.ds_base.specs.declared.results.Item.{Item}
 use Rattle.ds_base.specs.declared.results.Seen.TheVariants as saw
 use Rattle.ds_base.specs.Keys.{KeyParts, is_elem, is_key, is_namespace, is_path, root_of}
@@ -12,7 +13,9 @@ use Rattle.ds_model.specs.Sessions.{list_of}
 use Rattle.ds_query.specs.declared.branch.Normal.{Normal}
 use Rattle.ds_query.specs.declared.branch.Window.{Window}
 use Rattle.ds_query.specs.declared.row.Place.{Place}
-use Rattle.ds_states.specs.Groups.{FindsInGroup}
+use Rattle.ds_states.specs.Groups.{FindsInGroup, look_ups_of}
+use Rattle.ds_states.specs.declared.group.GroupFound.TheVariants as group
+use Rattle.ds_query.specs.declared.branch.Branch.{Branch}
 use Rattle.ds_states.specs.Searches.{ancestor_of}
 use Rattle.ds_store.specs.Passes.{PassParts}
 use Rattle.ds_store.specs.Standing.{StandsAt}
@@ -55,3 +58,11 @@ strong_in shards shard before p q key ancestor asked m entries n w results next 
       read = group_read shards before q (root_of ancestor) asked m entries there;
       found = found q.journal m shards ancestor some has there.first;
     }
+
+-- where nothing is given, no look-up stands beside the bound of the scans
+pub bounded_gone : (n m applied commit : ℕ) (branches : List Branch) (ancestor : KeyParts) → ancestor_of branches ≡ Some ancestor
+    → All (λ q. m ≤ n + look_ups_of q.select (group.Gone applied commit)) branches → m ≤ n
+bounded_gone n m applied commit [] ancestor is each = absurd (cc (is))
+bounded_gone n m applied commit (q ∷ branches) ancestor is each =
+    let here : m ≤ n + 0 = All-head (λ q. m ≤ n + look_ups_of q.select (group.Gone applied commit)) q branches each in
+    omega (arith, here)

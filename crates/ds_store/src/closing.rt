@@ -11,6 +11,7 @@ use crate::desk::JournalDesk;
 use crate::making::Passes;
 use crate::names::Names;
 use crate::pass::Pass;
+use crate::seat_room::SeatRoom;
 use crate::shard_desk::ShardDesk;
 use crate::store::Store;
 use ds_draw::{Seat, Seats};
@@ -40,12 +41,18 @@ impl<J: Names, H: Wait + Drop> Store<J, H> {
             words,
             definitions: _definitions,
             window: _,
-            passes: _,
-            commit_seats,
-            id_seats,
+            passes: many,
+            seats,
             changed: _changed,
             alloc: _,
         } = self;
+        let room = seats.into_inner();
+        room.is_for(rt, many);
+        let SeatRoom {
+            passes: _,
+            commits: commit_seats,
+            ids: id_seats,
+        } = room;
         let desk = journal.into_inner();
         confirm_journal(rt, &desk, passes.as_slice());
         confirm_shards(rt, &desk, shards, passes.as_slice());
@@ -74,8 +81,7 @@ impl<J: Names, H: Wait + Drop> Store<J, H> {
             definitions: _definitions,
             window: _,
             passes: _,
-            commit_seats: _commit_seats,
-            id_seats: _id_seats,
+            seats: _seats,
             changed: _changed,
             alloc: _,
         } = self;

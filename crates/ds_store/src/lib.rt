@@ -14,6 +14,17 @@
 //! enters its shards, which waits for nobody, and leaves them.
 //!
 //! Begin with `specs/Passes.antt`, what contracts see of a pass and of the store, and with `store`.
+//!
+//! A caller that runs a store, generic in its names `J`:
+//!
+//!     let Made { store, mut passes, .. } = make::<J, _>(alloc, opened)?;     // `open` made `opened`
+//!     let mut pass = passes.pop()?;                                          // one for each caller that runs at once
+//!     let number = store.commit(rt, &mut pass, draft)?;                      // appended, and published
+//!     let got = store.get(rt, &mut pass, &key, None)?;                       // by its shard, with what waits there
+//!     let applied = store.apply_one(rt, &mut pass, shard)?;                  // one entry into the shard's state
+//!     let answer = store.query(&mut pass, &normal, &window, &mut steps)?;    // over what is applied; waits for nobody
+//!     passes.push(pass)?;
+//!     let Closed { journal, next } = store.close(rt, passes);                // needs all passes
 #![tactic(auto)]
 
 mod answers;
@@ -30,6 +41,7 @@ mod opened;
 mod pass;
 mod reading;
 mod searching;
+mod seat_room;
 mod shard_desk;
 mod standing;
 mod states;

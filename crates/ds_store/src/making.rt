@@ -12,6 +12,7 @@ use crate::journal_state::JournalState;
 use crate::names::Names;
 use crate::opened::{Opened, OpenedShard};
 use crate::pass::Pass;
+use crate::seat_room::SeatRoom;
 use crate::shard_desk::ShardDesk;
 use crate::store::Store;
 use ds_base::limits::FIRST_DRAWN_ID;
@@ -85,8 +86,7 @@ pub fn make<J: Names, H: Wait + Drop>(
     let commit_keeper = a_seat(&mut commit_seats)?;
     let id_keeper = a_seat(&mut id_seats)?;
     let shards = shard_desks(alloc, shards, &mut readers)?;
-    let commit_seats = Vec::with_capacity(alloc, passes as usize + 1)?;
-    let id_seats = Vec::with_capacity(alloc, passes as usize + 1)?;
+    let seats = SeatRoom::for_passes(alloc, passes)?;
     let desk = JournalDesk {
         book: Book::make(alloc),
         writer: journal,
@@ -105,8 +105,7 @@ pub fn make<J: Names, H: Wait + Drop>(
         definitions,
         window,
         passes,
-        commit_seats,
-        id_seats,
+        seats: Mutex::new(seats),
         changed: Condvar::new(),
         alloc,
     };

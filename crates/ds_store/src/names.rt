@@ -2,7 +2,7 @@
 use std::marker::Brand;
 
 /// The names of a store's hubs and words, and what its shards begin with. Types that have to agree on them are generic in this; who
-/// opened a store picks them, once all hubs and words are there (`specs/Openings`, `OfOpened`).
+/// opened a store picks them, once all hubs and words are there (`specs/Opening`, `AreNamesOf`).
 pub trait Names {
     ghost use Rattle.std.specs.Prelude.{ℕ, List};
     ghost use Rattle.ds_indexdef.specs.declared.IndexDef.{IndexDef};

@@ -1,11 +1,12 @@
 //! The store.
-ghost use Rattle.std.specs.Prelude.{◌≤◌, length};
+ghost use Rattle.std.specs.Prelude.{◌≡◌, ◌≤◌, length};
 ghost use Rattle.std.specs.Sync.Mutex.{mutex_guard_value};
+ghost use Rattle.ds_base.specs.Limits.{most_shards};
 
 use crate::desk::{JournalDesk, Words};
 use crate::names::Names;
+use crate::seat_room::SeatRoom;
 use crate::shard_desk::ShardDesk;
-use ds_draw::Seat;
 use ds_indexdef::Defs;
 use std::alloc::Global;
 use std::marker::Model;
@@ -22,17 +23,15 @@ pub struct Store<J: Names, H: Wait + Drop> {
     pub(crate) definitions: Defs,
     pub(crate) window: u64,
     pub(crate) passes: u32,
-    /// Room for the seats of all passes and of the keeper, so that a close wants no memory.
-    pub(crate) commit_seats: Vec<Seat>,
-    pub(crate) id_seats: Vec<Seat>,
+    /// Taken by a close alone.
+    pub(crate) seats: Mutex<SeatRoom>,
     /// Tells of commits, whose entries wait to be applied.
     pub(crate) changed: Condvar,
     pub(crate) alloc: Global,
 }
 
 impl<J: Names, H: Wait + Drop> Model for Store<J, H> {
-    ghost use Rattle.std.specs.Prelude.{◌≡◌, ◌+◌, ◌≤◌, ◌<◌, [], length};
-    ghost use Rattle.std.specs.Vec.{vec_capacity};
+    ghost use Rattle.std.specs.Prelude.{◌≡◌, ◌+◌, ◌≤◌, length};
     ghost use Rattle.ds_store.specs.Passes.{StoreParts};
 
     ghost Value = { StoreParts };
@@ -41,9 +40,7 @@ impl<J: Names, H: Wait + Drop> Model for Store<J, H> {
 
     ghost invariant = { λ s. (length s.shards.items ≡ length J.shards) × ((1 ≤ length J.shards) × (length J.shards ≤ 16))
         × (s.definitions ≡ J.definitions) × (s.window ≡ J.window) × ((1 ≤ J.window) × (J.window ≤ 65536))
-        × ((s.words.commits.seats ≡ s.passes + 1) × (s.words.ids.seats ≡ s.passes + 1))
-        × ((s.commit_seats.items ≡ []) × (s.passes < vec_capacity s.commit_seats))
-        × ((s.id_seats.items ≡ []) × (s.passes < vec_capacity s.id_seats)) };
+        × ((s.words.commits.seats ≡ s.passes + 1) × (s.words.ids.seats ≡ s.passes + 1)) };
 }
 
 impl<J: Names, H: Wait + Drop> Store<J, H> {
@@ -63,6 +60,14 @@ impl<J: Names, H: Wait + Drop> Store<J, H> {
             thread::yield_now();
         }
         unreachable!()
+    }
+
+    /// How many shards there are, from 1 to 16. It takes no memory.
+    pub fn shards(&self) -> u32
+        ensures value { result ≡ self.now.shards }
+        ensures within { (1 ≤ self.now.shards) × (self.now.shards ≤ most_shards) }
+    {
+        self.shards.len() as u32
     }
 
     /// How often the store told of commits so far. Who looks for entries to apply reads it before, and waits by it where there are none:

@@ -44,8 +44,6 @@ invariant_of-store-2 g c =
       window,
       (omega (arith, window, c.opened.invariant.3.0), omega (arith, window, c.opened.invariant.3.1)),
       (c.opened.invariant.4.1, c.opened.invariant.5.1),
-      (c.in_ok-commit_seats.ensures.items, omega (arith, c.in_ok-commit_seats.ensures.exact)),
-      (c.in_ok-id_seats.ensures.items, omega (arith, c.in_ok-id_seats.ensures.exact)),
     )
 
 pub returns-clause-store : goal.returns-clause-store

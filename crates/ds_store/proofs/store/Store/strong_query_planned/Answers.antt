@@ -7,11 +7,11 @@ use Rattle.ds_states.specs.Groups.{IsGroupFound, look_ups_of}
 use Rattle.ds_states.specs.Searches.{ancestor_of, look_ups, most_of, search_bound}
 use Rattle.ds_states.specs.Snapshots.{SnapshotParts, snapshot_of}
 use Rattle.ds_store.specs.Answered.{IsExpired}
-use Rattle.ds_store.specs.Passes.{HasRead}
+use Rattle.ds_store.specs.Passes.{HasRead, PassParts}
 use Rattle.ds_store.proofs.Gets.{expired_in}
 use Rattle.ds_store.proofs.PassReads.{on_err}
 use Rattle.ds_store.proofs.Seeing.{HasRead-itself}
-use Rattle.ds_store.proofs.StrongReads.{has_root, strong_in}
+use Rattle.ds_store.proofs.StrongReads.{bounded_gone, has_root, strong_in}
 use Rattle.ds_store.proofs.store.Store.strong_query_planned.Goals as goal
 
 pub returns-in_err-shard-clause-read : goal.returns-in_err-shard-clause-read
@@ -73,6 +73,30 @@ returns-else-is_none-clause-expired g c = λ ancestor is.
     stand.place stand.entries stand.entries c.in-Gone.applied c.in-Gone.commit
     c.in_ok-shard.ensures.is c.query_in.ensures.same c.in_ok-stand.ensures.stands refl gone.applied_is gone.commit_is gone.gone
     (c.is_none.ensures ∙ ap not c.if-is_none.false) c.stand-in-Gone.ensures)
+
+pub returns-else-is_none-clause-steps_gone : goal.returns-else-is_none-clause-steps_gone
+returns-else-is_none-clause-steps_gone g c = λ ancestor is.
+    let seen = c.stand.new.pass in
+    let stand = c.in_ok-stand.stand in
+    let shard = c.in_ok-shard.shard in
+    let shards = c.args.self.now.shards in
+    let key = c.in-Some.ancestor.now in
+    let n = c.args.normal.now in
+    let w = c.args.window.now in
+    let named : key ≡ ancestor = cc (c.in-Some.ensures, c.as_slice.ensures, is) in
+    let there : shard ≡ shard_of (root_of ancestor) shards = c.in_ok-shard.ensures.is
+    ∙ ap (λ (k : KeyParts). shard_of (root_of k) shards) named in
+    let lists : seen.lists ≡ c.stand-in-Gone.new.self.lists =
+    ap (λ (p : PassParts). p.lists) (sym c.query_in.ensures.same) ∙ ap (λ (p : PassParts). p.lists) (sym c.stand-in-Gone.ensures) in
+    let bound = subst (λ f. All (λ q. c.query_in.new.steps ≤ (c.args.steps.now + search_bound n w (most_of n w)
+    (snapshot_of g.J.Names.definitions g.J.Names.window (list_of seen.lists shard) stand.entries ∷ [])) + look_ups_of q.select f)
+    n.branches)
+    c.in-Gone.is c.in_ok-found.ensures.steps_bounded in
+    subst (λ (s : SnapshotParts). c.query_in.new.steps ≤ c.args.steps.now + search_bound n w (most_of n w) (s ∷ []))
+    (λ i. snapshot_of g.J.Names.definitions g.J.Names.window (list_of (lists i) (there i)) stand.entries)
+    (bounded_gone (c.args.steps.now + search_bound n w (most_of n w)
+    (snapshot_of g.J.Names.definitions g.J.Names.window (list_of seen.lists shard) stand.entries ∷ [])) c.query_in.new.steps
+    c.in-Gone.applied c.in-Gone.commit n.branches ancestor is bound)
 
 pub returns-in_default-clause-read : goal.returns-in_default-clause-read
 returns-in_default-clause-read g c = HasRead-itself c.args.pass.now

@@ -1,0 +1,13 @@
+use Rattle.ds_store.specs.Opening.{hubs_of}
+use Rattle.ds_store_tests.proofs.trial.amiss_with.Given as goal
+
+-- the hubs and words that were just opened
+abbrev pub ghosts-ended : goal.ghosts-ended
+ghosts-ended g a = record {
+  journal = a.opened.journal;
+  shards = hubs_of a.opened;
+  commits = a.opened.commits;
+  ids = a.opened.ids;
+  definitions = a.opened.definitions;
+  window = a.opened.window;
+}
