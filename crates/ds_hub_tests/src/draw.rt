@@ -3,8 +3,8 @@ ghost use Rattle.std.specs.Prelude.{◌≡◌, ◌^◌, ◌<◌, ◌++◌, [], I
 ghost use Rattle.ds_draw.specs.Draws.{HasEachOnce};
 
 use crate::numbers::drew_all;
+use crate::opened::{ThreeSeats, three_seats};
 use ds_draw::{Drawn, Seat, Seats, Word, make};
-use ds_locks_tests::{ThreeSeats, three_seats};
 use std::alloc::{AllocError, Global};
 use std::sync::{Mutex, Wait};
 use std::test::Fail;

@@ -1,8 +1,8 @@
 //! One hub by its public calls: two readers beside the writer, notes of the writer and of a reader, and the two forms of absorbing.
 ghost use Rattle.std.specs.Prelude.{◌≡◌, []};
 
+use crate::opened::{Sum, TwoReaders, two_readers};
 use ds_hub::{Absorb, Hub, NoMemory, Reader, Writer, make};
-use ds_locks_tests::{Sum, TwoReaders, two_readers};
 use std::sync::Wait;
 use std::test::Fail;
 use std::thread::{Threads, join};
@@ -44,7 +44,7 @@ fn watch(mut reader: Reader<u64, Sum>) -> Watcher {
 }
 
 // The reader after it saw what is published, with the sum of that.
-fn look(reader: Reader<u64, Sum>) -> (Reader<u64, Sum>, Option<u64>) {
+pub(crate) fn look(reader: Reader<u64, Sum>) -> (Reader<u64, Sum>, Option<u64>) {
     match reader.enter() {
         Ok(view) => {
             let sum = view.state().0;

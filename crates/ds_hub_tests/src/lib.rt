@@ -1,7 +1,8 @@
-//! Tests of hubs, of drawn numbers and of the small store under locks, by their public calls alone. They stand above these
-//! crates, so that each is proved without its tests. There is no code but tests.
+//! Tests of hubs and of drawn numbers, by their public calls alone. They stand above these crates, so that each is proved without
+//! its tests. There is no code but tests.
 //!
-//! One module for each, named for what it holds; begin with `store`.
+//! `hub` has one hub with its readers, `slots` the lists of readers and slots and what a journal's hub needs, and `draw` the drawn
+//! numbers; `opened` makes what they try.
 #![tactic(auto)]
 
 #[cfg(test)]
@@ -11,4 +12,6 @@ mod hub;
 #[cfg(test)]
 mod numbers;
 #[cfg(test)]
-mod store;
+mod opened;
+#[cfg(test)]
+mod slots;

@@ -1,6 +1,6 @@
 use Rattle.std.proofs.Common.{◌≡◌, sym, refl, subst, ap}
-use Rattle.ds_locks_tests.proofs.Popped.{IsAll, popped}
-use Rattle.ds_locks_tests.proofs.opened.two_readers.Goals as goal
+use Rattle.ds_hub_tests.proofs.Popped.{IsAll, popped}
+use Rattle.ds_hub_tests.proofs.opened.two_readers.Goals as goal
 
 pub invariant_of-result : goal.invariant_of-result
 invariant_of-result g c =
