@@ -1,7 +1,13 @@
 pub mod Answering
+pub mod AskedLines
+pub mod Clients
+pub mod Committing
 pub mod Refusing
 pub mod Replying
+pub mod Room
 pub mod Runs
 pub mod Sessions
 pub mod Standing
+pub mod Steps
 pub mod Touched
+pub mod Unsent

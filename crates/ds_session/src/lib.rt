@@ -1,10 +1,40 @@
-//! Clients' sessions over the running store: definitions and laws; no running code yet.
+//! Clients' sessions over the running store, and rounds of all clients at once.
 //!
-//! `specs/` has what a session is to contracts (`Sessions`), what an answered line leaves (`Answering`, `Replying`, `Refusing`), where a strong
-//! read is asked for (`Standing`), and what rounds leave of all sessions (`Runs`).
+//! A `Session` is a client's: what it has seen, its transaction, and its replies, over a pass of the store. `Session::answer` answers one line by
+//! one call of the store. `Sessions` are those of all clients; `run_round` lets them meet and answers the lines of a round, the clients at once,
+//! and `write_round` writes their replies.
 //!
-//! `proofs/` has the laws that lead from there to a legal run. `GrowthLaws`: what a pass has seen begins what it sees later. `SeeingLaws`: a
-//! client stays within its pass. One law a kind of request, from the store's clause to the reply: `WriteLaws`, `IdLaws`, `ReadLaws`,
-//! `CountLaws`, `TransactionLaws`, `SearchLaws`, with `SayingLaws` and `WrittenLaws` below them. `LineLaws`: lines of one client, one after
-//! another. `MeetingLaws` and `RoundLaws`: rounds. `ClosingLaws`: the legal run, once the store has ended.
+//! Begin with `session`; `state` holds a client's parts, and `answering` says what answers a request. `asked` reads a round's lines by client,
+//! `clients` does with each client what a round asks, `rounds` and `output` do it with all.
+//!
+//! `specs/` has what a session is to contracts (`Sessions`), what an answered line leaves (`Answering`, `Replying`, `Refusing`), where a
+//! strong read is asked for (`Standing`), and what rounds leave of all sessions (`Runs`).
+//!
+//! `proofs/` has the laws that lead from there to a legal run. `GrowthLaws`: what a pass has seen begins what it sees later.
+//! `SeeingLaws`: a client stays within its pass. One law a kind of request, from the store's clause to the reply: `WriteLaws`, `IdLaws`,
+//! `ReadLaws`, `CountLaws`, `TransactionLaws`, `SearchLaws`, with `SayingLaws` and `WrittenLaws` below them. `LineLaws`: lines of one
+//! client, one after another. `MeetingLaws` and `RoundLaws`: rounds. `ClosingLaws`: the legal run, once the store has ended.
 #![tactic(auto)]
+
+mod answering;
+mod asked;
+mod clients;
+mod counting;
+mod drawing;
+mod output;
+mod reads;
+mod refusing;
+mod rounds;
+mod searches;
+mod session;
+mod state;
+mod transactions;
+mod unsent;
+mod writes;
+mod writes_inside;
+
+pub use ds_rounds::{Lines, Round, RoundRefused, Rounds};
+pub use output::write_round;
+pub use rounds::{Sessions, run_round};
+pub use session::Session;
+pub use unsent::Unsent;

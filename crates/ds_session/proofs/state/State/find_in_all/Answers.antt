@@ -1,0 +1,68 @@
+use Rattle.std.proofs.Common.{◌≡◌, List, ◌++◌, refl, ap, sym, ◌∙◌, subst}
+use Rattle.std.specs.Prelude.{is_some}
+use Rattle.ds_reply.specs.declared.reply.Body.{Body}
+use Rattle.ds_reply.specs.Replies.{reply_text}
+use Rattle.ds_protocol.specs.Preparing.{IsReady}
+use Rattle.ds_protocol.specs.Searches.{search_parts}
+use Rattle.ds_session.specs.Sessions.{SessionParts}
+use Rattle.ds_session.specs.Steps.{shards_read}
+use Rattle.ds_session.proofs.FoundLaws.{counted_said, counts_told, found_steps_from}
+use Rattle.ds_session.proofs.StateLaws.{later_from, none_from, told_from, within_parts, within_read}
+use Rattle.ds_session.proofs.state.State.find_in_all.Goals as goal
+
+pub say_no_memory-requires-clause-within : goal.say_no_memory-requires-clause-within
+say_no_memory-requires-clause-within g c = within_read _ _ _ c.self.view_is c.requires.within c.in_default.ensures.read
+
+pub returns-in_default-clause-replied : goal.returns-in_default-clause-replied
+returns-in_default-clause-replied g c = λ call is.
+    later_from _ _ _ _ _ _ c.self.view_is _ _ _ _ refl refl refl c.in_default.ensures.read (c.say_no_memory.ensures.replied _ _)
+
+pub say_no_memory-requires-in_default-counted_body-clause-within : goal.say_no_memory-requires-in_default-counted_body-clause-within
+say_no_memory-requires-in_default-counted_body-clause-within g c =
+    within_read _ _ _ c.self.view_is c.requires.within c.in-Ok.ensures.counted.read
+
+pub returns-in_default-counted_body-clause-replied : goal.returns-in_default-counted_body-clause-replied
+returns-in_default-counted_body-clause-replied g c = λ call is.
+    later_from _ _ _ _ _ _ c.self.view_is _ _ _ _ refl refl refl c.in-Ok.ensures.counted.read
+    (c.say_no_memory-in_default-counted_body.ensures.replied _ _)
+
+pub returns-then-not-tell-clause-replied : goal.returns-then-not-tell-clause-replied
+returns-then-not-tell-clause-replied g c = λ call is.
+    none_from _ _ _ _ _ _ c.self.view_is _ _ _ c.requires.within refl refl c.in-Ok.ensures.counted.read
+    (c.tell.ensures.untold c.if-not-tell.true) c.tell.ensures.kept
+
+pub returns-clause-replied : goal.returns-clause-replied
+returns-clause-replied g c = λ call is.
+    let answer = c.in-Ok.answer in
+    let counts = c.in-Ok-counted_body.counted.counts in
+    let ready = subst (λ (v : SessionParts). IsReady g.J.Names.definitions (is_some v.seen.transaction) (search_parts c.args.search.now)
+    c.args.ready.normal c.args.ready.window) (sym c.self.view_is) c.requires.ready in
+    told_from _ _ _ _ _ _ c.self.view_is _ _ _ _ _
+    (counted_said g.J.Names.definitions c.args.store.now.shards g.J.Names.window c.args.number
+    (record { client = c.args.self.now.client; call = call }) c.args.search.now is _ c.args.ready.normal c.args.ready.window ready
+    c.requires.lawful c.self.inside.pass c.query-asked.new.pass answer.results answer.next answer.seen answer.beside counts
+    (within_parts _ _ c.self.view_is c.requires.within) c.requires.everywhere c.in-Ok.ensures.counted c.in-Ok-counted_body.ensures.counts
+    c.in-Ok.ensures.found)
+    (counts_told c.self.inside.pass c.query-asked.new.pass answer.seen answer.beside c.in-Ok-counted_body.counted.commit counts
+    c.as_slice-2.result.now c.self.inside.transaction.transaction c.self.inside.seen c.see_counts.new.self c.in-Ok.ensures.counted
+    c.in-Ok-counted_body.ensures.counts c.in-Ok-counted_body.ensures.commit c.as_slice-2.ensures c.see_counts.ensures.saw)
+    refl
+    (c.tell.ensures.told c.if-not-tell.false ∙ ap (λ b. c.self.inside.text.bytes ++ reply_text (record {
+      client = c.self.inside.client;
+      line = c.args.number;
+      body = b;
+    })) c.in-Ok-counted_body.ensures.body) c.tell.ensures.kept
+
+pub returns-clause-steps : goal.returns-clause-steps
+returns-clause-steps g c = λ call is.
+    let answer = c.in-Ok.answer in
+    found_steps_from g.J.Names.definitions c.args.store.now.shards g.J.Names.window c.args.number
+    (record { client = c.args.self.now.client; call = call }) c.args.search.now is c.args.self.now.seen c.args.ready.normal
+    c.args.ready.window c.requires.ready c.requires.lawful _ _ _ c.self.view_is _ _ answer.results answer.seen _ _
+    (ap (λ o. shards_read g.J.Names.definitions g.J.Names.window c.args.store.now.shards c.query-asked.new.pass o answer.seen)
+    c.requires.everywhere)
+    (c.tell.ensures.told c.if-not-tell.false ∙ ap (λ b. c.self.inside.text.bytes ++ reply_text (record {
+      client = c.self.inside.client;
+      line = c.args.number;
+      body = b;
+    })) c.in-Ok-counted_body.ensures.body) c.in-Ok.ensures.steps_bounded

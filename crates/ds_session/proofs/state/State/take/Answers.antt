@@ -1,0 +1,77 @@
+use Rattle.std.proofs.Common.{◌≡◌, List, ◌++◌, refl, ap, sym, ◌∙◌, subst, None}
+use Rattle.std.specs.Prelude.{IsTrue, is_some}
+use Rattle.ds_base.specs.declared.key.Elem.{Elem}
+use Rattle.ds_base.specs.Keys.{KeyParts, root_of}
+use Rattle.ds_log.specs.Ids.{first_unissued}
+use Rattle.ds_log.specs.Logs.{key_of}
+use Rattle.ds_reply.specs.declared.reply.Body.{Body}
+use Rattle.ds_reply.specs.declared.reply.WriteAt.TheVariants as at
+use Rattle.ds_reply.specs.Replies.{reply_text}
+use Rattle.ds_model.specs.Groups.{with_transaction}
+use Rattle.ds_model.specs.Sessions.{next_above}
+use Rattle.ds_protocol.specs.Transactions.{MayWrite}
+use Rattle.ds_session.specs.Replying.{write_call, written_body}
+use Rattle.ds_session.specs.Sessions.{SessionParts}
+use Rattle.ds_session.proofs.GrowthLaws.{read_itself}
+use Rattle.ds_session.proofs.InsideLaws.{may_write, stood, taken_seen, write_taken}
+use Rattle.ds_session.proofs.StandingLaws.{within_same}
+use Rattle.ds_session.proofs.StateLaws.{later_from, none_from, told_from, unrefused_parts, within_parts}
+use Rattle.ds_session.proofs.state.State.take.Goals as goal
+
+pub say_no_memory-requires-in_default-body_of-clause-within : goal.say_no_memory-requires-in_default-body_of-clause-within
+say_no_memory-requires-in_default-body_of-clause-within g c =
+    within_same c.self.inside.transaction.transaction c.group_with_room.new.transaction.transaction c.self.inside.seen c.self.inside.pass
+    c.touch_place-at.new.pass c.group_with_room.ensures.same c.touch_place-at.ensures.read
+    (within_parts _ _ c.self.view_is c.requires.within)
+
+pub returns-in_default-body_of : goal.returns-in_default-body_of
+returns-in_default-body_of g c =
+    later_from _ _ _ _ _ _ c.self.view_is _ _ _ _ refl
+    (ap (λ o. with_transaction o c.self.inside.seen) c.group_with_room.ensures.same) refl c.touch_place-at.ensures.read
+    (c.say_no_memory-in_default-body_of.ensures.replied _ _)
+
+pub returns-then-not-tell : goal.returns-then-not-tell
+returns-then-not-tell g c =
+    none_from _ _ _ _ _ _ c.self.view_is _ _ _ c.requires.within refl
+    (ap (λ o. with_transaction o c.self.inside.seen) c.group_with_room.ensures.same) c.touch_place-at.ensures.read
+    (c.tell.ensures.untold c.if-not-tell.true) c.tell.ensures.kept
+
+pub write-requires-clause-allowed : goal.write-requires-clause-allowed
+write-requires-clause-allowed g c =
+    let named = c.in-Ok.ensures.group ∙ ap (λ (k : KeyParts). root_of k) c.key.ensures in
+    let unrefused = unrefused_parts g.J.Names.definitions _ _ (write_call c.args.write) c.self.view_is c.requires.unrefused in
+    let inside = subst (λ (v : SessionParts). IsTrue (is_some v.seen.transaction)) (sym c.self.view_is) c.requires.inside in
+    subst (λ o. MayWrite o c.in-Ok.group) (sym c.group_with_room.ensures.same)
+    (subst (λ k. MayWrite c.self.inside.transaction.transaction k) (sym named)
+    (may_write g.J.Names.definitions (with_transaction c.self.inside.transaction.transaction c.self.inside.seen) c.args.write inside
+    unrefused))
+
+pub returns : goal.returns
+returns g c =
+    let seen = with_transaction c.self.inside.transaction.transaction c.self.inside.seen in
+    let named = c.in-Ok.ensures.group ∙ ap (λ (k : KeyParts). root_of k) c.key.ensures in
+    let within = within_parts _ _ c.self.view_is c.requires.within in
+    let unrefused = unrefused_parts g.J.Names.definitions _ _ (write_call c.args.write) c.self.view_is c.requires.unrefused in
+    let inside = subst (λ (v : SessionParts). IsTrue (is_some v.seen.transaction)) (sym c.self.view_is) c.requires.inside in
+    let issued = subst (λ (v : SessionParts). first_unissued v.pass.next (key_of c.args.write).elems ≡ None) (sym c.self.view_is)
+    c.requires.issued in
+    let asked = c.touch_place-at.ensures.stands c.self.inside.seen (within_same c.self.inside.transaction.transaction
+    c.group_with_room.new.transaction.transaction c.self.inside.seen c.self.inside.pass c.self.inside.pass
+    c.group_with_room.ensures.same (read_itself _) within) in
+    let may = stood c.touch_place-at.result c.in-Some.place c.self.inside.transaction.transaction
+    c.group_with_room.new.transaction.transaction c.self.inside.seen c.touch_place-at.new.pass c.in-Ok.group
+    (root_of (key_of c.args.write)) c.in-Some.is c.group_with_room.ensures.same named asked in
+    let above = c.next_above-next.ensures ∙ ap (λ (es : List Elem). next_above es)
+    (c.as_slice.ensures ∙ c.elems.ensures.value ∙ ap (λ (k : KeyParts). k.elems) c.key-2.ensures) in
+    told_from _ _ _ _ _ _ c.self.view_is _ _ _ (written_body c.args.write (at.Place c.in-Some.place)) _
+    (write_taken g.J.Names.definitions c.args.store.now.shards _ _ seen c.self.inside.pass c.touch_place-at.new.pass c.args.write
+    c.in-Some.place inside within unrefused issued c.touch_place-at.ensures.read may)
+    (taken_seen c.args.write c.in-Ok.group c.in-Some.place c.next_above-next.result c.self.inside.seen c.see_place.new.self
+    c.see_next.new.self c.self.inside.transaction.transaction c.group_with_room.new.transaction.transaction
+    c.write.new.self.transaction named c.group_with_room.ensures.same c.write.ensures c.see_place.ensures above c.see_next.ensures)
+    refl
+    (c.tell.ensures.told c.if-not-tell.false ∙ ap (λ b. c.self.inside.text.bytes ++ reply_text (record {
+      client = c.self.inside.client;
+      line = c.args.number;
+      body = b;
+    })) c.in-Ok-body_of.ensures) c.tell.ensures.kept

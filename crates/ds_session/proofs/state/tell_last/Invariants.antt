@@ -1,0 +1,6 @@
+use Rattle.std.proofs.Common.{◌≡◌}
+use Rattle.ds_session.proofs.state.tell_last.Given as goal
+
+-- nothing is written yet
+abbrev pub invariant-loop : goal.invariant-loop
+invariant-loop g l = l.text.bytes ≡ l.fn.text.bytes

@@ -1,0 +1,105 @@
+//! A round's requests, by client.
+ghost use Rattle.std.specs.Prelude.{◌≡◌, ◌+◌, ◌≤◌, ◌<◌, [], Some, length, replicate, slice_get, vec_len, IfOk, OnOk};
+ghost use Rattle.ds_base.specs.Limits.{greatest_client};
+ghost use Rattle.ds_rounds.specs.Lines.{IsWithinLimit, handed};
+ghost use Rattle.ds_rounds.specs.Rounds.{lines_of_round};
+ghost use Rattle.ds_rounds.specs.Reading.{IsRound};
+ghost use Rattle.ds_session.specs.AskedLines.{AreAskedBy, Asks, with_asked};
+
+use ds_base::Sequence;
+use ds_base::limits::MAX_CLIENT;
+use ds_protocol::ask;
+use ds_reply::Body;
+use ds_request::Request;
+use ds_rounds::{Line, Lines, Round};
+use std::alloc::{AllocError, Global};
+
+/// What a line asks, or what its reply says instead.
+#[derive(Drop)]
+pub(crate) struct Asked {
+    /// Whose line it is.
+    pub client: u32,
+    /// The line's number, counted from 1 through the whole input.
+    pub number: u64,
+    pub request: Result<Request, Body>,
+}
+
+/// What the lines of a round ask, one list for each client from 0 on, each in the order of the lines. Every line is read once.
+/// A refusal is want of memory: whose line it was isn't known then.
+pub(crate) fn asked_by_client(
+    alloc: Global,
+    shards: u32,
+    round: &Round,
+) -> Result<Vec<Sequence<Asked>>, AllocError>
+    requires { IsRound round.now }
+    ensures { IfOk result (λ lists. AreAskedBy shards (lines_of_round round.now) lists.items) }
+{
+    let mut lists = empty_lists(alloc)?;
+    for i in 0..round.lines.len() {
+        let number = round.first + i as u64;
+        let asked = asked_line(alloc, shards, number, line_at(&round.lines, i))?;
+        put(&mut lists, asked)?;
+    }
+    Ok(lists)
+}
+
+/// An empty list for each client.
+fn empty_lists(alloc: Global) -> Result<Vec<Sequence<Asked>>, AllocError>
+    ensures { IfOk result (λ lists. lists.items ≡ replicate (greatest_client + 1) []) }
+{
+    let mut lists = Vec::with_capacity(alloc, MAX_CLIENT as usize + 1)?;
+    'fill: for _client in 0..MAX_CLIENT + 1 {
+        lists.push(Sequence::new(alloc))?;
+    }
+    Ok(lists)
+}
+
+/// Puts what a line asks behind what its client asks already. A refusal is want of memory.
+fn put(lists: &mut Vec<Sequence<Asked>>, asked: Asked) -> Result<(), AllocError>
+    requires { asked.client < vec_len lists.old }
+    ensures { OnOk result (lists.new.items ≡ with_asked lists.old.items asked.client asked) }
+{
+    match lists[asked.client as usize].push(asked) {
+        Ok(()) => Ok(()),
+        Err(_) => Err(AllocError),
+    }
+}
+
+/// What one line asks. A refusal is want of memory.
+pub(crate) fn asked_line(
+    alloc: Global,
+    shards: u32,
+    number: u64,
+    line: Line<'_>,
+) -> Result<Asked, AllocError>
+    requires { IsWithinLimit line }
+    ensures { IfOk result (λ a. Asks shards (record { number = number; content = handed line.entry }) a) }
+{
+    match ask(alloc, shards, line) {
+        Ok(request) => Ok(Asked {
+            client: request.client,
+            number,
+            request: Ok(request),
+        }),
+        Err(refused) => match refused.body {
+            Body::NoMemory => Err(AllocError),
+            body => Ok(Asked {
+                client: refused.client,
+                number,
+                request: Err(body),
+            }),
+        },
+    }
+}
+
+/// The line at a place.
+fn line_at(lines: &Lines, i: usize) -> Line<'_>
+    requires { i < length lines.now }
+    ensures line { slice_get lines.now i ≡ Some (handed result) }
+    ensures within { IsWithinLimit result }
+{
+    match lines.get(i) {
+        Some(line) => line,
+        None => unreachable!(),
+    }
+}

@@ -1,0 +1,415 @@
+//! Queries and statements.
+ghost use Rattle.std.specs.Prelude.{◌≡◌, ℕ, ◌+◌, ◌≤◌, All, Bool, List, None, Option, Some, length, is_some, IfOk, OnErr};
+ghost use Rattle.std.specs.Option.{option_copied, option_map};
+ghost use Rattle.ds_base.specs.declared.results.Item.{Item};
+ghost use Rattle.ds_base.specs.declared.results.Seen.{Seen};
+ghost use Rattle.ds_base.specs.Keys.{root_of};
+ghost use Rattle.ds_log.specs.Shards.{shard_of};
+ghost use Rattle.ds_model.specs.Answers.{cursor_of};
+ghost use Rattle.ds_model.specs.Groups.{group_refusal};
+ghost use Rattle.ds_protocol.specs.Finishing.{found};
+ghost use Rattle.ds_protocol.specs.Preparing.{ArePlansFor, IsReady};
+ghost use Rattle.ds_protocol.specs.Saying.{no_memory_reply};
+ghost use Rattle.ds_protocol.specs.Searches.{IsLawfulSearch, IsSearchOf, search_parts};
+ghost use Rattle.ds_query.specs.Lawful.{IsLawfulNormal, SuitsSeveral};
+ghost use Rattle.ds_query.specs.declared.query.Select.{Select};
+ghost use Rattle.ds_reply.specs.Replies.{reply_text};
+ghost use Rattle.ds_request.specs.declared.call.Call.{Call};
+ghost use Rattle.ds_session.specs.Replying.{HasReplied, request_of};
+ghost use Rattle.ds_session.specs.Sessions.{IsWithin};
+ghost use Rattle.ds_session.specs.Steps.{IsWithinSteps};
+ghost use Rattle.ds_states.specs.Counted.{FindsGlobally};
+ghost use Rattle.ds_states.specs.Searches.{look_ups, most_of, search_bound};
+ghost use Rattle.ds_states.specs.Snapshots.{newest};
+ghost use Rattle.ds_store.specs.Passes.{HasRead};
+ghost use Rattle.ds_store.specs.Searched.{HasCounted};
+
+use crate::reads::{group_and_shard, touch_place};
+use crate::state::{State, tell};
+use ds_base::{Counts, Key, NoMemory, Results, Seen, TryCopy};
+use ds_indexdef::Defs;
+use ds_io::{NoGate, Steps};
+use ds_planner::ScanPlan;
+use ds_protocol::{Ready, Search, finish, prepare};
+use ds_query::{Normal, Place, RowList, Window};
+use ds_reply::Body;
+use ds_store::{Answer, GetRefused, Names, Pass, Store};
+use std::alloc::{AllocError, Global};
+use std::sync::Wait;
+use std::sync::ledger::Ledger;
+use std::thread::Threads;
+
+impl<J: Names> State<J> {
+    /// Answers a search: its first refusal, or what it finds.
+    pub(crate) fn find<R: Threads + Wait + Sync, H: Wait + Drop, L: Ledger>(
+        &mut self,
+        rt: &R,
+        store: &Store<J, H>,
+        defs: &Defs,
+        number: u64,
+        search: &Search,
+        keep: usize,
+        steps: &mut Steps<L>,
+    )
+        requires within { IsWithin self.old.seen self.old.pass }
+        requires definitions { defs.now ≡ J.definitions }
+        requires lawful { IsLawfulSearch search.now }
+        requires room { keep + length (reply_text (no_memory_reply self.old.client number)) ≤ self.old.room }
+        ensures replied { (call : Call) → IsSearchOf call search.now
+            → HasReplied J.definitions store.now.shards (Some J.window) self.old self.new number (request_of self.old.client call) keep }
+        ensures steps { (call : Call) → IsSearchOf call search.now
+            → IsWithinSteps J.definitions J.window store.now.shards number (request_of self.old.client call) self.old self.new
+            steps.old steps.new }
+    {
+        let ready = match prepare(self.alloc, defs, self.transaction.is_open(), search) {
+            Ok(ready) => ready,
+            Err(body) => return self.refuse(number, body, keep),
+        };
+        match &search.query.ancestor {
+            Some(ancestor) => {
+                self.find_in_group(rt, store, number, search, ready, ancestor, keep, steps);
+            }
+            None => self.find_in_all(rt, store, number, search, ready, keep, steps),
+        }
+    }
+
+    /// What a search without an ancestor finds: over all entries that are applied.
+    fn find_in_all<R: Threads + Wait + Sync, H: Wait + Drop, L: Ledger>(
+        &mut self,
+        rt: &R,
+        store: &Store<J, H>,
+        number: u64,
+        search: &Search,
+        ready: Ready,
+        keep: usize,
+        steps: &mut Steps<L>,
+    )
+        requires within { IsWithin self.old.seen self.old.pass }
+        requires everywhere { search.now.query.ancestor ≡ None }
+        requires ready { IsReady J.definitions (is_some self.old.seen.transaction) (search_parts search.now) ready.normal ready.window }
+        requires lawful { IsLawfulNormal ready.normal }
+        requires planned { ArePlansFor J.definitions ready.normal.branches ready.plans.items }
+        requires placeless { SuitsSeveral ready.normal.several ready.window }
+        requires room { keep + length (reply_text (no_memory_reply self.old.client number)) ≤ self.old.room }
+        ensures replied { (call : Call) → IsSearchOf call search.now
+            → HasReplied J.definitions store.now.shards (Some J.window) self.old self.new number (request_of self.old.client call) keep }
+        ensures steps { (call : Call) → IsSearchOf call search.now
+            → IsWithinSteps J.definitions J.window store.now.shards number (request_of self.old.client call) self.old self.new
+            steps.old steps.new }
+    {
+        let Ready {
+            normal,
+            window,
+            plans,
+        } = ready;
+        let wide = search.limit.is_none() && store.shards() > 1;
+        let asked = query(
+            rt,
+            store,
+            &mut self.pass,
+            wide,
+            &normal,
+            &window,
+            plans.as_slice(),
+            steps,
+        );
+        drop(plans);
+        drop(window);
+        let Ok(answer) = asked else {
+            drop(normal);
+            return self.say_no_memory(number, keep);
+        };
+        let Ok(counted) = counted_body(self.alloc, search, &normal, answer) else {
+            drop(normal);
+            return self.say_no_memory(number, keep);
+        };
+        drop(normal);
+        let Counted {
+            body,
+            counts,
+            commit,
+        } = counted;
+        if !tell(self.client, number, body, keep, &mut self.text) {
+            return;
+        }
+        self.seen.see_counts(counts.as_slice(), commit);
+    }
+
+    /// What a search with an ancestor finds in the ancestor's group, unless the transaction may not touch that.
+    fn find_in_group<R: Wait, H: Wait + Drop, L: Ledger>(
+        &mut self,
+        rt: &R,
+        store: &Store<J, H>,
+        number: u64,
+        search: &Search,
+        ready: Ready,
+        ancestor: &Key,
+        keep: usize,
+        steps: &mut Steps<L>,
+    )
+        requires within { IsWithin self.old.seen self.old.pass }
+        requires under { search.now.query.ancestor ≡ Some ancestor.now }
+        requires ready { IsReady J.definitions (is_some self.old.seen.transaction) (search_parts search.now) ready.normal ready.window }
+        requires lawful { IsLawfulNormal ready.normal }
+        requires planned { ArePlansFor J.definitions ready.normal.branches ready.plans.items }
+        requires placeless { SuitsSeveral ready.normal.several ready.window }
+        requires room { keep + length (reply_text (no_memory_reply self.old.client number)) ≤ self.old.room }
+        ensures replied { (call : Call) → IsSearchOf call search.now
+            → HasReplied J.definitions store.now.shards (Some J.window) self.old self.new number (request_of self.old.client call) keep }
+        ensures steps { (call : Call) → IsSearchOf call search.now
+            → IsWithinSteps J.definitions J.window store.now.shards number (request_of self.old.client call) self.old self.new
+            steps.old steps.new }
+    {
+        let Ok((group, shard)) = group_and_shard(self.alloc, ancestor, store.shards()) else {
+            drop(ready);
+            return self.say_no_memory(number, keep);
+        };
+        if let Some(body) = self.transaction.group_refusal(self.alloc, Some(&group)) {
+            drop(group);
+            drop(ready);
+            return self.refuse(number, body, keep);
+        }
+        self.find_there(rt, store, number, search, ready, group, shard, keep, steps);
+    }
+
+    /// What it finds in this group and its shard: it stands where a get of the group would, and its transaction touches the group.
+    fn find_there<R: Wait, H: Wait + Drop, L: Ledger>(
+        &mut self,
+        rt: &R,
+        store: &Store<J, H>,
+        number: u64,
+        search: &Search,
+        ready: Ready,
+        group: Key,
+        shard: u32,
+        keep: usize,
+        steps: &mut Steps<L>,
+    )
+        requires within { IsWithin self.old.seen self.old.pass }
+        requires under { option_map root_of search.now.query.ancestor ≡ Some group }
+        requires shard { shard ≡ shard_of group store.now.shards }
+        requires allowed { group_refusal self.old.seen.transaction (Some group) ≡ None }
+        requires ready { IsReady J.definitions (is_some self.old.seen.transaction) (search_parts search.now) ready.normal ready.window }
+        requires lawful { IsLawfulNormal ready.normal }
+        requires planned { ArePlansFor J.definitions ready.normal.branches ready.plans.items }
+        requires placeless { SuitsSeveral ready.normal.several ready.window }
+        requires room { keep + length (reply_text (no_memory_reply self.old.client number)) ≤ self.old.room }
+        ensures replied { (call : Call) → IsSearchOf call search.now
+            → HasReplied J.definitions store.now.shards (Some J.window) self.old self.new number (request_of self.old.client call) keep }
+        ensures steps { (call : Call) → IsSearchOf call search.now
+            → IsWithinSteps J.definitions J.window store.now.shards number (request_of self.old.client call) self.old self.new
+            steps.old steps.new }
+    {
+        if self.transaction.make_room().is_err() {
+            drop(group);
+            drop(ready);
+            return self.say_no_memory(number, keep);
+        }
+        let at = touch_place(rt, store, &mut self.pass, &self.transaction, &group);
+        let asked = store.strong_query_planned(
+            rt,
+            &mut self.pass,
+            &ready.normal,
+            &ready.window,
+            ready.plans.as_slice(),
+            at,
+            steps,
+        );
+        match asked {
+            Ok(answer) => {
+                let Ok(read) = place_body(self.alloc, search, &ready.normal, answer) else {
+                    drop(ready);
+                    drop(group);
+                    return self.say_no_memory(number, keep);
+                };
+                drop(ready);
+                let ReadAt {
+                    body,
+                    place,
+                    entries,
+                } = read;
+                if !tell(self.client, number, body, keep, &mut self.text) {
+                    return;
+                }
+                self.transaction.touch(group, place);
+                self.seen.see_place(place);
+                self.seen.see_entries(shard as usize, entries);
+            }
+            Err(refused) => {
+                drop(ready);
+                drop(group);
+                match refused {
+                    GetRefused::Expired(expired) => {
+                        self.expire(number, shard, at, expired, keep);
+                    }
+                    GetRefused::NoMemory => self.say_no_memory(number, keep),
+                }
+            }
+        }
+    }
+}
+
+/// What a query finds over all shards. Where they are asked at once, in threads as far as there are any, no steps are counted. A refusal is
+/// want of memory.
+fn query<J: Names, R: Threads + Sync, H: Wait + Drop, L: Ledger>(
+    rt: &R,
+    store: &Store<J, H>,
+    pass: &mut Pass<J>,
+    wide: bool,
+    normal: &Normal,
+    window: &Window,
+    plans: &[ScanPlan],
+    steps: &mut Steps<L>,
+) -> Result<Answer, NoMemory>
+    requires lawful { IsLawfulNormal normal.now }
+    requires placeless { SuitsSeveral normal.now.several window.now }
+    requires planned { ArePlansFor J.definitions normal.now.branches plans.now }
+    ensures counted { IfOk result (λ a. HasCounted pass.old pass.new a.seen a.beside) }
+    ensures found { IfOk result (λ a. FindsGlobally pass.new.lists normal.now window.now a.results a.next) }
+    ensures steps_bounded { IfOk result (λ a. All (λ q. steps.new ≤ (steps.old
+        + search_bound normal.now window.now (most_of normal.now window.now) (newest J.definitions J.window pass.new.lists))
+        + look_ups q.select (length a.results)) normal.now.branches) }
+    ensures read { OnErr result (HasRead pass.old pass.new) }
+{
+    if wide {
+        store.query_wide_planned(rt, pass, normal, window, plans, &NoGate)
+    } else {
+        store.query_planned(pass, normal, window, plans, steps)
+    }
+}
+
+/// What the reply to a search says of what all shards hold, with what was counted.
+#[derive(Drop)]
+struct Counted {
+    body: Body,
+    counts: Counts,
+    commit: u64,
+}
+
+fn counted_body(
+    alloc: Global,
+    search: &Search,
+    normal: &Normal,
+    answer: Answer,
+) -> Result<Counted, NoMemory>
+    ensures counts { IfOk result (λ c. answer.seen ≡ Seen.Counts c.counts) }
+    ensures commit { IfOk result (λ c. c.commit ≡ answer.beside) }
+    ensures body { IfOk result (λ c. c.body ≡ found search.now.statement search.now.query.select answer.results answer.seen
+        (cursor_of search.now.cursor normal.now.branches answer.next)) }
+{
+    let Answer {
+        results,
+        next,
+        seen,
+        beside,
+    } = answer;
+    let counts = counts_in(alloc, &seen)?;
+    let body = found_body(alloc, search, normal, results, next.as_ref(), seen)?;
+    Ok(Counted {
+        body,
+        counts,
+        commit: beside,
+    })
+}
+
+/// The counts that were looked at. A refusal is want of memory.
+fn counts_in(alloc: Global, seen: &Seen) -> Result<Counts, NoMemory>
+    ensures { IfOk result (λ counts. seen.now ≡ Seen.Counts counts) }
+{
+    match seen {
+        Seen::Counts(counts) => counts.copy(alloc),
+        Seen::Place(_) => Err(AllocError),
+    }
+}
+
+/// What the reply to a search says of what one group's shard holds, with where it was read.
+#[derive(Drop)]
+struct ReadAt {
+    body: Body,
+    place: u64,
+    entries: u64,
+}
+
+fn place_body(
+    alloc: Global,
+    search: &Search,
+    normal: &Normal,
+    answer: Answer,
+) -> Result<ReadAt, NoMemory>
+    ensures place { IfOk result (λ r. answer.seen ≡ Seen.Place r.place) }
+    ensures entries { IfOk result (λ r. r.entries ≡ answer.beside) }
+    ensures body { IfOk result (λ r. r.body ≡ found search.now.statement search.now.query.select answer.results answer.seen
+        (cursor_of search.now.cursor normal.now.branches answer.next)) }
+{
+    let Answer {
+        results,
+        next,
+        seen,
+        beside,
+    } = answer;
+    let place = place_in(&seen)?;
+    let body = found_body(alloc, search, normal, results, next.as_ref(), seen)?;
+    Ok(ReadAt {
+        body,
+        place,
+        entries: beside,
+    })
+}
+
+/// The place that was looked at.
+fn place_in(seen: &Seen) -> Result<u64, NoMemory>
+    ensures { IfOk result (λ place. seen.now ≡ Seen.Place place) }
+{
+    match seen {
+        Seen::Place(place) => Ok(*place),
+        Seen::Counts(_) => Err(AllocError),
+    }
+}
+
+/// What the reply to a search says of what the store found. A refusal is want of memory.
+fn found_body(
+    alloc: Global,
+    search: &Search,
+    normal: &Normal,
+    results: Results,
+    next: Option<&Place>,
+    seen: Seen,
+) -> Result<Body, NoMemory>
+    ensures { IfOk result (λ b. b ≡ found search.now.statement search.now.query.select results seen
+        (cursor_of search.now.cursor normal.now.branches (option_copied next.entry))) }
+{
+    let empty = finish(alloc, search, normal, &[], RowList::new(alloc), next, seen)?;
+    Ok(with_results(empty, results))
+}
+
+/// The same with these results.
+fn with_results(body: Body, results: Results) -> Body
+    ensures { (statement : Bool) (select : Select) (none : List Item) (seen : Seen) (cursor : Option (List ℕ))
+        → body ≡ found statement select none seen cursor → result ≡ found statement select results seen cursor }
+{
+    match body {
+        Body::Query {
+            select,
+            results: _none,
+            seen,
+            cursor,
+        } => Body::Query {
+            select,
+            results,
+            seen,
+            cursor,
+        },
+        Body::Gql {
+            select,
+            results: _none,
+            seen,
+            cursor,
+        } => Body::Gql {
+            select,
+            results,
+            seen,
+            cursor,
+        },
+        other => other,
+    }
+}

@@ -1,0 +1,330 @@
+//! Puts and deletes: outside a transaction each is a commit of its own.
+ghost use Rattle.std.specs.Prelude.{◌≡◌, ◌+◌, ◌≤◌, ℕ, None, Some, Result, true, length, IfOk, IsTrue};
+ghost use Rattle.ds_base.specs.Keys.{KeyParts, ends_in_id, renumbered};
+ghost use Rattle.ds_log.specs.declared.Write.TheVariants as write;
+ghost use Rattle.ds_model.specs.Refusals.{refusal_of};
+ghost use Rattle.ds_model.specs.Sessions.{saw_next};
+ghost use Rattle.ds_protocol.specs.Saying.{no_memory_reply};
+ghost use Rattle.ds_reply.specs.Replies.{reply_text};
+ghost use Rattle.ds_reply.specs.declared.reply.Body.{Body};
+ghost use Rattle.ds_reply.specs.declared.reply.WriteAt.{WriteAt};
+ghost use Rattle.ds_request.specs.declared.call.Call.{Call};
+ghost use Rattle.ds_request.specs.declared.call.Request.{Request};
+ghost use Rattle.ds_session.specs.Answering.{HasSaid};
+ghost use Rattle.ds_session.specs.Replying.{HasReplied, own_commit, request_of, write_call, written_body};
+ghost use Rattle.ds_session.specs.Sessions.{IsWithin};
+ghost use Rattle.ds_store.specs.Answered.{WhereExhausted};
+ghost use Rattle.ds_store.specs.Passes.{HasRead, PassParts};
+
+use crate::drawing::unissued;
+use crate::state::{State, tell_last};
+use ds_base::limits::MAX_ID;
+use ds_base::{Buffer, Entity, Key, NoMemory, TryCopy};
+use ds_journal::Draft;
+use ds_log::Write;
+use ds_protocol::{draft_of_write, make_room, next_above};
+use ds_reply::{Body, Reply, WriteAt};
+use ds_store::{Names, NewCause, NewRefused, Store};
+use std::alloc::{AllocError, Global};
+use std::sync::Wait;
+
+/// A write outside a transaction that nothing but the store refuses: the commit that is asked for, and what its reply says, at a commit
+/// that isn't known yet. There is room for the reply.
+#[derive(Drop)]
+struct Prepared {
+    draft: Draft,
+    body: Body,
+}
+
+/// The same of a put whose last id isn't known yet either: the key that its reply tells.
+#[derive(Drop)]
+struct PreparedNew {
+    draft: Draft,
+    key: Key,
+}
+
+/// What the reply to a write says, at a place. A refusal is want of memory.
+pub(crate) fn body_of(alloc: Global, write: &Write, at: WriteAt) -> Result<Body, NoMemory>
+    ensures { IfOk result (λ b. b ≡ written_body write.now at) }
+{
+    let key = write.key().copy(alloc)?;
+    Ok(match write {
+        Write::Put(_) => Body::Put { key, at },
+        Write::Delete(_) => Body::Delete { key, at },
+    })
+}
+
+/// The same, at this place.
+fn placed(body: Body, at: WriteAt) -> Body
+    ensures { (write : Write) (before : WriteAt) → body ≡ written_body write before → result ≡ written_body write at }
+{
+    match body {
+        Body::Put { key, at: _ } => Body::Put { key, at },
+        Body::Delete { key, at: _ } => Body::Delete { key, at },
+        other => other,
+    }
+}
+
+/// The commit of a write, and its reply, for which there is then room. A refusal is want of memory.
+fn prepare_commit(
+    alloc: Global,
+    client: u32,
+    number: u64,
+    write: Write,
+    keep: usize,
+    text: &mut Buffer,
+) -> Result<Prepared, NoMemory>
+    ensures draft { IfOk result (λ p. p.draft ≡ own_commit client write) }
+    ensures body { IfOk result (λ p. (at : WriteAt) × (p.body ≡ written_body write at)) }
+    ensures same { text.new.bytes ≡ text.old.bytes }
+    ensures kept { text.old.spare ≤ text.new.spare }
+{
+    let body = body_of(alloc, &write, WriteAt::Commit(u64::MAX))?;
+    let longest = Reply {
+        client,
+        line: number,
+        body,
+    };
+    if !make_room(&longest, keep, text) {
+        return Err(AllocError);
+    }
+    let body = longest.body;
+    let draft = draft_of_write(alloc, client, write)?;
+    Ok(Prepared { draft, body })
+}
+
+/// The key that the reply to a put with a new id tells, but for that id; there is then room for the reply. A refusal is want of memory.
+pub(crate) fn prepare_key(
+    alloc: Global,
+    client: u32,
+    number: u64,
+    key: &Key,
+    at: WriteAt,
+    keep: usize,
+    text: &mut Buffer,
+) -> Result<Key, NoMemory>
+    requires { IsTrue (ends_in_id key.now.elems) }
+    ensures ends { IfOk result (λ k. IsTrue (ends_in_id k.elems)) }
+    ensures key { IfOk result (λ k. (id : ℕ) → renumbered k id ≡ renumbered key.now id) }
+    ensures same { text.new.bytes ≡ text.old.bytes }
+    ensures kept { text.old.spare ≤ text.new.spare }
+{
+    let mut longest_key = key.copy(alloc)?;
+    longest_key.renumber(MAX_ID);
+    let longest = Reply {
+        client,
+        line: number,
+        body: Body::Put {
+            key: longest_key,
+            at,
+        },
+    };
+    if !make_room(&longest, keep, text) {
+        return Err(AllocError);
+    }
+    let Reply {
+        client: _,
+        line: _,
+        body,
+    } = longest;
+    key_in(body)
+}
+
+/// The key that the reply to a put tells; there is none in any other.
+fn key_in(body: Body) -> Result<Key, NoMemory>
+    ensures { (key : KeyParts) (at : WriteAt) → body ≡ Body.Put key at → IfOk result (λ k. k ≡ key) }
+{
+    match body {
+        Body::Put { key, at: _at } => Ok(key),
+        _other => Err(AllocError),
+    }
+}
+
+/// The commit of a put with a new id, and the key that its reply tells, for which there is then room. A refusal is want of memory.
+fn prepare_new(
+    alloc: Global,
+    client: u32,
+    number: u64,
+    entity: Entity,
+    keep: usize,
+    text: &mut Buffer,
+) -> Result<PreparedNew, NoMemory>
+    requires { IsTrue (ends_in_id entity.key.elems) }
+    ensures draft { IfOk result (λ p. p.draft ≡ own_commit client (write.Put entity)) }
+    ensures ends { IfOk result (λ p. IsTrue (ends_in_id p.key.elems)) }
+    ensures key { IfOk result (λ p. (id : ℕ) → renumbered p.key id ≡ renumbered entity.key id) }
+    ensures same { text.new.bytes ≡ text.old.bytes }
+    ensures kept { text.old.spare ≤ text.new.spare }
+{
+    let at = WriteAt::Commit(u64::MAX);
+    let key = prepare_key(alloc, client, number, entity.key(), at, keep, text)?;
+    let draft = draft_of_write(alloc, client, Write::Put(entity))?;
+    Ok(PreparedNew { draft, key })
+}
+
+impl<J: Names> State<J> {
+    /// Writes an entity or deletes one, whose key is complete.
+    pub(crate) fn write<R: Wait, H: Wait + Drop>(
+        &mut self,
+        rt: &R,
+        store: &Store<J, H>,
+        number: u64,
+        write: Write,
+        keep: usize,
+    )
+        requires within { IsWithin self.old.seen self.old.pass }
+        requires unrefused { refusal_of J.definitions self.old.seen (write_call write) ≡ None }
+        requires room { keep + length (reply_text (no_memory_reply self.old.client number)) ≤ self.old.room }
+        ensures { HasReplied J.definitions store.now.shards (Some J.window) self.old self.new number
+            (request_of self.old.client (write_call write)) keep }
+    {
+        if self.transaction.is_open() {
+            self.write_inside(rt, store, number, write, keep)
+        } else {
+            self.commit_write(rt, store, number, write, keep)
+        }
+    }
+
+    /// Writes an entity whose key is incomplete: its last id is drawn.
+    pub(crate) fn put_new<R: Wait, H: Wait + Drop>(
+        &mut self,
+        rt: &R,
+        store: &Store<J, H>,
+        number: u64,
+        entity: Entity,
+        keep: usize,
+    )
+        requires within { IsWithin self.old.seen self.old.pass }
+        requires ends_in_id { IsTrue (ends_in_id entity.key.elems) }
+        requires unrefused { refusal_of J.definitions self.old.seen (Call.Put entity.key true entity.properties) ≡ None }
+        requires room { keep + length (reply_text (no_memory_reply self.old.client number)) ≤ self.old.room }
+        ensures { HasReplied J.definitions store.now.shards (Some J.window) self.old self.new number
+            (request_of self.old.client (Call.Put entity.key true entity.properties)) keep }
+    {
+        if self.transaction.is_open() {
+            self.put_new_inside(rt, store, number, entity, keep)
+        } else {
+            self.commit_new_write(rt, store, number, entity, keep)
+        }
+    }
+
+    /// Commits a write by itself, outside a transaction, whose key is complete. All memory is taken before.
+    pub(crate) fn commit_write<R: Wait, H: Wait + Drop>(
+        &mut self,
+        rt: &R,
+        store: &Store<J, H>,
+        number: u64,
+        write: Write,
+        keep: usize,
+    )
+        requires within { IsWithin self.old.seen self.old.pass }
+        requires outside { self.old.seen.transaction ≡ None }
+        requires unrefused { refusal_of J.definitions self.old.seen (write_call write) ≡ None }
+        requires room { keep + length (reply_text (no_memory_reply self.old.client number)) ≤ self.old.room }
+        ensures { HasReplied J.definitions store.now.shards (Some J.window) self.old self.new number
+            (request_of self.old.client (write_call write)) keep }
+    {
+        let path = write.key().elems().as_slice();
+        let next = next_above(path);
+        if let Some(id) = unissued(rt, store, &mut self.pass, path) {
+            drop(write);
+            return self.say_unissued(number, id, keep);
+        }
+        let prepared = prepare_commit(self.alloc, self.client, number, write, keep, &mut self.text);
+        let Ok(Prepared { draft, body }) = prepared else {
+            return self.say_no_memory(number, keep);
+        };
+        match store.commit(rt, &mut self.pass, draft) {
+            Ok(commit) => {
+                self.seen.see_place(commit);
+                self.seen.see_next(next);
+                let body = placed(body, WriteAt::Commit(commit));
+                tell_last(rt, self.client, number, body, keep, &mut self.text);
+            }
+            Err(refused) => {
+                drop(refused);
+                drop(body);
+                self.say_no_memory(number, keep);
+            }
+        }
+    }
+
+    /// Commits a put by itself, outside a transaction, whose last id is drawn with the commit. All memory is taken before.
+    pub(crate) fn commit_new_write<R: Wait, H: Wait + Drop>(
+        &mut self,
+        rt: &R,
+        store: &Store<J, H>,
+        number: u64,
+        entity: Entity,
+        keep: usize,
+    )
+        requires within { IsWithin self.old.seen self.old.pass }
+        requires outside { self.old.seen.transaction ≡ None }
+        requires ends_in_id { IsTrue (ends_in_id entity.key.elems) }
+        requires unrefused { refusal_of J.definitions self.old.seen (Call.Put entity.key true entity.properties) ≡ None }
+        requires room { keep + length (reply_text (no_memory_reply self.old.client number)) ≤ self.old.room }
+        ensures { HasReplied J.definitions store.now.shards (Some J.window) self.old self.new number
+            (request_of self.old.client (Call.Put entity.key true entity.properties)) keep }
+    {
+        let path = entity.key().elems().as_slice();
+        if let Some(id) = unissued(rt, store, &mut self.pass, path) {
+            drop(entity);
+            return self.say_unissued(number, id, keep);
+        }
+        let prepared = prepare_new(
+            self.alloc,
+            self.client,
+            number,
+            entity,
+            keep,
+            &mut self.text,
+        );
+        let Ok(PreparedNew { draft, mut key }) = prepared else {
+            return self.say_no_memory(number, keep);
+        };
+        match store.commit_new(rt, &mut self.pass, draft) {
+            Ok(new) => {
+                key.renumber(new.id);
+                self.seen.see_place(new.commit);
+                self.seen.see_next(next_above(key.elems().as_slice()));
+                let at = WriteAt::Commit(new.commit);
+                tell_last(
+                    rt,
+                    self.client,
+                    number,
+                    Body::Put { key, at },
+                    keep,
+                    &mut self.text,
+                );
+            }
+            Err(refused) => {
+                drop(key);
+                self.refuse_new(number, cause_of(refused), keep);
+            }
+        }
+    }
+
+    /// Says why no put with a new id was committed.
+    fn refuse_new(&mut self, number: u64, cause: NewCause, keep: usize)
+        requires within { IsWithin self.old.seen self.old.pass }
+        requires room { keep + length (reply_text (no_memory_reply self.old.client number)) ≤ self.old.room }
+        ensures { (p : PassParts) (read : Result Request (ℕ × Body)) (shards : ℕ) → IsWithin self.old.seen p → HasRead p self.old.pass
+            → WhereExhausted (λ next. HasSaid J.definitions shards (Some J.window) p self.old.pass self.old.seen
+            (saw_next next self.old.seen) read (Body.IdsExhausted next)) cause
+            → HasReplied J.definitions shards (Some J.window) (record self.old { pass = p }) self.new number read keep }
+    {
+        match cause {
+            NewCause::IdsExhausted { next } => {
+                self.say_next(number, Body::IdsExhausted { next }, next, keep)
+            }
+            NewCause::NoMemory => self.say_no_memory(number, keep),
+        }
+    }
+}
+
+/// Why it is refused; the draft is dropped.
+fn cause_of(refused: NewRefused) -> NewCause
+    ensures { result ≡ refused.cause }
+{
+    refused.cause
+}

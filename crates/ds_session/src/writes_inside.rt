@@ -1,0 +1,269 @@
+//! Puts and deletes in an open transaction: they are put behind its other writes, and touch their group.
+ghost use Rattle.std.specs.Prelude.{◌≡◌, ◌+◌, ◌≤◌, ◌<◌, ℕ, None, Some, true, length, is_some, unwrap_or, IfOk, IsTrue, OnOk};
+ghost use Rattle.ds_base.specs.Keys.{ends_in_id, renumbered, root_of};
+ghost use Rattle.ds_base.specs.Limits.{greatest_id};
+ghost use Rattle.ds_log.specs.Ids.{first_unissued};
+ghost use Rattle.ds_log.specs.Logs.{key_of};
+ghost use Rattle.ds_model.specs.Groups.{place_in};
+ghost use Rattle.ds_model.specs.Refusals.{refusal_of};
+ghost use Rattle.ds_protocol.specs.Saying.{no_memory_reply};
+ghost use Rattle.ds_reply.specs.Replies.{reply_text};
+ghost use Rattle.ds_request.specs.declared.call.Call.{Call};
+ghost use Rattle.ds_session.specs.Replying.{HasReplied, request_of, write_call};
+ghost use Rattle.ds_session.specs.Sessions.{IsWithin};
+
+use crate::drawing::unissued;
+use crate::reads::touch_place;
+use crate::state::{State, tell, tell_last};
+use crate::writes::{body_of, prepare_key};
+use ds_base::{Buffer, Entity, Key, NoMemory};
+use ds_log::Write;
+use ds_protocol::{OpenTransaction, next_above};
+use ds_reply::{Body, WriteAt};
+use ds_store::{Names, Store};
+use std::alloc::Global;
+use std::sync::Wait;
+
+impl<J: Names> State<J> {
+    /// Puts a write whose key is complete behind those of the open transaction.
+    pub(crate) fn write_inside<R: Wait, H: Wait + Drop>(
+        &mut self,
+        rt: &R,
+        store: &Store<J, H>,
+        number: u64,
+        write: Write,
+        keep: usize,
+    )
+        requires within { IsWithin self.old.seen self.old.pass }
+        requires inside { IsTrue (is_some self.old.seen.transaction) }
+        requires unrefused { refusal_of J.definitions self.old.seen (write_call write) ≡ None }
+        requires room { keep + length (reply_text (no_memory_reply self.old.client number)) ≤ self.old.room }
+        ensures { HasReplied J.definitions store.now.shards (Some J.window) self.old self.new number
+            (request_of self.old.client (write_call write)) keep }
+    {
+        if let Some(id) = unissued(rt, store, &mut self.pass, write.key().elems().as_slice()) {
+            drop(write);
+            return self.say_unissued(number, id, keep);
+        }
+        self.take(rt, store, number, write, keep);
+    }
+
+    /// The same, where each id of its key is issued.
+    fn take<R: Wait, H: Wait + Drop>(
+        &mut self,
+        rt: &R,
+        store: &Store<J, H>,
+        number: u64,
+        write: Write,
+        keep: usize,
+    )
+        requires within { IsWithin self.old.seen self.old.pass }
+        requires inside { IsTrue (is_some self.old.seen.transaction) }
+        requires issued { first_unissued self.old.pass.next (key_of write).elems ≡ None }
+        requires unrefused { refusal_of J.definitions self.old.seen (write_call write) ≡ None }
+        requires room { keep + length (reply_text (no_memory_reply self.old.client number)) ≤ self.old.room }
+        ensures { HasReplied J.definitions store.now.shards (Some J.window) self.old self.new number
+            (request_of self.old.client (write_call write)) keep }
+    {
+        let Ok(group) = group_with_room(self.alloc, write.key(), &mut self.transaction) else {
+            drop(write);
+            return self.say_no_memory(number, keep);
+        };
+        let at = touch_place(rt, store, &mut self.pass, &self.transaction, &group);
+        let Some(place) = at else {
+            drop(group);
+            drop(write);
+            return self.say_no_memory(number, keep);
+        };
+        let Ok(body) = body_of(self.alloc, &write, WriteAt::Place(place)) else {
+            drop(group);
+            drop(write);
+            return self.say_no_memory(number, keep);
+        };
+        if !tell(self.client, number, body, keep, &mut self.text) {
+            return;
+        }
+        let next = next_above(write.key().elems().as_slice());
+        self.transaction.write(group, place, write);
+        self.seen.see_place(place);
+        self.seen.see_next(next);
+    }
+
+    /// Puts an entity whose key is incomplete behind the other writes of the open transaction, under the next id. All memory is taken before
+    /// the id is drawn. A place is looked up also where a group is touched, since the drawn id may name one that isn't.
+    pub(crate) fn put_new_inside<R: Wait, H: Wait + Drop>(
+        &mut self,
+        rt: &R,
+        store: &Store<J, H>,
+        number: u64,
+        entity: Entity,
+        keep: usize,
+    )
+        requires within { IsWithin self.old.seen self.old.pass }
+        requires inside { IsTrue (is_some self.old.seen.transaction) }
+        requires ends_in_id { IsTrue (ends_in_id entity.key.elems) }
+        requires unrefused { refusal_of J.definitions self.old.seen (Call.Put entity.key true entity.properties) ≡ None }
+        requires room { keep + length (reply_text (no_memory_reply self.old.client number)) ≤ self.old.room }
+        ensures { HasReplied J.definitions store.now.shards (Some J.window) self.old self.new number
+            (request_of self.old.client (Call.Put entity.key true entity.properties)) keep }
+    {
+        if let Some(id) = unissued(rt, store, &mut self.pass, entity.key().elems().as_slice()) {
+            drop(entity);
+            return self.say_unissued(number, id, keep);
+        }
+        self.take_new(rt, store, number, entity, keep);
+    }
+
+    /// The same, where each written id of its key is issued.
+    fn take_new<R: Wait, H: Wait + Drop>(
+        &mut self,
+        rt: &R,
+        store: &Store<J, H>,
+        number: u64,
+        entity: Entity,
+        keep: usize,
+    )
+        requires within { IsWithin self.old.seen self.old.pass }
+        requires inside { IsTrue (is_some self.old.seen.transaction) }
+        requires issued { first_unissued self.old.pass.next entity.key.elems ≡ None }
+        requires ends_in_id { IsTrue (ends_in_id entity.key.elems) }
+        requires unrefused { refusal_of J.definitions self.old.seen (Call.Put entity.key true entity.properties) ≡ None }
+        requires room { keep + length (reply_text (no_memory_reply self.old.client number)) ≤ self.old.room }
+        ensures { HasReplied J.definitions store.now.shards (Some J.window) self.old self.new number
+            (request_of self.old.client (Call.Put entity.key true entity.properties)) keep }
+    {
+        let Ok(draft) = prepare_new(
+            self.alloc,
+            self.client,
+            number,
+            entity,
+            keep,
+            &mut self.transaction,
+            &mut self.text,
+        ) else {
+            return self.say_no_memory(number, keep);
+        };
+        let looked = store.touch(rt, &mut self.pass);
+        // For the proof alone: it tells that an id is positive.
+        let _next = self.pass.next();
+        match store.issue(rt, &mut self.pass, 1) {
+            Ok(id) => {
+                let NewPut { entity, group, key } = numbered(draft, id);
+                let place = place_or(&self.transaction, &group, looked);
+                let at = WriteAt::Place(place);
+                tell_last(
+                    rt,
+                    self.client,
+                    number,
+                    Body::Put { key, at },
+                    keep,
+                    &mut self.text,
+                );
+                let next = next_above(entity.key().elems().as_slice());
+                self.transaction.write(group, place, Write::Put(entity));
+                self.seen.see_place(place);
+                self.seen.see_next(next);
+            }
+            Err(refused) => {
+                drop(draft);
+                let next = refused.next;
+                self.say_next(number, Body::IdsExhausted { next }, next, keep);
+            }
+        }
+    }
+}
+
+/// The group of a key, with room in the transaction to touch it and to take a write. A refusal is want of memory.
+fn group_with_room(
+    alloc: Global,
+    key: &Key,
+    transaction: &mut OpenTransaction,
+) -> Result<Key, NoMemory>
+    ensures group { IfOk result (λ group. group ≡ root_of key.now) }
+    ensures same { transaction.new.transaction ≡ transaction.old.transaction }
+    ensures room { OnOk result (IsTrue (is_some transaction.new.transaction) → 0 < transaction.new.room) }
+{
+    transaction.make_room()?;
+    key.root(alloc)
+}
+
+/// An entity that is put under an id which isn't drawn yet, its group, and its key as the reply prints it.
+#[derive(Drop)]
+struct NewPut {
+    entity: Entity,
+    group: Key,
+    key: Key,
+}
+
+/// Takes all memory for a put whose id isn't drawn yet: in the transaction, for its group, and for its reply, with the greatest id and place.
+/// A refusal is want of memory.
+fn prepare_new(
+    alloc: Global,
+    client: u32,
+    number: u64,
+    entity: Entity,
+    keep: usize,
+    transaction: &mut OpenTransaction,
+    text: &mut Buffer,
+) -> Result<NewPut, NoMemory>
+    requires ends_in_id { IsTrue (ends_in_id entity.key.elems) }
+    ensures entity { IfOk result (λ draft. draft.entity ≡ entity) }
+    ensures group { IfOk result (λ draft. draft.group ≡ root_of entity.key) }
+    ensures ends { IfOk result (λ draft. IsTrue (ends_in_id draft.key.elems)) }
+    ensures key { IfOk result (λ draft. (id : ℕ) → renumbered draft.key id ≡ renumbered entity.key id) }
+    ensures same { transaction.new.transaction ≡ transaction.old.transaction }
+    ensures room { OnOk result (IsTrue (is_some transaction.new.transaction) → 0 < transaction.new.room) }
+    ensures text { text.new.bytes ≡ text.old.bytes }
+    ensures kept { text.old.spare ≤ text.new.spare }
+{
+    let group = group_with_room(alloc, entity.key(), transaction)?;
+    let at = WriteAt::Place(u64::MAX);
+    let key = prepare_key(alloc, client, number, entity.key(), at, keep, text)?;
+    Ok(NewPut { entity, group, key })
+}
+
+/// The same under this id.
+fn numbered(draft: NewPut, id: u64) -> NewPut
+    requires ends_in_id { IsTrue (ends_in_id draft.entity.key.elems) }
+    requires group { draft.group ≡ root_of draft.entity.key }
+    requires ends { IsTrue (ends_in_id draft.key.elems) }
+    requires key { renumbered draft.key id ≡ renumbered draft.entity.key id }
+    requires positive { 1 ≤ id }
+    requires bounded { id ≤ greatest_id }
+    ensures entity { result.entity ≡ record { key = renumbered draft.entity.key id; properties = draft.entity.properties } }
+    ensures group { result.group ≡ root_of (renumbered draft.entity.key id) }
+    ensures key { result.key ≡ renumbered draft.entity.key id }
+{
+    let NewPut {
+        mut entity,
+        mut group,
+        mut key,
+    } = draft;
+    renumber_root(&mut group, entity.key(), id);
+    entity.renumber(id);
+    key.renumber(id);
+    NewPut { entity, group, key }
+}
+
+/// Makes the root of a key that of the key under this id.
+fn renumber_root(root: &mut Key, key: &Key, id: u64)
+    requires root { root.old ≡ root_of key.now }
+    requires ends_in_id { IsTrue (ends_in_id key.now.elems) }
+    requires positive { 1 ≤ id }
+    requires bounded { id ≤ greatest_id }
+    ensures { root.new ≡ root_of (renumbered key.now id) }
+{
+    if key.elems().len() == 1 {
+        root.renumber(id);
+    }
+}
+
+/// The place at which a transaction touched a group, and where it didn't the place that was looked up.
+fn place_or(transaction: &OpenTransaction, group: &Key, looked: u64) -> u64
+    ensures { result ≡ unwrap_or (place_in transaction.now.transaction group.now) looked }
+{
+    match transaction.place(group) {
+        Some(place) => place,
+        None => looked,
+    }
+}
