@@ -1,9 +1,5 @@
-pub mod Asking
-pub mod ByClient
+pub mod Alike
+pub mod Bounds
 pub mod Ends
-pub mod Rests
-pub mod ShardBounds
-pub mod SoFar
-pub mod Turns
+pub mod SameSetting
 pub mod Unset
-pub mod Written

@@ -1,4 +1,3 @@
-pub mod AskedLines
 pub mod RunSteps
 pub mod Runs
 pub mod Settings

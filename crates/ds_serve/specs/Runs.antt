@@ -1,5 +1,5 @@
 -- What a run of the server is: the main theorem's words.
-use Rattle.std.specs.Prelude.{◌≡◌, ℕ, ◌+◌, ◌<◌, ◌≤◌, ◌⊎◌, List, [], ◌∷◌, ◌++◌, Bool, true, false, Option, Some, None, IfSome, IsSomeAnd}
+use Rattle.std.specs.Prelude.{◌≡◌, ℕ, ◌+◌, ◌<◌, ◌⊎◌, List, [], ◌++◌, Bool, true, false, Option, Some, None, IfSome, IsSomeAnd}
 use Rattle.std.specs.Prelude.{length, ⊤}
 use Rattle.std.specs.Io.KnownBytes.{Appends, Consumes}
 use Rattle.ds_base.specs.Limits.{most_input_bytes}

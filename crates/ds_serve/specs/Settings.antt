@@ -1,5 +1,5 @@
 -- What the words of the command line and the index file set up, and why they may not.
-use Rattle.std.specs.Prelude.{◌≡◌, ℕ, ◌⊎◌, List, [], Option, Some, None, Ok, Err, IfSome, IsSome, ⊤}
+use Rattle.std.specs.Prelude.{◌≡◌, ℕ, List, [], Option, Some, None, Ok, Err, IfSome, IsSome, ⊤}
 use Rattle.std.specs.Option.{option_and_then}
 use Rattle.ds_indexdef.specs.declared.IndexDef.{IndexDef}
 use Rattle.ds_indexdef.specs.Reading.{yaml_of}

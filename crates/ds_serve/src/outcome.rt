@@ -1,7 +1,10 @@
 //! What a run of the server gives.
+ghost use Rattle.std.specs.Prelude.{◌≡◌, [], Some};
+
 use ds_log::Journal;
-use ds_rounds::Unsent;
+use ds_session::Unsent;
 use ds_words::Status;
+use std::alloc::Global;
 
 /// What a run gives.
 #[derive(Drop)]
@@ -12,4 +15,17 @@ pub struct Run {
     pub journal: Option<Journal>,
     /// The replies' bytes that were not taken; none unless a write failed.
     pub unsent: Unsent,
+}
+
+/// The end of a run that ran no round.
+pub(crate) fn nothing_run(alloc: Global, status: Status) -> Run
+    ensures status { result.status ≡ status }
+    ensures journal { result.journal ≡ Some [] }
+    ensures unsent { result.unsent ≡ [] }
+{
+    Run {
+        status,
+        journal: Some(Journal::new(alloc)),
+        unsent: Unsent::none(alloc),
+    }
 }

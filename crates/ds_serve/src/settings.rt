@@ -1,7 +1,8 @@
 //! What the words of the command line and the index file set up.
 ghost use Rattle.std.specs.Prelude.{◌≡◌, ◌≤◌, List, ℕ, Some, None, map, IfOk, IfErr, IfSome, MatchResult};
+ghost use Rattle.std.specs.Option.{option_map};
 ghost use Rattle.std.specs.String.{string_bytes};
-ghost use Rattle.ds_base.specs.Limits.{most_shards};
+ghost use Rattle.ds_base.specs.Limits.{greatest_window, most_appliers, most_shards};
 ghost use Rattle.ds_words.specs.Form.{options_of};
 ghost use Rattle.ds_serve.specs.Settings.{AreGiven, AreRead, IsSetting, IsUnread, IsUnset, file_faults, indexes_named};
 
@@ -22,15 +23,26 @@ pub(crate) struct Setting {
     pub defs: Defs,
 }
 
+/// What a run is started with.
+#[derive(Drop)]
+pub(crate) struct Start {
+    pub setting: Setting,
+    /// How many background appliers there are, at most 8.
+    pub appliers: u32,
+}
+
 /// Reads the words, and loads and reads the index file that they name, if they name one. A status says why the run can't begin.
 pub(crate) fn set_up<F: Files>(
     alloc: Global,
     words: &[String],
     files: &mut F,
-) -> Result<Setting, Status>
-    ensures ok { IfOk result (λ s. IsSetting (map string_bytes words.now) (F.content files.old) s) }
-    ensures least { IfOk result (λ s. 1 ≤ s.shards) }
-    ensures most { IfOk result (λ s. s.shards ≤ most_shards) }
+) -> Result<Start, Status>
+    ensures ok { IfOk result (λ s. IsSetting (map string_bytes words.now) (F.content files.old) s.setting) }
+    ensures shards { IfOk result (λ s. (1 ≤ s.setting.shards) × (s.setting.shards ≤ most_shards)) }
+    ensures window { IfOk result (λ s. (1 ≤ s.setting.window) × (s.setting.window ≤ greatest_window)) }
+    ensures appliers { IfOk result (λ s. option_map (λ options. options.appliers) (options_of (map string_bytes words.now))
+        ≡ Some s.appliers) }
+    ensures few { IfOk result (λ s. s.appliers ≤ most_appliers) }
     ensures refused { IfErr result (λ status.
         IsUnset (map string_bytes words.now) (F.content files.old) (F.faults files.old) (F.faults files.new) status) }
     ensures unnamed { indexes_named (map string_bytes words.now) ≡ None → files.new ≡ files.old }
@@ -44,10 +56,13 @@ pub(crate) fn set_up<F: Files>(
         Err(WordsRefused::NoMemory) => return Err(Status::NoMemory),
     };
     let defs = definitions(alloc, files, &options.indexes)?;
-    Ok(Setting {
-        shards: options.shards,
-        window: options.window,
-        defs,
+    Ok(Start {
+        setting: Setting {
+            shards: options.shards,
+            window: options.window,
+            defs,
+        },
+        appliers: options.appliers,
     })
 }
 

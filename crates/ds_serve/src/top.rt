@@ -3,36 +3,34 @@
 //! `specs/Runs` has the words of its clauses: begin there with `IsLegalRun`. `specs/Settings` has those of the words and the index file.
 ghost use Rattle.std.specs.Prelude.{◌≡◌, ◌≤◌, ◌⊎◌, ℕ, List, Option, [], map, Some, None, IfSome, IsSome};
 ghost use Rattle.std.specs.String.{string_bytes};
-ghost use Rattle.ds_base.specs.Limits.{most_input_bytes, most_shards};
-ghost use Rattle.ds_rounds.specs.Reading.{first_reader};
+ghost use Rattle.ds_base.specs.Limits.{greatest_window, most_appliers, most_input_bytes, most_shards};
 ghost use Rattle.ds_words.specs.Form.{options_of};
 ghost use Rattle.ds_serve.specs.Runs.{HasTaken, IsBelow, IsLegalRun, IsSteady, IsUntouched, read_faults, write_faults};
-ghost use Rattle.ds_serve.specs.RunSteps.{HasBegun, first_core, status_of};
+ghost use Rattle.ds_serve.specs.RunSteps.{HasBegun};
 ghost use Rattle.ds_serve.specs.Settings.{FailedToLoad, IsFine, IsSetting, IsToldWrong, NamesWrongFile, file_faults, indexes_named};
 
-use crate::outcome::Run;
-use crate::server::{Server, Step, serve_round};
-use crate::settings::{Setting, set_up};
-use ds_base::Buffer;
-use ds_core::Core;
+use crate::outcome::{Run, nothing_run};
+use crate::running::run_opened;
+use crate::settings::{Setting, Start, set_up};
+use ds_base::limits::MAX_CLIENT;
 use ds_io::{Files, Gate, Sink, Source};
-use ds_log::Journal;
-use ds_rounds::{RoundRefused, Rounds, Unsent};
+use ds_store::open;
 use ds_words::Status;
 use std::alloc::Global;
+use std::marker::Brand;
 use std::sync::Wait;
 use std::thread::Threads;
 
 /// Serves one run: reads the words and the index file that they name, and then the input round after round; answers the lines of each,
-/// one client after another and each client's lines in their order, and writes the replies before the input is read again. The gate is
-/// called around each answer. `rt` is for background appliers, which are still to come: until then entries wait for a settle, a strong
-/// read or an `apply`, whatever number of appliers the words give.
+/// the clients at once and each client's lines in their order, and writes the replies before the input is read again. The gate is
+/// called around each answer. As many appliers as the words say apply entries beside it, each in a thread of its own; one that finds
+/// nothing to apply sleeps until a commit wakes it. Without appliers entries wait for a settle, a strong read or an `apply`.
 ///
-/// The main theorem is `legal`: whatever the source, the sink, the files and the gate do, the bytes that were written in this call,
-/// followed by the unsent ones, are the replies of one legal run of the rounds that were run, over the journal that is given; the run's
-/// index definitions are those of the file's text, and its number of shards and its window those of the words. There is a journal with
-/// every status. The bytes that were read are those that the source tells that it had, or some where it tells none, and so with the file's
-/// text; a sink that doesn't tell what it holds lets nothing be said of the bytes.
+/// The main theorem is `legal`: whatever the schedule, and whatever the source, the sink, the files and the gate do, the bytes that were
+/// written in this call, followed by the unsent ones, are the replies of one legal run of the rounds that were run, over the journal that
+/// is given; the run's index definitions are those of the file's text, and its number of shards and its window those of the words. There
+/// is a journal with every status. The bytes that were read are those that the source tells that it had, or some where it tells none, and
+/// so with the file's text; a sink that doesn't tell what it holds lets nothing be said of the bytes.
 ///
 /// How a run ends, and when:
 ///
@@ -93,35 +91,24 @@ pub fn serve<Rt: Threads + Wait + Sync, F: Files, I: Source, O: Sink, G: Gate + 
         → (result.status ≡ Status.Done) ⊎ (result.status ≡ Status.NoMemory) }
 {
     match set_up(alloc, words, files) {
-        Ok(setting) => serve_input(alloc, setting, input, output, gate),
+        Ok(start) => serve_input(rt, alloc, start, input, output, gate),
         Err(status) => nothing_run(alloc, status),
     }
 }
 
-/// The end of a run that ran no round.
-fn nothing_run(alloc: Global, status: Status) -> Run
-    ensures status { result.status ≡ status }
-    ensures journal { result.journal ≡ Some [] }
-    ensures unsent { result.unsent ≡ [] }
-{
-    Run {
-        status,
-        journal: Some(Journal::new(alloc)),
-        unsent: Unsent::none(alloc),
-    }
-}
-
 /// Serves an input.
-fn serve_input<I: Source, O: Sink, G: Gate>(
+fn serve_input<Rt: Threads + Wait + Sync, I: Source, O: Sink, G: Gate + Sync>(
+    rt: &Rt,
     alloc: Global,
-    setting: Setting,
+    start: Start,
     input: &mut I,
     output: &mut O,
     gate: &G,
 ) -> Run
-    requires least { 1 ≤ setting.shards }
-    requires most { setting.shards ≤ most_shards }
-    ensures legal { (words : List (List ℕ)) (content : List ℕ → Option (List ℕ)) → IsSetting words content setting
+    requires shards { (1 ≤ start.setting.shards) × (start.setting.shards ≤ most_shards) }
+    requires window { (1 ≤ start.setting.window) × (start.setting.window ≤ greatest_window) }
+    requires appliers { start.appliers ≤ most_appliers }
+    ensures legal { (words : List (List ℕ)) (content : List ℕ → Option (List ℕ)) → IsSetting words content start.setting
         → IfSome result.journal (λ journal.
         IsLegalRun words content result.status (I.left input.old) (I.left input.new) journal (O.held output.old) (O.held output.new)
         result.unsent) }
@@ -131,59 +118,17 @@ fn serve_input<I: Source, O: Sink, G: Gate>(
     ensures read_fault { I.faults input.new ≡ read_faults result.status (I.faults input.old) }
     ensures write_fault { O.faults output.new ≡ write_faults result.status (O.faults output.old) }
 {
-    let Setting { shards, defs, .. } = setting;
-    let Ok(core) = Core::make(alloc, shards, defs) else {
-        return nothing_run(alloc, Status::NoMemory);
-    };
-    match Rounds::make(alloc) {
-        Ok(rounds) => serve_rounds(alloc, rounds, core, input, output, gate),
+    let Start { setting, appliers } = start;
+    let Setting {
+        shards,
+        window,
+        defs,
+    } = setting;
+    let passes = MAX_CLIENT + 1 + appliers;
+    match open(rt, rt, alloc, &defs, shards, passes, window) {
+        Ok(opened) => run_opened::<Brand, Rt, &Rt, I, O, G>(
+            rt, alloc, opened, &defs, input, output, gate,
+        ),
         Err(_) => nothing_run(alloc, Status::NoMemory),
-    }
-}
-
-/// Serves the rounds of an input, from the first one on.
-fn serve_rounds<I: Source, O: Sink, G: Gate>(
-    alloc: Global,
-    rounds: Rounds,
-    core: Core,
-    input: &mut I,
-    output: &mut O,
-    gate: &G,
-) -> Run
-    requires reader { rounds ≡ first_reader }
-    requires core { core ≡ first_core core.definitions core.shards }
-    ensures legal { (words : List (List ℕ)) (content : List ℕ → Option (List ℕ)) (window : ℕ)
-        → IsSetting words content (record { shards = core.shards; window = window; defs = core.definitions })
-        → IfSome result.journal (λ journal.
-        IsLegalRun words content result.status (I.left input.old) (I.left input.new) journal (O.held output.old) (O.held output.new)
-        result.unsent) }
-    ensures journal { IsSome result.journal }
-    ensures unsent { (result.status ≡ Status.WriteFault) ⊎ (result.unsent ≡ []) }
-    ensures began { HasBegun result.status }
-    ensures read_fault { I.faults input.new ≡ read_faults result.status (I.faults input.old) }
-    ensures write_fault { O.faults output.new ≡ write_faults result.status (O.faults output.old) }
-{
-    let mut rounds = rounds;
-    let mut server = Server {
-        core,
-        text: Buffer::new(alloc),
-    };
-    'serve: loop {
-        match serve_round(alloc, &mut rounds, &mut server, input, output, gate) {
-            Step::Served => {}
-            Step::Done => return server.end(alloc, Status::Done),
-            Step::Refused(refused) => return server.end(alloc, status_of(refused)),
-            Step::Unsent(sent) => return server.end_unsent(sent),
-        }
-    }
-}
-
-fn status_of(refused: RoundRefused) -> Status
-    ensures { result ≡ status_of refused }
-{
-    match refused {
-        RoundRefused::ReadFault => Status::ReadFault,
-        RoundRefused::InputLimit => Status::InputLimit,
-        RoundRefused::NoMemory => Status::NoMemory,
     }
 }

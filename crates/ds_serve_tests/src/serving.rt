@@ -97,13 +97,18 @@ fn summand(client: u32, line: u64) -> u64 {
     u64::from(client).wrapping_mul(1000).wrapping_add(line)
 }
 
-/// The words that the server is started with, but for the number of shards.
-pub fn words(alloc: Global, shards: &str) -> Result<Vec<String>, AllocError> {
+/// The words that the server is started with.
+pub fn words_of(alloc: Global, texts: &[&str]) -> Result<Vec<String>, AllocError> {
     let mut words = Vec::new(alloc);
-    for word in ["--shards", shards, "--appliers", "0"] {
+    for word in texts {
         words.push(String::from_str(alloc, word)?)?;
     }
     Ok(words)
+}
+
+/// Those for so many shards and no appliers.
+pub fn words(alloc: Global, shards: &str) -> Result<Vec<String>, AllocError> {
+    words_of(alloc, &["--shards", shards, "--appliers", "0"])
 }
 
 /// No files.

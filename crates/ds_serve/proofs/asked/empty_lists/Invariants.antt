@@ -1,5 +1,0 @@
-use Rattle.std.proofs.Common.{◌≡◌, [], replicate}
-use Rattle.ds_serve.proofs.asked.empty_lists.Given as goal
-
-abbrev pub invariant-fill : goal.invariant-fill
-invariant-fill l = l.lists.items ≡ replicate l._client []
