@@ -30,7 +30,7 @@ use Rattle.ds_core.specs.declared.opened.Open.{Open}
 use Rattle.ds_core.specs.declared.event.Transcript.{Transcript}
 use Rattle.ds_core.specs.Machines.{MachineParts, IsLegal, IsOpen, IsSameRun, AreOpen, held, held_by}
 use Rattle.ds_core.specs.Rounds.{AreAnswered, AreNumbered, IsLegalRound, drawn_ids}
-use Rattle.ds_core.proofs.Cores.{first-is, had-at, length-set}
+use Rattle.ds_core.proofs.SessionLists.{first-is, had-at, length-set}
 
 -- ---- open requests
 

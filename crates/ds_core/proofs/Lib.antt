@@ -1,5 +1,4 @@
 mod Clients
-mod Cores
 mod DueToOpen
 mod GatheredSteps
 mod Gathers
@@ -8,6 +7,7 @@ mod Occurring
 mod Places
 mod Runs
 mod Says
+mod SessionLists
 mod Taking
 mod TimedSteps
 mod Timing

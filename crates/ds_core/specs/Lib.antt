@@ -1,5 +1,3 @@
-pub mod Answered
-pub mod Cores
 pub mod Courses
 pub mod Happenings
 pub mod Machines

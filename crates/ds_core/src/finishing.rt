@@ -1,5 +1,5 @@
 //! The missing steps of the requests that are open after the last event.
-ghost use Rattle.std.specs.Prelude.{◌≡◌, ◌≤◌, ◌<◌, None, is_some, length, All, IfOk, IfSome, OnOk, IsTrue};
+ghost use Rattle.std.specs.Prelude.{◌≡◌, ◌≤◌, ◌<◌, None, is_some, All, IfOk, IfSome, OnOk, IsTrue};
 ghost use Rattle.ds_base.specs.Limits.{greatest_client, most_shards};
 ghost use Rattle.ds_model.specs.Sessions.{Session as SessionParts};
 ghost use Rattle.ds_core.specs.Courses.{GoesOn};

@@ -1,5 +1,5 @@
 //! What a step of a client does to the store, and what its open request gathers by it.
-ghost use Rattle.std.specs.Prelude.{◌≡◌, ◌≤◌, ◌<◌, None, Some, length, IfOk, IfSome, IsTrue, OnOk};
+ghost use Rattle.std.specs.Prelude.{◌≡◌, ◌≤◌, ◌<◌, None, Some, length, IfSome, IsTrue, OnOk};
 ghost use Rattle.ds_base.specs.Limits.{greatest_client};
 ghost use Rattle.ds_request.specs.declared.call.Call.{Call};
 ghost use Rattle.ds_model.specs.Sessions.{count_of};

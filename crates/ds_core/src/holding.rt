@@ -1,5 +1,5 @@
-//! What is held is put into a list, or into its place, in functions of their own: a value of many forms that is dropped at each way out of a
-//! function makes the proof of that function's steps many times as long.
+//! What is held is put into a list, or into its place, in functions of their own: a value of many forms that is dropped at each way
+//! out of a function makes the proof of that function's steps many times as long.
 ghost use Rattle.std.specs.Prelude.{◌≡◌, ◌++◌, ◌∷◌, [], OnOk};
 
 use ds_base::{NoMemory, Sequence};

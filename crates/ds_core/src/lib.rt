@@ -1,23 +1,13 @@
-//! The core: one store in one thread, and what each of sixteen clients has seen of it.
+//! Runs over single events: the atomic steps of a store that sixteen clients use at once, taken one after another.
 //!
-//! What is said to a request and what that changes is planned in `ds_plans`. Begin with `whole`, which has `Core`: it answers each request
-//! at once, and its clause `answered` says that the reply is the definitions' over every journal that begins with the new one. `meeting`
-//! has how the sessions meet. `run` takes single events instead, the atomic steps of a store that many clients use at once: `machine` opens
-//! requests and replies to them, `gathering` has what each step does, `finishing` the steps that are missing at the end.
+//! `run` takes a list of events and tells who was answered what, in which order. Begin with `machine`, which opens requests and replies
+//! to them; `gathering` has what each step does, `opened` what an open request has gathered, `finishing` the steps that are missing at the
+//! end. What is said to a request, once its steps were taken, is planned in `ds_plans`.
 //!
-//! Of the definitions begin with `specs/Answered`: what an answer is, told of the store and of the sessions before and after, which is what
-//! the proof of the main theorem takes from this crate. `Cores` says what a core keeps. Of a run `Courses` says what has happened in it,
-//! step by step; `Timelines` has what each step may change and at which steps the numbers of a reply were read, and `Witnesses` how that is
-//! kept.
+//! Of the definitions begin with `specs/Rounds`, what one legal round is. `Courses` says what has happened in a run, step by step;
+//! `Timelines` has what each step may change and at which steps the numbers of a reply were read, and `Witnesses` how that is kept.
 //!
-//! A caller serves rounds of requests so, with room in the text for a reply that there was no memory:
-//!
-//!     let mut core = Core::make(alloc, shards, defs)?;
-//!     core.meet();                                             // at the start of each round
-//!     core.answer(alloc, number, request, keep, &mut text);    // each line by client; the reply stands at the end of the text
-//!     let journal = core.end();
-//!
-//! Single events are run at once, `Event { step: Step::Touch, client, begins: Some(request) }` and so on:
+//! A caller runs single events so, `Event { step: Step::Touch, client, begins: Some(request) }` and so on:
 //!
 //!     let transcript = run(alloc, events, shards, defs)?;
 #![tactic(auto)]
@@ -27,12 +17,10 @@ mod finishing;
 mod gathering;
 mod holding;
 mod machine;
-mod meeting;
 mod opened;
 mod running;
-mod whole;
+mod sessions;
 
 pub use ds_plans::Step;
 pub use event::{Event, Events, Replies, Requests, Transcript};
 pub use running::run;
-pub use whole::Core;

@@ -1,6 +1,6 @@
 //! The machine of events: one store, and for each client what it has seen and its open request.
 ghost use Rattle.std.specs.Prelude.{◌≡◌, ◌≢◌, ◌≤◌, ◌<◌, [], false, None, Some, Option, get_or, is_some, length, slice_set};
-ghost use Rattle.std.specs.Prelude.{IfOk, IfSome, OnOk, IsTrue};
+ghost use Rattle.std.specs.Prelude.{IfOk, IfSome, OnOk};
 ghost use Rattle.ds_base.specs.Limits.{greatest_client, most_shards};
 ghost use Rattle.ds_model.specs.Sessions.{Session};
 ghost use Rattle.ds_plans.specs.declared.gathered.Step.{Step};
@@ -13,8 +13,8 @@ ghost use Rattle.ds_core.specs.Witnesses.{IsToldTo, OpensAt, RepliesAt, TakesAt}
 
 use crate::event::{Event, Replies, Requests, Transcript};
 use crate::holding::put;
-use crate::meeting::first_sessions;
 use crate::opened::{Open, asked_of, none_open, open_request, plan_open, take_open};
+use crate::sessions::first_sessions;
 use ds_base::NoMemory;
 use ds_indexdef::Defs;
 use ds_plans::effect::Effect;

@@ -45,7 +45,17 @@ fn the_first_commits(alloc: Global) -> Result<bool, Fail> {
             (0, Step::Commit, ""),
             (1, Step::Commit, ""),
         ],
-        "{\"client\":0,\"commit\":1,\"key\":[[\"T\",\"a\"]],\"line\":1,\"ok\":\"put\"}\n{\"client\":0,\"line\":2,\"ok\":\"begin\"}\n{\"client\":0,\"entity\":{\"key\":[[\"T\",\"a\"]],\"properties\":{\"v\":0}},\"line\":3,\"ok\":\"get\",\"place\":1}\n{\"client\":0,\"key\":[[\"T\",\"a\"]],\"line\":4,\"ok\":\"put\",\"place\":1}\n{\"client\":1,\"line\":5,\"ok\":\"begin\"}\n{\"client\":1,\"entity\":{\"key\":[[\"T\",\"a\"]],\"properties\":{\"v\":0}},\"line\":6,\"ok\":\"get\",\"place\":1}\n{\"client\":1,\"key\":[[\"T\",\"a\"]],\"line\":7,\"ok\":\"put\",\"place\":1}\n{\"client\":0,\"commit\":2,\"line\":8,\"ok\":\"commit\"}\n{\"client\":1,\"commit\":2,\"error\":13,\"group\":[[\"T\",\"a\"]],\"line\":9,\"name\":\"Conflict\",\"place\":2}\n",
+        "{\"client\":0,\"commit\":1,\"key\":[[\"T\",\"a\"]],\"line\":1,\"ok\":\"put\"}\n\
+          {\"client\":0,\"line\":2,\"ok\":\"begin\"}\n\
+          {\"client\":0,\"entity\":{\"key\":[[\"T\",\"a\"]],\"properties\":{\"v\":0}},\"line\":3,\"ok\":\"get\",\
+          \"place\":1}\n\
+          {\"client\":0,\"key\":[[\"T\",\"a\"]],\"line\":4,\"ok\":\"put\",\"place\":1}\n\
+          {\"client\":1,\"line\":5,\"ok\":\"begin\"}\n\
+          {\"client\":1,\"entity\":{\"key\":[[\"T\",\"a\"]],\"properties\":{\"v\":0}},\"line\":6,\"ok\":\"get\",\
+          \"place\":1}\n\
+          {\"client\":1,\"key\":[[\"T\",\"a\"]],\"line\":7,\"ok\":\"put\",\"place\":1}\n\
+          {\"client\":0,\"commit\":2,\"line\":8,\"ok\":\"commit\"}\n\
+          {\"client\":1,\"commit\":2,\"error\":13,\"group\":[[\"T\",\"a\"]],\"line\":9,\"name\":\"Conflict\",\"place\":2}\n",
     )
 }
 
@@ -90,7 +100,17 @@ fn the_second_commits(alloc: Global) -> Result<bool, Fail> {
             (1, Step::Commit, ""),
             (0, Step::Commit, ""),
         ],
-        "{\"client\":0,\"commit\":1,\"key\":[[\"T\",\"a\"]],\"line\":1,\"ok\":\"put\"}\n{\"client\":0,\"line\":2,\"ok\":\"begin\"}\n{\"client\":0,\"entity\":{\"key\":[[\"T\",\"a\"]],\"properties\":{\"v\":0}},\"line\":3,\"ok\":\"get\",\"place\":1}\n{\"client\":0,\"key\":[[\"T\",\"a\"]],\"line\":4,\"ok\":\"put\",\"place\":1}\n{\"client\":1,\"line\":5,\"ok\":\"begin\"}\n{\"client\":1,\"entity\":{\"key\":[[\"T\",\"a\"]],\"properties\":{\"v\":0}},\"line\":6,\"ok\":\"get\",\"place\":1}\n{\"client\":1,\"key\":[[\"T\",\"a\"]],\"line\":7,\"ok\":\"put\",\"place\":1}\n{\"client\":1,\"commit\":2,\"line\":8,\"ok\":\"commit\"}\n{\"client\":0,\"commit\":2,\"error\":13,\"group\":[[\"T\",\"a\"]],\"line\":9,\"name\":\"Conflict\",\"place\":2}\n",
+        "{\"client\":0,\"commit\":1,\"key\":[[\"T\",\"a\"]],\"line\":1,\"ok\":\"put\"}\n\
+          {\"client\":0,\"line\":2,\"ok\":\"begin\"}\n\
+          {\"client\":0,\"entity\":{\"key\":[[\"T\",\"a\"]],\"properties\":{\"v\":0}},\"line\":3,\"ok\":\"get\",\
+          \"place\":1}\n\
+          {\"client\":0,\"key\":[[\"T\",\"a\"]],\"line\":4,\"ok\":\"put\",\"place\":1}\n\
+          {\"client\":1,\"line\":5,\"ok\":\"begin\"}\n\
+          {\"client\":1,\"entity\":{\"key\":[[\"T\",\"a\"]],\"properties\":{\"v\":0}},\"line\":6,\"ok\":\"get\",\
+          \"place\":1}\n\
+          {\"client\":1,\"key\":[[\"T\",\"a\"]],\"line\":7,\"ok\":\"put\",\"place\":1}\n\
+          {\"client\":1,\"commit\":2,\"line\":8,\"ok\":\"commit\"}\n\
+          {\"client\":0,\"commit\":2,\"error\":13,\"group\":[[\"T\",\"a\"]],\"line\":9,\"name\":\"Conflict\",\"place\":2}\n",
     )
 }
 
@@ -113,7 +133,8 @@ fn an_id_is_drawn_before_and_committed_after(alloc: Global) -> Result<bool, Fail
             (1, Step::Commit, ""),
             (0, Step::Commit, ""),
         ],
-        "{\"client\":1,\"commit\":1,\"key\":[[\"T\",4503599627370497]],\"line\":1,\"ok\":\"put\"}\n{\"client\":0,\"commit\":2,\"key\":[[\"T\",4503599627370496]],\"line\":2,\"ok\":\"put\"}\n",
+        "{\"client\":1,\"commit\":1,\"key\":[[\"T\",4503599627370497]],\"line\":1,\"ok\":\"put\"}\n\
+          {\"client\":0,\"commit\":2,\"key\":[[\"T\",4503599627370496]],\"line\":2,\"ok\":\"put\"}\n",
     )
 }
 
@@ -142,7 +163,10 @@ fn a_query_sees_each_shard_at_its_view(alloc: Global) -> Result<bool, Fail> {
             (2, Step::Apply { shard: 1 }, ""),
             (1, Step::View { shard: 1 }, ""),
         ],
-        "{\"client\":0,\"commit\":1,\"key\":[[\"T\",\"b\"]],\"line\":1,\"ok\":\"put\"}\n{\"client\":0,\"commit\":2,\"key\":[[\"T\",\"a\"]],\"line\":2,\"ok\":\"put\"}\n{\"applied\":[0,1],\"client\":1,\"line\":3,\"ok\":\"query\",\"results\":[{\"key\":[[\"T\",\"a\"]],\"properties\":{\"v\":0}}]}\n",
+        "{\"client\":0,\"commit\":1,\"key\":[[\"T\",\"b\"]],\"line\":1,\"ok\":\"put\"}\n\
+          {\"client\":0,\"commit\":2,\"key\":[[\"T\",\"a\"]],\"line\":2,\"ok\":\"put\"}\n\
+          {\"applied\":[0,1],\"client\":1,\"line\":3,\"ok\":\"query\",\"results\":[{\"key\":[[\"T\",\"a\"]],\"properties\":{\"v\":\
+          0}}]}\n",
     )
 }
 
@@ -171,7 +195,9 @@ fn another_apply_takes_the_entry(alloc: Global) -> Result<bool, Fail> {
             (1, Step::Apply { shard: 0 }, ""),
             (1, Step::View { shard: 0 }, ""),
         ],
-        "{\"client\":0,\"commit\":1,\"key\":[[\"T\",\"a\"]],\"line\":1,\"ok\":\"put\"}\n{\"applied\":true,\"client\":2,\"count\":1,\"line\":2,\"ok\":\"apply\",\"place\":1,\"shard\":0}\n{\"applied\":false,\"client\":1,\"count\":1,\"line\":3,\"ok\":\"apply\",\"place\":1,\"shard\":0}\n",
+        "{\"client\":0,\"commit\":1,\"key\":[[\"T\",\"a\"]],\"line\":1,\"ok\":\"put\"}\n\
+          {\"applied\":true,\"client\":2,\"count\":1,\"line\":2,\"ok\":\"apply\",\"place\":1,\"shard\":0}\n\
+          {\"applied\":false,\"client\":1,\"count\":1,\"line\":3,\"ok\":\"apply\",\"place\":1,\"shard\":0}\n",
     )
 }
 
@@ -199,7 +225,11 @@ fn a_settle_waits_for_what_it_covers(alloc: Global) -> Result<bool, Fail> {
                 "{\"op\":\"get\",\"client\":0,\"key\":[[\"T\",\"a\"]]}",
             ),
         ],
-        "{\"client\":0,\"commit\":1,\"key\":[[\"T\",\"a\"]],\"line\":1,\"ok\":\"put\"}\n{\"client\":0,\"commit\":2,\"key\":[[\"T\",\"b\"]],\"line\":2,\"ok\":\"put\"}\n{\"client\":0,\"entity\":{\"key\":[[\"T\",\"a\"]],\"properties\":{\"v\":0}},\"line\":3,\"ok\":\"get\",\"place\":2}\n{\"applied\":[2],\"client\":1,\"line\":4,\"ok\":\"settle\",\"place\":1}\n",
+        "{\"client\":0,\"commit\":1,\"key\":[[\"T\",\"a\"]],\"line\":1,\"ok\":\"put\"}\n\
+          {\"client\":0,\"commit\":2,\"key\":[[\"T\",\"b\"]],\"line\":2,\"ok\":\"put\"}\n\
+          {\"client\":0,\"entity\":{\"key\":[[\"T\",\"a\"]],\"properties\":{\"v\":0}},\"line\":3,\"ok\":\"get\",\
+          \"place\":2}\n\
+          {\"applied\":[2],\"client\":1,\"line\":4,\"ok\":\"settle\",\"place\":1}\n",
     )
 }
 
@@ -240,7 +270,15 @@ fn a_transaction_reads_behind_what_is_applied(alloc: Global) -> Result<bool, Fai
             ),
             (0, Step::View { shard: 0 }, ""),
         ],
-        "{\"client\":0,\"commit\":1,\"key\":[[\"T\",\"a\"]],\"line\":1,\"ok\":\"put\"}\n{\"client\":1,\"line\":2,\"ok\":\"begin\"}\n{\"client\":1,\"entity\":{\"key\":[[\"T\",\"a\"]],\"properties\":{\"v\":0}},\"line\":3,\"ok\":\"get\",\"place\":1}\n{\"client\":0,\"commit\":2,\"key\":[[\"T\",\"a\"]],\"line\":4,\"ok\":\"put\"}\n{\"client\":1,\"entity\":{\"key\":[[\"T\",\"a\"]],\"properties\":{\"v\":0}},\"line\":5,\"ok\":\"get\",\"place\":1}\n{\"client\":0,\"entity\":{\"key\":[[\"T\",\"a\"]],\"properties\":{\"v\":1}},\"line\":6,\"ok\":\"get\",\"place\":2}\n",
+        "{\"client\":0,\"commit\":1,\"key\":[[\"T\",\"a\"]],\"line\":1,\"ok\":\"put\"}\n\
+          {\"client\":1,\"line\":2,\"ok\":\"begin\"}\n\
+          {\"client\":1,\"entity\":{\"key\":[[\"T\",\"a\"]],\"properties\":{\"v\":0}},\"line\":3,\"ok\":\"get\",\
+          \"place\":1}\n\
+          {\"client\":0,\"commit\":2,\"key\":[[\"T\",\"a\"]],\"line\":4,\"ok\":\"put\"}\n\
+          {\"client\":1,\"entity\":{\"key\":[[\"T\",\"a\"]],\"properties\":{\"v\":0}},\"line\":5,\"ok\":\"get\",\
+          \"place\":1}\n\
+          {\"client\":0,\"entity\":{\"key\":[[\"T\",\"a\"]],\"properties\":{\"v\":1}},\"line\":6,\"ok\":\"get\",\
+          \"place\":2}\n",
     )
 }
 

@@ -2,7 +2,7 @@
 ghost use Rattle.std.specs.Prelude.{◌≡◌, ◌≤◌, ◌<◌, [], None, Some, length, IfSome, IsTrue};
 ghost use Rattle.ds_request.specs.declared.call.Call.{Call};
 ghost use Rattle.ds_protocol.specs.Operations.{IsAskedOf, IsLawfulOperation, call_of};
-ghost use Rattle.ds_applied.specs.AppliedLists.{AreCounts, entries_by};
+ghost use Rattle.ds_applied.specs.AppliedLists.{entries_by};
 ghost use Rattle.ds_model.specs.Asked.{has_shard};
 ghost use Rattle.ds_model.specs.Answers.{AppliedCount};
 ghost use Rattle.ds_model.specs.Groups.{IsSeenPlace};

@@ -6,7 +6,7 @@ ghost use Rattle.ds_request.specs.declared.call.Call.{Call};
 ghost use Rattle.ds_model.specs.Groups.{ReadsAt, group_refusal};
 ghost use Rattle.ds_protocol.specs.Searches.{IsLawfulSearch, IsSearchOf};
 ghost use Rattle.ds_plans.specs.declared.gathered.Step.{Step};
-ghost use Rattle.ds_plans.specs.Due.{IsDuePlan, IsGathered, ids_of};
+ghost use Rattle.ds_plans.specs.Due.{IsDuePlan, IsGathered};
 ghost use Rattle.ds_plans.specs.Queries.{IsPrepared};
 ghost use Rattle.ds_plans.specs.Reads.{IsPulled, IsReached};
 ghost use Rattle.ds_protocol.specs.Refused.{IsRefusal, is_quiet};

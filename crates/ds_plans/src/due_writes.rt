@@ -1,5 +1,5 @@
 //! The replies to open puts and deletes, as soon as nothing is missing.
-ghost use Rattle.std.specs.Prelude.{◌≡◌, ◌≤◌, ◌∷◌, [], true, false, None, Some, IfOk, IfSome, IsTrue};
+ghost use Rattle.std.specs.Prelude.{◌≡◌, [], true, false, None, Some, IfOk, IfSome, IsTrue};
 ghost use Rattle.ds_base.specs.Keys.{ends_in_id, root_of};
 ghost use Rattle.ds_log.specs.declared.Write.TheVariants as write;
 ghost use Rattle.ds_request.specs.declared.call.Call.{Call};

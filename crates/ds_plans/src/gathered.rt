@@ -1,5 +1,5 @@
 //! The steps of a machine of events, and what an open request has gathered by those of its client.
-ghost use Rattle.std.specs.Prelude.{◌≡◌, ◌<◌, ◌≤◌, None, Some, is_some, length, map, replicate, slice_set, IfOk, IfSome};
+ghost use Rattle.std.specs.Prelude.{◌≡◌, ◌<◌, None, Some, is_some, length, map, replicate, slice_set, IfOk, IfSome};
 ghost use Rattle.std.specs.List.{list_all};
 
 use ds_base::{Counts, NoMemory};

@@ -1,15 +1,12 @@
 //! What is said to a request, and what that changes: plans over one store and one client's session, and how they take effect.
 //!
-//! A request is answered in two steps. First a plan is made of what is said and what that changes (`effect`): `answering` calls `writes`
-//! (with `placing`), `transactions`, `reads` and `queries`. A plan changes nothing but how many entries are applied. Then `perform` makes
-//! room for the reply, takes effect wholly or not at all, and writes: so no reply after a commit or a drawn id tells of want of memory.
-//! Begin with `answering`: its clause `answered` says that the reply is the definitions' over every journal that begins with the new one.
-//!
-//! Where many clients share the store, a request is open while its client takes steps, each one hold of a lock or one look at a snapshot:
-//! `steps` has what a step reads and changes of the store, and `gathered` the steps themselves and what an open request has gathered by
-//! them. `due` (with `due_reads` and `due_writes`) plans the reply as soon as nothing is missing: its clause `plan` says that it is an
-//! answer, and `told` that its places, counts, commits and ids are the gathered ones. What is asked stands in `ds_protocol`, which takes a
-//! call apart, and is lent to both ways of planning.
+//! A request is open while its client takes steps, each one hold of a lock or one look at a snapshot: `steps` has what a step reads and
+//! changes of the store, and `gathered` the steps themselves and what an open request has gathered by them. As soon as nothing is missing a
+//! plan is made of what is said and what that changes (`effect`): `due` calls `due_reads` and `due_writes`, and these call `writes` (with
+//! `placing`), `transactions`, `reads` and `queries`. Its clause `plan` says that it is an answer, and `told` that its places, counts,
+//! commits and ids are the gathered ones. A plan changes nothing but how many entries are applied. Then `perform` makes room for the reply,
+//! takes effect wholly or not at all, and writes: so no reply after a commit or a drawn id tells of want of memory. What is asked stands in
+//! `ds_protocol`, which takes a call apart, and is lent.
 //!
 //! Of the definitions begin with `specs/Answered`: what an answer is, told of the store and of the client's session before and after; and
 //! what a plan is. `States` says what a store and a session keep, `Effects` what a plan changes and when it may. `Due` says what an open
@@ -18,7 +15,6 @@
 //! names end in `Plans` have what is said to each request.
 #![tactic(auto)]
 
-mod answering;
 mod due;
 mod due_reads;
 mod due_writes;

@@ -1,6 +1,6 @@
 //! Where a write stands, and what it changes.
-ghost use Rattle.std.specs.Prelude.{◌≡◌, ◌≤◌, ℕ, None, Option, Some, length, IfSome};
-ghost use Rattle.ds_log.specs.Logs.{group_of, key_of};
+ghost use Rattle.std.specs.Prelude.{◌≡◌, ℕ, None, Option, Some, length, IfSome};
+ghost use Rattle.ds_log.specs.Logs.{group_of};
 ghost use Rattle.ds_model.specs.Groups.{IsSeenPlace};
 ghost use Rattle.ds_plans.specs.States.{IsSession};
 ghost use Rattle.ds_plans.specs.Told.{WriteToldOnceDue};

@@ -3,7 +3,6 @@ ghost use Rattle.std.specs.Prelude.{◌≡◌, None, Some, IfOk, OnOk, OnErr};
 ghost use Rattle.ds_model.specs.Answers.{begun};
 ghost use Rattle.ds_model.specs.Groups.{place_in, touching, touching_if, writing, with_transaction};
 ghost use Rattle.ds_model.specs.Sessions.{first_session, greater_counts, saw_place, saw_next, saw_entries};
-ghost use Rattle.ds_protocol.specs.Watermarks.{raised_by};
 
 use crate::effect::{CountSeen, CountsSeen, GroupRead};
 use ds_base::{Key, NoMemory};
@@ -47,13 +46,6 @@ impl Session {
         })
     }
 
-    /// What the client has seen.
-    pub fn seen(&self) -> &Watermark
-        ensures { with_transaction self.now.transaction result.now ≡ self.now }
-    {
-        &self.seen
-    }
-
     /// The client was shown a place.
     pub fn see_place(&mut self, place: u64)
         ensures { self.new ≡ saw_place place self.old }
@@ -66,13 +58,6 @@ impl Session {
         ensures { self.new ≡ saw_next next self.old }
     {
         self.seen.see_next(next);
-    }
-
-    /// The client met others, who have seen this at most.
-    pub fn meet(&mut self, greatest: &Watermark)
-        ensures { self.new ≡ raised_by greatest.now self.old }
-    {
-        self.seen.raise(greatest);
     }
 }
 

@@ -1,5 +1,5 @@
 //! What a step reads of the store, and what it changes of it.
-ghost use Rattle.std.specs.Prelude.{◌≡◌, ◌+◌, ◌-◌, ◌≤◌, ◌<◌, None, length, nat_le, IfOk, IfSome, IsTrue, OnOk};
+ghost use Rattle.std.specs.Prelude.{◌≡◌, ◌+◌, ◌-◌, ◌≤◌, ◌<◌, None, length, nat_le, IfOk, IfSome, OnOk};
 ghost use Rattle.ds_base.specs.Limits.{first_drawn_id, greatest_id};
 ghost use Rattle.ds_applied.specs.AppliedLists.{entries_by};
 ghost use Rattle.ds_model.specs.Sessions.{count_of};

@@ -1,5 +1,5 @@
 //! Transactions begin and end, and ids are drawn.
-ghost use Rattle.std.specs.Prelude.{◌≡◌, ◌≤◌, Some, IfOk};
+ghost use Rattle.std.specs.Prelude.{◌≡◌, Some};
 ghost use Rattle.ds_log.specs.Conflicts.{conflict_of};
 ghost use Rattle.ds_request.specs.declared.call.Call.{Call};
 ghost use Rattle.ds_plans.specs.Answered.{IsPlan};
@@ -11,7 +11,6 @@ use crate::effect::{Effect, Plan};
 use crate::session::Session;
 use crate::state::State;
 use ds_base::TryCopy;
-use ds_base::limits::MAX_ID;
 use ds_journal::Draft;
 use ds_log::Conflict;
 use ds_protocol::draft_of_transaction;
@@ -45,25 +44,6 @@ impl State {
         Plan {
             body: Body::Rollback,
             effect: Effect::End,
-        }
-    }
-
-    /// So many ids are drawn, where so many are left.
-    pub fn plan_allocate_ids(&self, session: &Session, client: u32, count: u64) -> Plan
-        requires some { 1 ≤ count }
-        requires seen { IsSession self.now session.now }
-        ensures { IsPlan self.now session.now client (Call.AllocateIds count) result.body result.effect }
-    {
-        let next = self.book.next();
-        if count > MAX_ID - next {
-            return Plan {
-                body: Body::IdsExhausted { next },
-                effect: Effect::SeeNext { next },
-            };
-        }
-        Plan {
-            body: Body::AllocateIds { first: next, count },
-            effect: Effect::Draw { count },
         }
     }
 

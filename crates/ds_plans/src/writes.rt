@@ -1,7 +1,6 @@
 //! Puts and deletes.
-ghost use Rattle.std.specs.Prelude.{◌≡◌, ◌+◌, ◌≤◌, ◌<◌, ◌⊎◌, ◌^◌, ◌∷◌, [], true, false, None, Some, length, IfErr, IfSome, IsTrue, OnOk};
-ghost use Rattle.ds_base.specs.Keys.{ends_in_id, root_of};
-ghost use Rattle.ds_base.specs.Limits.{greatest_id};
+ghost use Rattle.std.specs.Prelude.{◌≡◌, ◌<◌, false, None, Some, IfErr, IfSome, IsTrue, OnOk};
+ghost use Rattle.ds_base.specs.Keys.{root_of};
 ghost use Rattle.ds_log.specs.declared.Write.TheVariants as write;
 ghost use Rattle.ds_log.specs.Ids.{first_unissued};
 ghost use Rattle.ds_request.specs.declared.call.Call.{Call};
@@ -17,7 +16,6 @@ use crate::effect::{Effect, Plan};
 use crate::placing::WritePlan;
 use crate::session::Session;
 use crate::state::State;
-use ds_base::limits::MAX_ID;
 use ds_base::{Entity, Key, TryCopy};
 use ds_log::Write;
 use ds_protocol::first_unissued;
@@ -25,31 +23,6 @@ use ds_reply::Body;
 use std::alloc::Global;
 
 impl State {
-    /// An entity is put, which nothing but its ids can refuse: by itself outside a transaction, and behind the other writes inside one.
-    /// Where its key is incomplete the next id completes it.
-    pub(crate) fn plan_put(
-        &self,
-        alloc: Global,
-        session: &Session,
-        client: u32,
-        entity: &Entity,
-        incomplete: bool,
-    ) -> Plan
-        requires unrefused { refusal_of self.now.store.definitions session.now
-            (Call.Put entity.now.key incomplete entity.now.properties) ≡ None }
-        requires ends_in_id { IsTrue incomplete → IsTrue (ends_in_id entity.now.key.elems) }
-        requires seen { IsSession self.now session.now }
-        ensures { IsPlan self.now session.now client (Call.Put entity.now.key incomplete entity.now.properties) result.body result.effect }
-    {
-        match self.check_put(session, client, entity, incomplete) {
-            Ok(()) => match entity.copy(alloc) {
-                Ok(entity) => self.plan_issued(alloc, session, client, entity, incomplete),
-                Err(_) => Plan::no_memory(),
-            },
-            Err(plan) => plan,
-        }
-    }
-
     /// Whether nothing but the want of further ids can refuse the put of an entity; or the plan of its refusal, which changes no store.
     pub(crate) fn check_put(
         &self,
@@ -75,60 +48,6 @@ impl State {
             }),
             None => Ok(()),
         }
-    }
-
-    /// Its ids are issued.
-    fn plan_issued(
-        &self,
-        alloc: Global,
-        session: &Session,
-        client: u32,
-        entity: Entity,
-        incomplete: bool,
-    ) -> Plan
-        requires unrefused { refusal_of self.now.store.definitions session.now (Call.Put entity.key incomplete entity.properties) ≡ None }
-        requires issued { first_unissued self.now.store.next entity.key.elems ≡ None }
-        requires left { self.now.store.next ≤ greatest_id }
-        requires ends_in_id { IsTrue incomplete → IsTrue (ends_in_id entity.key.elems) }
-        requires seen { IsSession self.now session.now }
-        ensures { IsPlan self.now session.now client (Call.Put entity.key incomplete entity.properties) result.body result.effect }
-    {
-        if incomplete {
-            self.plan_completed(alloc, session, client, entity)
-        } else {
-            self.plan_complete(alloc, session, client, entity)
-        }
-    }
-
-    /// Its key is complete.
-    fn plan_complete(&self, alloc: Global, session: &Session, client: u32, entity: Entity) -> Plan
-        requires unrefused { refusal_of self.now.store.definitions session.now (Call.Put entity.key false entity.properties) ≡ None }
-        requires issued { first_unissued self.now.store.next entity.key.elems ≡ None }
-        requires left { self.now.store.next ≤ greatest_id }
-        requires seen { IsSession self.now session.now }
-        ensures { IsPlan self.now session.now client (Call.Put entity.key false entity.properties) result.body result.effect }
-    {
-        self.say_put(alloc, session, client, entity, false, None)
-    }
-
-    /// The next id completes its key.
-    fn plan_completed(&self, alloc: Global, session: &Session, client: u32, entity: Entity) -> Plan
-        requires unrefused { refusal_of self.now.store.definitions session.now (Call.Put entity.key true entity.properties) ≡ None }
-        requires issued { first_unissued self.now.store.next entity.key.elems ≡ None }
-        requires ends_in_id { IsTrue (ends_in_id entity.key.elems) }
-        requires seen { IsSession self.now session.now }
-        ensures { IsPlan self.now session.now client (Call.Put entity.key true entity.properties) result.body result.effect }
-    {
-        let next = self.book.next();
-        if next >= MAX_ID {
-            return Plan {
-                body: Body::IdsExhausted { next },
-                effect: Effect::SeeNext { next },
-            };
-        }
-        let mut entity = entity;
-        entity.renumber(next);
-        self.say_put(alloc, session, client, entity, true, None)
     }
 
     /// Says that an entity is put; a group that isn't touched is touched at this place, or at the journal's end.
