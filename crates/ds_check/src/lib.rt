@@ -5,6 +5,15 @@
 //! is read from JSON, and `specs/Lawful` which commits there are. Of the code begin with `writing` and `reading`; `forms` has a rule for
 //! each part of a commit. A commit that was read is written again and compared, so a line that is read is just the commit's text. `lawful`
 //! walks over a commit for the proofs' sake, and `laws` says that keys and entities that are shown are read back.
+//!
+//! A caller keeps a journal as text, and gets it back or the first wrong line:
+//!
+//!     let text = write_journal(alloc, &journal)?;
+//!     match read_journal(alloc, text.bytes()) {
+//!         Ok(again) => compare(&again, &journal),
+//!         Err(JournalRefused::Line(number)) => complain(number),
+//!         Err(JournalRefused::NoMemory) => give_up(),
+//!     }
 #![tactic(auto)]
 
 mod forms;

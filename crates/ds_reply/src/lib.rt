@@ -2,10 +2,10 @@
 //!
 //! Of the definitions begin with `specs/Replies` (what each reply tells, and its text); `specs/Refusals` is the table of
 //! refusals, `specs/Printing` says how keys, values and entities are shown, and `specs/Objects` how the members of an object
-//! stand. Of the code begin with `write` (replies) and `parts` (keys and entities alone), the public calls, then `bodies` and `refusals` (what each reply tells, as the
-//! definitions say it) and `object` (members by name). It stands on `ds_base`, `ds_query` and `ds_indexdef`, whose types
-//! replies show, on `serde_json` and `json` for what a JSON text is, on `base64` and `itoa` for symbols and digits, and on
-//! `arrayvec` for short lists without memory.
+//! stand. Of the code begin with `write` (replies) and `parts` (keys and entities alone), the public calls, then `bodies` and
+//! `refusals` (what each reply tells, as the definitions say it) and `object` (members by name). It stands on `ds_base`, `ds_query`
+//! and `ds_indexdef`, whose types replies show, on `serde_json` and `json` for what a JSON text is, on `base64` and `itoa` for symbols
+//! and digits, and on `arrayvec` for short lists without memory.
 #![tactic(auto)]
 
 mod bodies;

@@ -16,7 +16,7 @@ fn note(all: &mut ByteString, found: &[u8]) -> Result<(), AllocError> {
 
 /// The strings above `after` that the scans have in common, each with a blank after it: at most nine of them. However many
 /// they are, it takes no more steps than a walk to the end.
-pub fn all_common<S: Scan, L: Ledger>(
+pub(crate) fn all_common<S: Scan, L: Ledger>(
     alloc: Global,
     scans: &mut [S],
     after: Option<&[u8]>,
@@ -39,7 +39,7 @@ pub fn all_common<S: Scan, L: Ledger>(
 }
 
 /// Whether the scan, sought from there on, gives just this.
-pub fn gives<S: Scan, L: Ledger>(
+pub(crate) fn gives<S: Scan, L: Ledger>(
     scan: &mut S,
     at_least: &[u8],
     want: Option<&[u8]>,
