@@ -157,9 +157,9 @@ class Derived(unittest.TestCase):
 
     def test_a_conflict_has_its_commit_and_its_touch(self):
         data = data_of(*example("a_conflict"))
-        row = data["columns"]["line"].index(11)
+        row = data["columns"]["line"].index(12)
         self.assertEqual([[row, 2, 0]], data["ways"])
-        self.assertEqual(data["columns"]["line"], [1, 3, 4, 5, 6, 7, 8, 10, 11])
+        self.assertEqual(data["columns"]["line"], [1, 3, 4, 5, 6, 7, 8, 10, 12])
         ends = {(client, end, writes): [(data["columns"]["line"][at], place) for at, _, place in touches] for client, _, _, end, writes, touches in data["spans"]}
         self.assertEqual(ends, {(0, "commit", 1): [(4, 1)], (1, "conflict", 1): [(7, 1)]})
 
@@ -512,7 +512,7 @@ class InBrowser(unittest.TestCase):
     def test_a_conflict_tells_its_story(self):
         self.open(page_of(*example("a_conflict")))
         self.assertIn("Commit 2 (client 0, line 10) wrote T a after place 1, at which this transaction had touched it in line 7.", self.panel())
-        self.assertIn("The transaction of lines 6 to 11: 1 group touched, 1 write, ended by conflict.", self.panel())
+        self.assertIn("The transaction of lines 6 to 12: 1 group touched, 1 write, ended by conflict.", self.panel())
         self.assertGreater(self.drawn("conflict"), 40)
         self.assertEqual(self.drawn("stale"), 0)
         self.browser.key("ArrowUp")
