@@ -10,9 +10,13 @@ const ONE: &str =
 
 // Every type of value, several values, unindexed ones, a namespace, escapes, the outermost numbers; touched groups, and a delete.
 const MANY: &str =
-    r#"{"client":15,"commit":1,"touched":[[["n1",["Task","a"]],0],[[["Task",9223372036854775807]],18446744073709551615]],"writes":[{"put":{"key":["n1",["Task","a"],["Sub",1]],"properties":{"a":null,"b":[1,-9223372036854775808,9223372036854775807],"c":{"date":-1},"d":{"rating":100},"e":[true,false],"f":{"bytes":"AAH/"},"g":{"text":"long"},"h":{"unindexed":{"blob":""}},"i":{"key":[["__Kind__","__name__"]]},"j":{"unindexed":["x","\"\\\n\u0000é"]}}}},{"delete":[["__Kind__",7]]}]}
-{"client":1,"commit":2,"touched":[],"writes":[]}
-"#;
+    "{\"client\":15,\"commit\":1,\"touched\":[[[\"n1\",[\"Task\",\"a\"]],0],[[[\"Task\",9223372036854775807]],\
+     18446744073709551615]],\"writes\":[{\"put\":{\"key\":[\"n1\",[\"Task\",\"a\"],[\"Sub\",1]],\"properties\":{\"a\":null,\
+     \"b\":[1,-9223372036854775808,9223372036854775807],\"c\":{\"date\":-1},\"d\":{\"rating\":100},\"e\":[true,\
+     false],\"f\":{\"bytes\":\"AAH/\"},\"g\":{\"text\":\"long\"},\"h\":{\"unindexed\":{\"blob\":\"\"}},\"i\":{\"key\":[[\"__Kind__\",\
+     \"__name__\"]]},\"j\":{\"unindexed\":[\"x\",\"\\\"\\\\\\n\\u0000é\"]}}}},{\"delete\":[[\"__Kind__\",\
+     7]]}]}\n\
+     {\"client\":1,\"commit\":2,\"touched\":[],\"writes\":[]}\n";
 
 /// Whether the text is a journal's, and is written again byte by byte.
 fn comes_back(alloc: Global, text: &str) -> Result<bool, NoMemory> {

@@ -11,15 +11,19 @@ use std::test::Fail;
 const CUT: [(&[u8], &[u8]); 7] = [
     (
         b"{\"op\":\"settle\"}\r\n\r\n{\"op\":\"settle\"}\r\n",
-        b"{\"applied\":[0],\"client\":0,\"line\":1,\"ok\":\"settle\",\"place\":0}\n{\"applied\":[0],\"client\":0,\"line\":3,\"ok\":\"settle\",\"place\":0}\n",
+        b"{\"applied\":[0],\"client\":0,\"line\":1,\"ok\":\"settle\",\"place\":0}\n\
+          {\"applied\":[0],\"client\":0,\"line\":3,\"ok\":\"settle\",\"place\":0}\n",
     ),
     (
         b"\n{\"op\":\"settle\"}\n\n\n{\"op\":\"settle\"}\n{}\n \t\r\n\n",
-        b"{\"applied\":[0],\"client\":0,\"line\":2,\"ok\":\"settle\",\"place\":0}\n{\"applied\":[0],\"client\":0,\"line\":5,\"ok\":\"settle\",\"place\":0}\n{\"client\":0,\"error\":3,\"field\":\"op\",\"line\":6,\"name\":\"BadRequest\"}\n",
+        b"{\"applied\":[0],\"client\":0,\"line\":2,\"ok\":\"settle\",\"place\":0}\n\
+          {\"applied\":[0],\"client\":0,\"line\":5,\"ok\":\"settle\",\"place\":0}\n\
+          {\"client\":0,\"error\":3,\"field\":\"op\",\"line\":6,\"name\":\"BadRequest\"}\n",
     ),
     (
         b"{}\n\n{}",
-        b"{\"client\":0,\"error\":3,\"field\":\"op\",\"line\":1,\"name\":\"BadRequest\"}\n{\"client\":0,\"error\":3,\"field\":\"op\",\"line\":3,\"name\":\"BadRequest\"}\n",
+        b"{\"client\":0,\"error\":3,\"field\":\"op\",\"line\":1,\"name\":\"BadRequest\"}\n\
+          {\"client\":0,\"error\":3,\"field\":\"op\",\"line\":3,\"name\":\"BadRequest\"}\n",
     ),
     (b"", b""),
     (b"\n\n\n", b""),

@@ -41,7 +41,7 @@ pub const ROUND_REPLIES: [&[u8]; 3] = [
 ];
 
 /// The pieces one behind another.
-pub fn joined(alloc: Global, pieces: &[&[u8]]) -> Result<Vec<u8>, AllocError> {
+pub(crate) fn joined(alloc: Global, pieces: &[&[u8]]) -> Result<Vec<u8>, AllocError> {
     let mut text = Vec::new(alloc);
     for piece in pieces {
         text.extend_from_slice(piece)?;
@@ -98,7 +98,7 @@ fn summand(client: u32, line: u64) -> u64 {
 }
 
 /// The words that the server is started with.
-pub fn words_of(alloc: Global, texts: &[&str]) -> Result<Vec<String>, AllocError> {
+pub(crate) fn words_of(alloc: Global, texts: &[&str]) -> Result<Vec<String>, AllocError> {
     let mut words = Vec::new(alloc);
     for word in texts {
         words.push(String::from_str(alloc, word)?)?;
@@ -107,12 +107,12 @@ pub fn words_of(alloc: Global, texts: &[&str]) -> Result<Vec<String>, AllocError
 }
 
 /// Those for so many shards and no appliers.
-pub fn words(alloc: Global, shards: &str) -> Result<Vec<String>, AllocError> {
+pub(crate) fn words(alloc: Global, shards: &str) -> Result<Vec<String>, AllocError> {
     words_of(alloc, &["--shards", shards, "--appliers", "0"])
 }
 
 /// No files.
-pub fn no_files(alloc: Global) -> MemoryFiles {
+pub(crate) fn no_files(alloc: Global) -> MemoryFiles {
     MemoryFiles::make(
         Names::new(alloc),
         ByteStrings::new(alloc),
@@ -125,7 +125,7 @@ fn only(alloc: Global, number: u64) -> Result<Numbers, AllocError> {
 }
 
 /// Serves a text with these words.
-pub fn served_with<R: Threads + Wait + Sync>(
+pub(crate) fn served_with<R: Threads + Wait + Sync>(
     rt: &R,
     alloc: Global,
     words: &[String],
@@ -159,7 +159,7 @@ pub fn served_with<R: Threads + Wait + Sync>(
 }
 
 /// Serves a text with one shard and no appliers.
-pub fn served<R: Threads + Wait + Sync>(
+pub(crate) fn served<R: Threads + Wait + Sync>(
     rt: &R,
     alloc: Global,
     text: &[u8],
@@ -170,7 +170,7 @@ pub fn served<R: Threads + Wait + Sync>(
 }
 
 /// Whether the taken bytes, followed by the unsent ones, are this text.
-pub fn is_text(ended: &Ended, text: &[u8]) -> bool {
+pub(crate) fn is_text(ended: &Ended, text: &[u8]) -> bool {
     let taken = ended.written.written().bytes();
     if !text.starts_with(taken) {
         return false;
@@ -188,6 +188,6 @@ pub fn is_text(ended: &Ended, text: &[u8]) -> bool {
 }
 
 /// How many commits the run's journal has.
-pub fn commits(ended: &Ended) -> Option<usize> {
+pub(crate) fn commits(ended: &Ended) -> Option<usize> {
     ended.run.journal.as_ref().map(|journal| journal.len())
 }

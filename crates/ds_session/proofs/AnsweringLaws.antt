@@ -63,7 +63,8 @@ module _ (definitions : List IndexDef) (shards client : ℕ) (s : Session) where
   pub refused_first : (c : Call) (o : Operation) (b : Body) → IsOperationOf c o
       → IsRefusal (refusal_of definitions s (call_of o)) (Some b) → is_quiet b ≡ true
       → IsRefusedWith definitions shards s (request_of client c) b
-  refused_first c (operation.Put entity incomplete) b is told quiet = told_first c (call.Put entity.key incomplete entity.properties) b is refl told quiet
+  refused_first c (operation.Put entity incomplete) b is told quiet = told_first c (call.Put entity.key incomplete entity.properties) b is
+      refl told quiet
   refused_first c (operation.Delete key) b is told quiet = told_first c (call.Delete key) b is refl told quiet
   refused_first c (operation.Get key) b is told quiet = told_first c (call.Get key) b is refl told quiet
   refused_first c (operation.Find search) b is (inl told) quiet = cc
@@ -82,7 +83,8 @@ unrefused refusal (inl told) = sym told
 unrefused refusal (inr none) = cc
 
 -- the operation's shard is the call's
-pub same_shard : (shards : ℕ) (c : Call) (o : Operation) → IsOperationOf c o → IsTrue (has_shard shards c) → IsTrue (has_shard shards (call_of o))
+pub same_shard : (shards : ℕ) (c : Call) (o : Operation) → IsOperationOf c o → IsTrue (has_shard shards c)
+    → IsTrue (has_shard shards (call_of o))
 same_shard shards c (operation.Find search) is has = refl
 same_shard shards c (operation.Put entity incomplete) is has = refl
 same_shard shards c (operation.Delete key) is has = refl

@@ -10,10 +10,10 @@ use Rattle.ds_model.specs.Sessions.{Session, raised_to}
 use Rattle.ds_protocol.specs.Watermarks.{HaveCounts}
 use Rattle.ds_store.specs.Passes.{HasRead}
 use Rattle.ds_session.specs.declared.asked.Asked.{Asked}
-use Rattle.ds_session.specs.AskedLines.{AreAsked, AreAskedFrom, MayBeAnswered, lines_of_client}
+use Rattle.ds_session.specs.AskedLines.{AreAsked, AreAskedFrom, MayBeAnswered}
 use Rattle.ds_session.specs.Clients.{AreAlike, EachOf, HasAnsweredOwn, IsReady, clients_of}
 use Rattle.ds_session.specs.Room.{most_no_memory}
-use Rattle.ds_session.specs.Runs.{AreWritten, HasMet, HasTaken, HaveAnswered, HaveMet, HaveTaken, passes_of, seen_of}
+use Rattle.ds_session.specs.Runs.{AreWritten, HasMet, HasTaken, HaveAnswered, HaveMet, HaveTaken, lines_of_client, passes_of, seen_of}
 use Rattle.ds_session.specs.Sessions.{SessionParts}
 
 -- ---- a loop over a list, in place
@@ -164,11 +164,12 @@ module _ {A : Type 0} (session : A → SessionParts) where
 
   pub cleared_alike : (xs ys : List A) → EachOf (λ x y. session y ≡ record (session x) { text = [] }) xs ys
       → EachOf (λ x y. IsAlike (session x) (session y)) xs ys
-  cleared_alike = each_weaker (λ x y. session y ≡ record (session x) { text = [] }) (λ x y. IsAlike (session x) (session y)) (λ x y h. record {
-    client = ap (λ (s : SessionParts). s.client) h;
-    seen = ap (λ (s : SessionParts). s.seen) h;
-    pass = ap (λ (s : SessionParts). s.pass) h;
-  })
+  cleared_alike = each_weaker (λ x y. session y ≡ record (session x) { text = [] }) (λ x y. IsAlike (session x) (session y))
+      (λ x y h. record {
+        client = ap (λ (s : SessionParts). s.client) h;
+        seen = ap (λ (s : SessionParts). s.seen) h;
+        pass = ap (λ (s : SessionParts). s.pass) h;
+      })
 
   pub cleared_text : (xs ys : List A) → EachOf (λ x y. session y ≡ record (session x) { text = [] }) xs ys
       → EachOf (λ x y. (session y).text ≡ []) xs ys

@@ -22,7 +22,8 @@ use Rattle.ds_request.specs.declared.call.Call.TheVariants as call
 use Rattle.ds_reply.specs.declared.reply.WriteAt.TheVariants as at
 use Rattle.ds_reply.specs.declared.reply.Body.{Body}
 use Rattle.ds_reply.specs.declared.reply.Body.TheVariants as body
-use Rattle.ds_model.specs.Groups.{StandsAt, group_refusal, has_none, new_group_refusal, place_in, touching, unless_touched, with_transaction}
+use Rattle.ds_model.specs.Groups.{StandsAt, group_refusal, has_none, new_group_refusal, place_in, touching, unless_touched}
+use Rattle.ds_model.specs.Groups.{with_transaction}
 use Rattle.ds_model.specs.Groups.{write_refusal, writing}
 use Rattle.ds_model.specs.Refusals.{entity_body, first_refusal, group_asked, is_root, refusal_of, row_refusal}
 use Rattle.ds_model.specs.Sessions.{Session, Transaction, next_above, saw_next, saw_place}
@@ -190,7 +191,8 @@ abbrev pub under_id : ℕ → EntityParts → EntityParts
 under_id id e = record { key = renumbered e.key id; properties = e.properties }
 
 -- where a put stands whose id was drawn after a look at the journal
-pub may_put_at : (s : Session) (p q r : PassParts) (group : KeyParts) (looked id : ℕ) → IsWithin s p → HasLooked p q looked → HasDrawn q r id 1
+pub may_put_at : (s : Session) (p q r : PassParts) (group : KeyParts) (looked id : ℕ) → IsWithin s p → HasLooked p q looked
+    → HasDrawn q r id 1
     → MayReadAt s r group (unwrap_or (place_in s.transaction group) looked)
 may_put_at s p q r group looked id within h drawn =
     may_read_later s q r group (unwrap_or (place_in s.transaction group) looked) (grown_drawn q r id 1 drawn)
@@ -243,13 +245,15 @@ module _ (definitions : List IndexDef) (shards : ℕ) (window : Option ℕ) (cli
             (request_of client (call.Put key true properties)) (body.Put (renumbered key id) (at.Place place))
         by None has some = cc
         by (Some t) has some = put_new_taken definitions shards window client s q r key properties t place id has unrefused ends
-            (subst (λ o. StandsAt r.journal s (place_in o (root_of (renumbered key id))) place) has may.stands) may.touched known later drawn
+            (subst (λ o. StandsAt r.journal s (place_in o (root_of (renumbered key id))) place) has may.stands) may.touched known later
+            drawn
 
   -- no id is left
   pub put_new_exhausted : (key : KeyParts) (properties : List Property) (looked next : ℕ)
       → refusal_of definitions s (call.Put key true properties) ≡ None → first_unissued p.next key.elems ≡ None → HasLooked p q looked
       → HasSeenNext q r next → greatest_id < next + 1
-      → HasSaid definitions shards window p r s (saw_next next s) (request_of client (call.Put key true properties)) (body.IdsExhausted next)
+      → HasSaid definitions shards window p r s (saw_next next s) (request_of client (call.Put key true properties))
+      (body.IdsExhausted next)
   put_new_exhausted key properties looked next unrefused issued look seen beyond =
       let known : r.next ≡ next = ap (λ v. v.next) seen.after_is in
       let h : HasRead p r = read_through p q r look.read (read_next q r next seen) in

@@ -1,5 +1,6 @@
 -- A round: from what was done with each client to what was done with all.
-use Rattle.std.proofs.Common.{◌≡◌, ℕ, ◌+◌, ◌*◌, ◌≤◌, List, [], ◌∷◌, ◌++◌, length, length-append, map, replicate, refl, ap, sym, ◌∙◌, subst, arith, zero, suc, Option}
+use Rattle.std.proofs.Common.{◌≡◌, ℕ, ◌+◌, ◌*◌, ◌≤◌, List, [], ◌∷◌, ◌++◌, length, length-append, map, replicate, refl, ap, sym, ◌∙◌}
+use Rattle.std.proofs.Common.{subst, arith, zero, suc, Option}
 use Rattle.std.specs.Prelude.{All, fold}
 use Rattle.std.specs.List.{range_with_len}
 use Rattle.std.proofs.lemmas.List.{append-nil, length-map, length-replicate}
@@ -17,7 +18,8 @@ use Rattle.ds_session.specs.Clients.{AreAlike, EachOf, HasAnsweredOwn, IsReady, 
 use Rattle.ds_session.specs.Room.{most_no_memory}
 use Rattle.ds_session.specs.Runs.{AreWritten, HasTaken, HaveMet, HaveRun, passes_of, seen_of}
 use Rattle.ds_session.specs.Sessions.{SessionParts}
-use Rattle.ds_session.proofs.ClientLaws.{IsAlike, alike, all_ready, counts_kept, each_map, each_through, each_weaker, have_answered, have_taken, met_alike}
+use Rattle.ds_session.proofs.ClientLaws.{IsAlike, alike, all_ready, counts_kept, each_map, each_through, each_weaker, have_answered}
+use Rattle.ds_session.proofs.ClientLaws.{have_taken, met_alike}
 use Rattle.ds_session.proofs.ClientLaws.{are_written, written_each, written_kept}
 use Rattle.ds_session.proofs.MeetingLaws.{have_met}
 
@@ -176,12 +178,14 @@ module _ {A : Type 0} (session : A → SessionParts) (own : A → List Asked) wh
 module _ {A : Type 0} (session : A → SessionParts) where
   -- what was done with each client leaves them alike, and numbered as before
   pub closed_alike : (items given left final : List A) (sessions : List SessionParts) → given ≡ items → final ≡ left
-      → map session items ≡ sessions → EachOf (λ x y. IsAlike (session x) (session y)) given left → map (λ x. (session x).client) items ≡ range_with_len 0 (greatest_client + 1)
+      → map session items ≡ sessions → EachOf (λ x y. IsAlike (session x) (session y)) given left
+      → map (λ x. (session x).client) items ≡ range_with_len 0 (greatest_client + 1)
       → (map (λ x. (session x).client) final ≡ range_with_len 0 (greatest_client + 1)) × AreAlike sessions (map session final)
   closed_alike items given left final sessions same is view each numbers = (
     ap (map (λ x. (session x).client)) is
         ∙ each_map (λ x. (session x).client) given left
-        (each_weaker (λ x y. IsAlike (session x) (session y)) (λ x y. (session y).client ≡ (session x).client) (λ x y h. h.client) given left each)
+        (each_weaker (λ x y. IsAlike (session x) (session y)) (λ x y. (session y).client ≡ (session x).client) (λ x y h. h.client) given
+        left each)
         ∙ ap (map (λ x. (session x).client)) same ∙ numbers,
     subst (λ ss. AreAlike ss (map session final)) (ap (map session) same ∙ view)
         (subst (λ ys. AreAlike (map session given) (map session ys)) (sym is) (alike session given left each)),
@@ -196,7 +200,8 @@ module _ {A : Type 0} (session : A → SessionParts) where
   no_passes passes whole xs none is =
       sym (append-nil passes) ∙ ap (λ ys. passes ++ passes_of (map session ys)) (sym none) ∙ is
 
-  pub as_many_passes : (items : List A) (before after : List PassParts) → map (λ x. (session x).client) items ≡ range_with_len 0 (greatest_client + 1)
+  pub as_many_passes : (items : List A) (before after : List PassParts)
+      → map (λ x. (session x).client) items ≡ range_with_len 0 (greatest_client + 1)
       → after ≡ before ++ passes_of (map session items) → length after ≡ length before + (greatest_client + 1)
   as_many_passes items before after numbers is =
       ap (λ (ps : List PassParts). length ps) is ∙ length-append before (passes_of (map session items))

@@ -1,5 +1,6 @@
 -- New clients, one after another.
-use Rattle.std.proofs.Common.{◌≡◌, ℕ, zero, suc, ◌+◌, ◌-◌, ◌≤◌, take, length-append, length-take-le, List, [], ◌∷◌, ◌++◌, length, map, replicate, refl, ap, sym, ◌∙◌, subst, arith}
+use Rattle.std.proofs.Common.{◌≡◌, ℕ, zero, suc, ◌+◌, ◌-◌, ◌≤◌, take, length-append, length-take-le, List, [], ◌∷◌, ◌++◌, length, map}
+use Rattle.std.proofs.Common.{replicate, refl, ap, sym, ◌∙◌, subst, arith}
 use Rattle.std.specs.Prelude.{All}
 use Rattle.std.specs.List.{range_with_len}
 use Rattle.std.proofs.lemmas.List.{length-replicate}
@@ -36,7 +37,8 @@ numbers-push from n = by from n ∙ ap (range_with_len from) (let e : suc n ≡ 
   by : (a m : ℕ) → range_with_len a m ++ (a + m) ∷ [] ≡ range_with_len a (suc m)
   by a zero = ap (λ k. k ∷ []) (let e : a + zero ≡ a = omega arith in e)
   by a (suc m) =
-      ap (λ k. a ∷ (range_with_len (a + 1) m ++ k ∷ [])) (let e : a + suc m ≡ a + 1 + m = omega arith in e) ∙ ap (λ ks. a ∷ ks) (by (a + 1) m)
+      ap (λ k. a ∷ (range_with_len (a + 1) m ++ k ∷ [])) (let e : a + suc m ≡ a + 1 + m = omega arith in e)
+      ∙ ap (λ ks. a ∷ ks) (by (a + 1) m)
 
 written-push : (sessions : List SessionParts) (s : SessionParts) → AreWritten sessions → s.text ≡ [] → AreWritten (sessions ++ s ∷ [])
 written-push [] s h is = (is, tt)

@@ -1,5 +1,6 @@
 -- From one reply of a session to an answered line, and replies to lines that ask nothing.
-use Rattle.std.proofs.Common.{◌≡◌, ℕ, ◌+◌, ◌<◌, ◌≤◌, List, [], ◌∷◌, ◌++◌, length, map, replicate, zero, suc, refl, ap, sym, ◌∙◌, subst, arith, Bool, true}
+use Rattle.std.proofs.Common.{◌≡◌, ℕ, ◌+◌, ◌<◌, ◌≤◌, List, [], ◌∷◌, ◌++◌, length, map, replicate, zero, suc, refl, ap, sym, ◌∙◌, subst}
+use Rattle.std.proofs.Common.{arith, Bool, true}
 use Rattle.std.proofs.Common.{false, Option, Some, None}
 use Rattle.std.specs.Prelude.{All, IsTrue, Result, Ok, Err}
 use Rattle.std.proofs.lemmas.List.{append-nil}

@@ -1,6 +1,8 @@
 -- Texts that stand one behind the other.
-use Rattle.std.proofs.Common.{◌≡◌, ℕ, zero, suc, ◌+◌, ◌-◌, ◌<◌, ◌≤◌, List, [], ◌∷◌, ◌++◌, length, map, take, drop, refl, ap, sym, ◌∙◌, subst, arith}
-use Rattle.std.proofs.Common.{append_assoc, length-append, length-drop, get_or, set, length-set, get_or-set_same, get_or-set_other, below_more, Option, Some, None}
+use Rattle.std.proofs.Common.{◌≡◌, ℕ, zero, suc, ◌+◌, ◌-◌, ◌<◌, ◌≤◌, List, [], ◌∷◌, ◌++◌, length, map, take, drop, refl, ap, sym, ◌∙◌}
+use Rattle.std.proofs.Common.{subst, arith}
+use Rattle.std.proofs.Common.{append_assoc, length-append, length-drop, get_or, set, length-set, get_or-set_same, get_or-set_other}
+use Rattle.std.proofs.Common.{below_more, Option, Some, None}
 use Rattle.std.specs.Prelude.{All, flat_map, min, slice_get}
 use Rattle.std.specs.Io.KnownBytes.{Appends, Keeps}
 use Rattle.std.proofs.KnownBytes.{Appends-trans}
@@ -67,7 +69,8 @@ cut_part h0 h1 sessions cut at = record {
   wrote = at.wrote;
   whole = texts-first sessions cut.client
       ∙ ap (λ bs. texts_of (take cut.client sessions) ++ bs)
-      (sym (take_drop cut.taken (texts_of (drop cut.client sessions))) ∙ ap (λ bs. bs ++ drop cut.taken (texts_of (drop cut.client sessions))) first)
+      (sym (take_drop cut.taken (texts_of (drop cut.client sessions)))
+      ∙ ap (λ bs. bs ++ drop cut.taken (texts_of (drop cut.client sessions))) first)
       ∙ sym (append_assoc (texts_of (take cut.client sessions)) (take cut.taken at.cut_is.session.text)
       (drop cut.taken (texts_of (drop cut.client sessions))));
 } where
@@ -168,7 +171,8 @@ module _ {A : Type 0} (text_of : A → List ℕ) where
     same_default (z ∷ zs) zero d e low = refl
     same_default (z ∷ zs) (suc j) d e low = same_default zs j d e (omega (arith, low))
 
-  pub all_moved : (xs : List A) (texts : List BufferParts) (i : ℕ) → length texts ≡ length xs → length xs ≤ i → MovedBelow text_of i xs texts
+  pub all_moved : (xs : List A) (texts : List BufferParts) (i : ℕ) → length texts ≡ length xs → length xs ≤ i
+      → MovedBelow text_of i xs texts
       → map (λ (text : BufferParts). text.bytes) texts ≡ map text_of xs
   all_moved xs texts i long whole so_far =
       by xs texts long (λ k d e below. so_far.moved k d e (omega (arith, below, long, whole)) below) where

@@ -1,5 +1,5 @@
 -- A round's lines by client, and what each asks.
-use Rattle.std.specs.Prelude.{◌≡◌, ℕ, zero, suc, ◌+◌, ◌<◌, ◌≤◌, ◌^◌, List, [], ◌∷◌, ◌++◌, Ok, Err, Result, filter, length, ◌==◌, IsTrue, ⊤}
+use Rattle.std.specs.Prelude.{◌≡◌, ℕ, zero, suc, ◌+◌, ◌<◌, ◌≤◌, ◌^◌, List, [], ◌∷◌, ◌++◌, Ok, Err, Result, length, IsTrue, ⊤}
 use Rattle.ds_base.specs.Limits.{greatest_client}
 use Rattle.ds_reply.specs.declared.reply.Body.{Body}
 use Rattle.ds_request.specs.declared.call.Request.{Request}
@@ -7,6 +7,7 @@ use Rattle.ds_request.specs.Lawful.{IsLawfulCall}
 use Rattle.ds_rounds.specs.Rounds.{NumberedLine}
 use Rattle.ds_model.specs.Asked.{asked, client_of, has_shard}
 use Rattle.ds_protocol.specs.Quiet.{IsQuiet}
+use Rattle.ds_session.specs.Runs.{lines_of_client}
 use Rattle.ds_session.specs.declared.asked.Asked.{Asked}
 
 -- what was read from a line of this client: its request, or the client and what its reply says
@@ -17,11 +18,12 @@ read_as client (Err b) = Err (client, b)
 abbrev pub was_read : Asked → Result Request (ℕ × Body)
 was_read a = read_as a.client a.request
 
--- a request of this client that a core of so many shards may be asked; or a refusal, which tells of no commit and of no id
+-- a request of this client that a store of so many shards may be asked; or a refusal, which tells of no commit and of no id
 abbrev pub IsLawful : ℕ → ℕ → Result Request Body → Type 0
 IsLawful shards client (Ok r) = (r.client ≡ client) × IsLawfulCall r.call × IsTrue (has_shard shards r.call)
 IsLawful shards client (Err b) = IsQuiet b
 
+-- whoever asks is a client, and the line's number fits its type
 pub record MayBeAnswered (shards : ℕ) (a : Asked) : Type 0 where
   pub within : a.client ≤ greatest_client
   pub numbered : a.number < 2 ^ 64
@@ -33,10 +35,6 @@ pub record Asks (shards : ℕ) (line : NumberedLine) (a : Asked) : Type 0 where
   pub read : asked shards line.content ≡ was_read a
   pub own : client_of (asked shards) line.content ≡ a.client
   pub answerable : MayBeAnswered shards a
-
--- the lines of one client, in their order
-abbrev pub lines_of_client : ℕ → ℕ → List NumberedLine → List NumberedLine
-lines_of_client shards client = filter (λ line. client_of (asked shards) line.content == client)
 
 -- line by line what a client asks
 abbrev pub AreAsked : ℕ → ℕ → List NumberedLine → List Asked → Type 0

@@ -139,8 +139,8 @@ struct Greatest {
     counts: Counts,
 }
 
-/// Gives each client what its lines ask, makes room for a reply to each line that there was no memory, and finds the greatest that any client
-/// has seen. A refusal is want of memory.
+/// Gives each client what its lines ask, makes room for a reply to each line that there was no memory, and finds the greatest that any
+/// client has seen. A refusal is want of memory.
 fn prepare<J: Names>(
     alloc: Global,
     shards: u32,
@@ -163,7 +163,8 @@ fn prepare<J: Names>(
 
 /// Makes room for a reply to each line that there was no memory. A refusal is want of memory.
 fn make_rooms<J: Names>(clients: &mut [Client<J>]) -> Result<(), NoMemory>
-    ensures same { EachOf (λ c d. (d.session ≡ record c.session { room = d.session.room }) × (d.own.items ≡ c.own.items)) clients.old clients.new }
+    ensures same { EachOf (λ c d. (d.session ≡ record c.session { room = d.session.room })
+        × (d.own.items ≡ c.own.items)) clients.old clients.new }
     ensures room { OnOk result (All (λ c. length c.own.items * most_no_memory ≤ c.session.room) clients.new) }
 {
     for client in clients {
@@ -198,7 +199,8 @@ fn meet_all<J: Names, R: Wait, H: Wait + Drop>(
     requires counts { greatest.now.counts ≡ greatest.now.seen.counts }
     requires shards { length greatest.now.counts ≡ store.now.shards }
     requires written { All (λ c. c.session.text ≡ []) clients.old }
-    ensures { EachOf (λ c d. HasTaken greatest.now.seen c.session d.session × (d.own.items ≡ c.own.items) × (d.session.room ≡ c.session.room)
+    ensures { EachOf (λ c d. HasTaken greatest.now.seen c.session d.session × (d.own.items ≡ c.own.items)
+        × (d.session.room ≡ c.session.room)
         × (length d.session.seen.counts ≡ length c.session.seen.counts)) clients.old clients.new }
 {
     for client in clients {
@@ -225,7 +227,8 @@ fn answer_all<
     }
     let answer = |_place: usize, client: &mut Client<J>|
         requires { IsReady store.now.shards client.old.session client.old.own.items × (defs.now ≡ J.definitions) }
-        ensures { HasAnsweredOwn J.definitions store.entry.now.shards (Some J.window) client.old.session client.old.own.items client.new.session }
+        ensures { HasAnsweredOwn J.definitions store.entry.now.shards (Some J.window) client.old.session client.old.own.items
+            client.new.session }
     { client.run(rt, store, defs, gate) };
     thread::for_each_mut(rt, clients, CLIENTS, &answer);
 }

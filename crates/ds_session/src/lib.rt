@@ -1,14 +1,16 @@
 //! Clients' sessions over the running store, and rounds of all clients at once.
 //!
-//! A `Session` is a client's: what it has seen, its transaction, and its replies, over a pass of the store. `Session::answer` answers one line by
-//! one call of the store. `Sessions` are those of all clients; `run_round` lets them meet and answers the lines of a round, the clients at once,
-//! and `write_round` writes their replies.
+//! A `Session` is a client's: what it has seen, its transaction, and its replies, over a pass of the store. `Session::answer` answers one
+//! line by one call of the store. `Sessions` are those of all clients; `run_round` lets them meet and answers the lines of a round, the
+//! clients at once, and `write_round` writes their replies; what an output doesn't take is handed out as `Unsent`.
 //!
-//! Begin with `session`; `state` holds a client's parts, and `answering` says what answers a request. `asked` reads a round's lines by client,
-//! `clients` does with each client what a round asks, `rounds` and `output` do it with all.
+//! Begin with `session`; `state` holds a client's parts, and `answering` says what answers a request: `reads`, `searches`, `writes` (in a
+//! transaction `writes_inside`), `drawing`, `counting`, `transactions`, and `refusing` where nothing is asked of the store. `asked` reads a
+//! round's lines by client, `clients` does with each client what a round asks, `rounds` and `output` do it with all.
 //!
-//! `specs/` has what a session is to contracts (`Sessions`), what an answered line leaves (`Answering`, `Replying`, `Refusing`), where a
-//! strong read is asked for (`Standing`), and what rounds leave of all sessions (`Runs`).
+//! `specs/` has what a session is to contracts (`Sessions`), what an answered line leaves (`Answering`, `Replying`, `Refusing`) and how
+//! many steps it takes (`Steps`), where a strong read is asked for (`Standing`), what a round's lines ask (`AskedLines`), and what rounds
+//! leave of all sessions (`Runs`, `Clients`).
 //!
 //! `proofs/` has the laws that lead from there to a legal run. `GrowthLaws`: what a pass has seen begins what it sees later.
 //! `SeeingLaws`: a client stays within its pass. One law a kind of request, from the store's clause to the reply: `WriteLaws`, `IdLaws`,

@@ -12,8 +12,8 @@ use ds_io::Sink;
 use ds_store::Names;
 
 /// Writes the sessions' texts, by client, and sends them on their way once. A refusal comes exactly where a write or the flush failed, and
-/// carries what wasn't taken of all texts, which is nothing where the flush failed. The sessions' texts are then empty, either way. It takes no
-/// memory: what wasn't taken is handed out in the texts' own buffers.
+/// carries what wasn't taken of all texts, which is nothing where the flush failed. The sessions' texts are then empty, either way. It
+/// takes no memory: what wasn't taken is handed out in the texts' own buffers.
 pub fn write_round<J: Names, O: Sink>(
     sessions: &mut Sessions<J>,
     output: &mut O,

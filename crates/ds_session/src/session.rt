@@ -30,8 +30,8 @@ use std::thread::Threads;
 /// No reply that there was no memory is longer, in bytes.
 pub(crate) const MOST_NO_MEMORY: usize = 96;
 
-/// A client's session over a running store: what the client has seen, the transaction that it has open, and the text of its replies that are
-/// not written yet. It owns a pass of the store, which has seen at least as much as the client.
+/// A client's session over a running store: what the client has seen, the transaction that it has open, and the text of its replies that
+/// are not written yet. It owns a pass of the store, which has seen at least as much as the client.
 ///
 /// Contracts see `SessionParts`.
 #[derive(Drop)]
@@ -150,8 +150,9 @@ impl<J: Names> Session<J> {
         Ok(())
     }
 
-    /// Answers a line of this client: exactly one reply is put behind the text. There must be room for one that there was no memory, which it
-    /// may use up. The store is that of the session's pass, and the definitions are the store's. A line that asks no search takes no step.
+    /// Answers a line of this client: exactly one reply is put behind the text. There must be room for one that there was no memory, which
+    /// it may use up. The store is that of the session's pass, and the definitions are the store's. A line that asks no search takes no
+    /// step.
     pub fn answer<R: Threads + Wait + Sync, H: Wait + Drop, L: Ledger>(
         &mut self,
         rt: &R,

@@ -11,8 +11,8 @@ use std::marker::Model;
 /// A text for each client.
 pub(crate) type Texts = [Buffer; MAX_CLIENT as usize + 1];
 
-/// The replies of a round that were not taken, in the clients' own buffers: they are moved here, which takes no memory. Contracts see the list
-/// of their bytes.
+/// The replies of a round that were not taken, in the clients' own buffers: they are moved here, which takes no memory. Contracts see the
+/// list of their bytes.
 #[derive(Drop)]
 pub struct Unsent {
     texts: Texts,

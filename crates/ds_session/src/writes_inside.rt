@@ -89,8 +89,8 @@ impl<J: Names> State<J> {
         self.seen.see_next(next);
     }
 
-    /// Puts an entity whose key is incomplete behind the other writes of the open transaction, under the next id. All memory is taken before
-    /// the id is drawn. A place is looked up also where a group is touched, since the drawn id may name one that isn't.
+    /// Puts an entity whose key is incomplete behind the other writes of the open transaction, under the next id. All memory is taken
+    /// before the id is drawn. A place is looked up also where a group is touched, since the drawn id may name one that isn't.
     pub(crate) fn put_new_inside<R: Wait, H: Wait + Drop>(
         &mut self,
         rt: &R,
@@ -195,8 +195,8 @@ struct NewPut {
     key: Key,
 }
 
-/// Takes all memory for a put whose id isn't drawn yet: in the transaction, for its group, and for its reply, with the greatest id and place.
-/// A refusal is want of memory.
+/// Takes all memory for a put whose id isn't drawn yet: in the transaction, for its group, and for its reply, with the greatest id and
+/// place. A refusal is want of memory.
 fn prepare_new(
     alloc: Global,
     client: u32,

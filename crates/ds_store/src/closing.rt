@@ -72,7 +72,8 @@ impl<J: Names, H: Wait + Drop> Store<J, H> {
         }
     }
 
-    /// Uses up a store whose journal isn't asked for any more, with its passes. It waits for the readers that read.
+    /// Uses up a store whose journal isn't asked for any more, with its passes. It waits for the readers that read. There is nothing that a
+    /// clause could say: nothing is handed back, and `close` is the call that tells what was committed.
     pub fn end<R: Wait>(self, _rt: &R, _passes: Passes<J>) {
         let Store {
             journal: _journal,

@@ -76,12 +76,13 @@ impl<J: Names, H: Wait + Drop> Store<J, H> {
         self.changed.notifications()
     }
 
-    /// Sleeps until the store has told more than `seen` times, and no longer than a second.
+    /// Sleeps until the store has told more than `seen` times, and no longer than a second. No clause says so: how long a thread sleeps is
+    /// the system's, and whoever wakes looks at the store again.
     pub fn await_change<R: Wait>(&self, rt: &R, seen: u64) {
         self.changed.sleep(rt, seen, Duration::from_secs(1));
     }
 
-    /// Wakes all threads that sleep in `await_change`.
+    /// Wakes all threads that sleep in `await_change`. It has no clause, since it changes nothing that a clause speaks of.
     pub fn wake_all(&self) {
         self.changed.notify_all();
     }

@@ -30,8 +30,8 @@ use std::sync::ledger::Ledger;
 
 impl<J: Names, H: Wait + Drop> Store<J, H> {
     /// What a query with an ancestor finds in the ancestor's group. It stands where a get of the group would, and is `Expired` just as
-    /// one. The steps are within the bounds of all branches over that shard, and one for each entity that is given, of which an expiry gives
-    /// none. `MissingIndex` comes exactly where a branch has no plan, and tells what the first such branch misses. Else a refusal is want
+    /// one. The steps are within the bounds of all branches over that shard, and one for each entity that is given, of which an expiry
+    /// gives none. `MissingIndex` comes exactly where a branch has no plan, and tells what the first such branch misses. Else a refusal is want
     /// of memory, or that the shard's hub has ended.
     pub fn strong_query<R: Wait, L: Ledger>(
         &self,
@@ -95,7 +95,8 @@ impl<J: Names, H: Wait + Drop> Store<J, H> {
         ensures steps_gone { (ancestor : KeyParts) → ancestor_of normal.now.branches ≡ Some ancestor
             → IfErr result (λ e. WhereExpired (λ x. steps.new ≤ steps.old
             + search_bound normal.now window.now (most_of normal.now window.now)
-            (snapshot_of J.definitions J.window (list_of pass.new.lists (shard_of (root_of ancestor) self.now.shards)) x.snapshot ∷ [])) e) }
+            (snapshot_of J.definitions J.window (list_of pass.new.lists (shard_of (root_of ancestor) self.now.shards)) x.snapshot
+            ∷ [])) e) }
         ensures read { OnErr result (HasRead pass.old pass.new) }
     {
         let Some(ancestor) = ancestor_of(normal.branches.as_slice()) else {

@@ -8,9 +8,16 @@ use Rattle.ds_session.proofs.asked.asked_by_client.Goals as goal
 
 pub loop-i-preserved : goal.loop-i-preserved
 loop-i-preserved c =
-    asked-line c.args.shards c.args.round.now.first c.loop-i.i c.args.round.now.lines (handed c.line_at.result) c.loop-i.lists.items c.put.new.lists.items c.in_ok-asked.asked c.line_at.ensures.line c.in_ok-asked.ensures c.in_ok-put.ensures c.loop-i.invariant
+    asked-line c.args.shards c.args.round.now.first c.loop-i.i c.args.round.now.lines (handed c.line_at.result) c.loop-i.lists.items
+    c.put.new.lists.items c.in_ok-asked.asked c.line_at.ensures.line c.in_ok-asked.ensures c.in_ok-put.ensures c.loop-i.invariant
 
 pub returns : goal.returns
 returns c =
     let lines = numbered c.args.round.now.first c.args.round.now.lines in
-    subst (λ ls. AreAskedBy c.args.shards ls c.loop-i.lists.items) (take_all c.loop-i.i lines (omega (arith, length-numbered c.args.round.now.first c.args.round.now.lines, c.len-i-end.ensures, c.loop-i-test.false))) c.loop-i.invariant
+    subst (λ ls. AreAskedBy c.args.shards ls c.loop-i.lists.items)
+    (take_all c.loop-i.i lines (omega (
+      arith,
+      length-numbered c.args.round.now.first c.args.round.now.lines,
+      c.len-i-end.ensures,
+      c.loop-i-test.false,
+    ))) c.loop-i.invariant

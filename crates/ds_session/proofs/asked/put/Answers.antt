@@ -8,6 +8,7 @@ returns c =
     let lists = c.args.lists.now.items in
     let place = c.args.asked.client in
     elim c.match-push.branch [
-      | in-Ok w ↦ rw w.result-is (ap (slice_set lists place) w.in-Ok.ensures.ok ∙ set-with lists place c.args.asked c.index_mut.result.now c.index_mut.ensures.value)
+      | in-Ok w ↦ rw w.result-is (ap (slice_set lists place) w.in-Ok.ensures.ok
+          ∙ set-with lists place c.args.asked c.index_mut.result.now c.index_mut.ensures.value)
       | in-Err w ↦ rw w.result-is tt
     ]

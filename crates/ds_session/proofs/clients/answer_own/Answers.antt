@@ -11,17 +11,20 @@ loop-asked-init g c =
 
 pub answer_asked-requires-clause-answerable : goal.answer_asked-requires-clause-answerable
 answer_asked-requires-clause-answerable g c κs within =
-    (ready_first c.args.store.now.shards c.loop-asked.session c.in-Some.asked c.loop-asked.asked-iterator.rest.items c.next.new.self.rest.items
+    (ready_first c.args.store.now.shards c.loop-asked.session c.in-Some.asked c.loop-asked.asked-iterator.rest.items
+    c.next.new.self.rest.items
     c.in-Some.ensures.steps.0 c.loop-asked.invariant.ready).0
 
 pub answer_asked-requires-clause-own : goal.answer_asked-requires-clause-own
 answer_asked-requires-clause-own g c κs within =
-    (ready_first c.args.store.now.shards c.loop-asked.session c.in-Some.asked c.loop-asked.asked-iterator.rest.items c.next.new.self.rest.items
+    (ready_first c.args.store.now.shards c.loop-asked.session c.in-Some.asked c.loop-asked.asked-iterator.rest.items
+    c.next.new.self.rest.items
     c.in-Some.ensures.steps.0 c.loop-asked.invariant.ready).1
 
 pub answer_asked-requires-clause-room : goal.answer_asked-requires-clause-room
 answer_asked-requires-clause-room g c κs within =
-    (ready_first c.args.store.now.shards c.loop-asked.session c.in-Some.asked c.loop-asked.asked-iterator.rest.items c.next.new.self.rest.items
+    (ready_first c.args.store.now.shards c.loop-asked.session c.in-Some.asked c.loop-asked.asked-iterator.rest.items
+    c.next.new.self.rest.items
     c.in-Some.ensures.steps.0 c.loop-asked.invariant.ready).2
 
 pub loop-asked-preserved : goal.loop-asked-preserved

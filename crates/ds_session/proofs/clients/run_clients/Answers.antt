@@ -5,13 +5,19 @@ use Rattle.ds_protocol.specs.Watermarks.{greatest_of}
 use Rattle.ds_rounds.specs.Rounds.{lines_of_round}
 use Rattle.ds_session.specs.AskedLines.{AreAskedBy}
 use Rattle.ds_session.specs.Runs.{seen_of}
-use Rattle.ds_session.proofs.RunLaws.{alike_roomed, counts_roomed, counts_run, greatest_many, have_run, numbers_roomed, numbers_run, ready_met}
+use Rattle.ds_session.proofs.RunLaws.{alike_roomed, counts_roomed, counts_run, greatest_many, have_run, numbers_roomed, numbers_run}
+use Rattle.ds_session.proofs.RunLaws.{ready_met}
 use Rattle.ds_session.proofs.RunLaws.{so_many, texts_met, written_roomed}
 use Rattle.ds_session.proofs.clients.run_clients.Goals as goal
 
 pub prepare-requires : goal.prepare-requires
 prepare-requires g c =
-    omega (arith, so_many (λ x. x.session.client) (greatest_client + 1) c.args.clients.now c.requires.numbers, c.in_ok-lists.ensures.clients, c.in_ok-lists.lists.ok.0)
+    omega (
+      arith,
+      so_many (λ x. x.session.client) (greatest_client + 1) c.args.clients.now c.requires.numbers,
+      c.in_ok-lists.ensures.clients,
+      c.in_ok-lists.lists.ok.0,
+    )
 
 pub returns-in-Err-clause-err : goal.returns-in-Err-clause-err
 returns-in-Err-clause-err g c = (
@@ -25,13 +31,15 @@ returns-in-Err-clause-numbers g c =
 
 pub returns-in-Err-clause-counts : goal.returns-in-Err-clause-counts
 returns-in-Err-clause-counts g c =
-    counts_roomed (λ x. x.session) (λ x. x.own.items) c.args.store.now.shards c.args.clients.now c.prepare.new.clients c.prepare.ensures.same
+    counts_roomed (λ x. x.session) (λ x. x.own.items) c.args.store.now.shards c.args.clients.now c.prepare.new.clients
+    c.prepare.ensures.same
     c.requires.counts
 
 pub meet_all-requires-clause-shards : goal.meet_all-requires-clause-shards
 meet_all-requires-clause-shards g c =
     ap (λ (ns : List ℕ). length ns) c.in-Ok.ensures.counts
-    ∙ ap (λ (s : Session). length s.counts) c.in-Ok.ensures.greatest ∙ greatest_many c.shards-2.result (seen_of (map (λ x. x.session) c.prepare.new.clients)) ∙ c.shards-2.ensures.value
+    ∙ ap (λ (s : Session). length s.counts) c.in-Ok.ensures.greatest
+    ∙ greatest_many c.shards-2.result (seen_of (map (λ x. x.session) c.prepare.new.clients)) ∙ c.shards-2.ensures.value
 
 pub meet_all-requires-clause-written : goal.meet_all-requires-clause-written
 meet_all-requires-clause-written g c =

@@ -22,16 +22,20 @@ loop-mark-preserved g c =
     c.loop-mark.invariant.new in
     let fewer = ap (λ (ms : List Session). length ms) c.in-Some.ensures.steps.0 in
     record {
-      seated = subst (λ xs. SeatedSoFar c.args.shards (c.loop-mark.client + 1) (map (λ x. x.session) xs)) (sym c.push_reserved.ensures.items)
+      seated = subst (λ xs. SeatedSoFar c.args.shards (c.loop-mark.client + 1) (map (λ x. x.session) xs))
+          (sym c.push_reserved.ensures.items)
           (one_seated (λ x. x.session) c.args.shards c.loop-mark.client c.loop-mark.clients.items _ c.loop-mark.invariant.seated
           (c.first-session.ensures.seen ∙ ap first_session pass.1) (c.first-session.ensures.pass ∙ pass.0) c.first-session.ensures.text
           c.first-session.ensures.client);
       many = c.push_reserved.ensures.len ∙ ap (λ n. n + 1) c.loop-mark.invariant.many;
       left = omega (arith, fewer, c.loop-mark.invariant.left);
-      marks = All-rest (λ m. m ≡ first_session c.args.shards) c.in-Some.mark more rest c.in-Some.ensures.steps.0 c.loop-mark.invariant.marks;
+      marks = All-rest (λ m. m ≡ first_session c.args.shards) c.in-Some.mark more rest c.in-Some.ensures.steps.0
+          c.loop-mark.invariant.marks;
       room = omega (arith, c.push_reserved.ensures.capacity, c.loop-mark.invariant.room);
-      taken = passes_left c.args.passes.now.items c.loop-mark.passes.items c.take_last.new.self.items c.take_last.result _ c.loop-mark.client
-          c.take_last.ensures.items (omega (arith, fewer, c.loop-mark.invariant.left, c.requires.many)) (omega (arith, c.args.passes.now.ok.0))
+      taken = passes_left c.args.passes.now.items c.loop-mark.passes.items c.take_last.new.self.items c.take_last.result _
+          c.loop-mark.client
+          c.take_last.ensures.items (omega (arith, fewer, c.loop-mark.invariant.left, c.requires.many))
+          (omega (arith, c.args.passes.now.ok.0))
           c.loop-mark.invariant.taken;
       new = passes_new c.args.shards c.loop-mark.passes.items c.take_last.new.self.items c.take_last.result c.take_last.ensures.items
           c.loop-mark.invariant.new;

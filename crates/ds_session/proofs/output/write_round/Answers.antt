@@ -13,4 +13,5 @@ returns-in-Err-flush-clause-err g c =
 
 pub returns-in-Err-clause-err : goal.returns-in-Err-clause-err
 returns-in-Err-clause-err g c =
-    wrote_part _ _ _ c.args.sessions.now c.in-Err.cut c.take_unsent.result c.clients.ensures c.in-Err.ensures.err c.take_unsent.ensures.unsent
+    wrote_part _ _ _ c.args.sessions.now c.in-Err.cut c.take_unsent.result c.clients.ensures c.in-Err.ensures.err
+    c.take_unsent.ensures.unsent

@@ -18,7 +18,8 @@ returns-in-Err-clause-err g c =
       };
       wrote = Appends-trans _ _ _ (texts_of (take n (map (λ x. x.session) c.args.clients.now))) (take c.in-Err.taken session.text)
           c.loop-client.invariant.0
-          (subst (λ (bs : List ℕ). Appends (g.O.Sink.held c.loop-client.output) (g.O.Sink.held c.write_all.new.output) (take c.in-Err.taken bs))
+          (subst (λ (bs : List ℕ). Appends (g.O.Sink.held c.loop-client.output) (g.O.Sink.held c.write_all.new.output)
+          (take c.in-Err.taken bs))
           c.text.ensures c.in-Err.ensures.err);
     }
 
@@ -29,7 +30,8 @@ loop-client-preserved g c =
     let sessions = map (λ x. x.session) c.args.clients.now in (
       subst (λ (bs : List ℕ). Appends (g.O.Sink.held c.args.output.now) (g.O.Sink.held c.write_all.new.output) bs)
           (sym (texts-more sessions n session
-          (get-mapped (λ x. x.session) c.args.clients.now n c.index-clients-client.result c.loop-client-test.true c.index-clients-client.is)))
+          (get-mapped (λ x. x.session) c.args.clients.now n c.index-clients-client.result c.loop-client-test.true
+          c.index-clients-client.is)))
           (Appends-trans _ _ _ (texts_of (take n sessions)) session.text c.loop-client.invariant.0
           (subst (λ (bs : List ℕ). Appends (g.O.Sink.held c.loop-client.output) (g.O.Sink.held c.write_all.new.output) bs)
           c.text.ensures c.in-Ok.ensures.ok)),

@@ -29,7 +29,8 @@ refuse_line-requires-clause-room g c =
     )
 
 pub invariant_of-self-in-Err : goal.invariant_of-self-in-Err
-invariant_of-self-in-Err g c = within_after _ _ _ c.self.inside.state c.refuse_line.new.self _ _ _ c.self.invariant.1 (c.refuse_line.ensures 0)
+invariant_of-self-in-Err g c = within_after _ _ _ c.self.inside.state c.refuse_line.new.self _ _ _ c.self.invariant.1
+    (c.refuse_line.ensures 0)
 
 pub returns-in-Ok-clause-answered : goal.returns-in-Ok-clause-answered
 returns-in-Ok-clause-answered g c = λ line asks.
@@ -46,7 +47,8 @@ returns-in-Ok-clause-counts g c =
 
 pub returns-in-Ok-clause-steps : goal.returns-in-Ok-clause-steps
 returns-in-Ok-clause-steps g c =
-    steps_from g.J.Names.definitions g.J.Names.window c.args.store.now.shards c.args.asked.number c.self.inside.state c.answer.new.self _ _ _ _
+    steps_from g.J.Names.definitions g.J.Names.window c.args.store.now.shards c.args.asked.number c.self.inside.state c.answer.new.self _ _
+    _ _
     c.args.self.now (request_of c.self.inside.state.client c.in-Ok.request.call) (was_read c.args.asked) c.self.view_is
     (read_request c.args.store.now.shards c.args.asked c.in-Ok.request c.self.inside.state.client c.in-Ok.is c.requires.answerable.lawful
     (c.requires.own ∙ ap (λ (s : SessionParts). s.client) (sym c.self.view_is)))

@@ -11,7 +11,8 @@ perform-requires-clause-shard g c κs within =
 pub returns-in-Err-clause-replied : goal.returns-in-Err-clause-replied
 returns-in-Err-clause-replied g c =
     c.refuse.ensures (request_of c.args.self.now.client c.args.call) c.args.store.now.shards
-    (subst (IsRefusedWith g.J.Names.definitions c.args.store.now.shards c.args.self.now.seen (request_of c.args.self.now.client c.args.call))
+    (subst (IsRefusedWith g.J.Names.definitions c.args.store.now.shards c.args.self.now.seen
+    (request_of c.args.self.now.client c.args.call))
     (sym c.body.ensures)
     (always_refused g.J.Names.definitions c.args.store.now.shards c.args.self.now.client c.args.self.now.seen c.args.call c.in-Err.refused
     c.in-Err.ensures.refused))

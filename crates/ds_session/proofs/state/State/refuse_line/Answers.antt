@@ -11,7 +11,8 @@ returns g c = λ shards.
     (ap (λ (s : SessionParts). s.client) c.self.view_is) (ap (λ (s : SessionParts). s.seen) c.self.view_is)
     (ap (λ (s : SessionParts). s.pass) c.self.view_is) c.requires.within c.requires.quiet
     (λ told. subst (λ (s : SessionParts). c.tell.new.text.bytes
-    ≡ s.text ++ reply_text (record { client = s.client; line = c.args.number; body = c.args.body })) c.self.view_is (c.tell.ensures.told told))
+    ≡ s.text ++ reply_text (record { client = s.client; line = c.args.number; body = c.args.body })) c.self.view_is
+    (c.tell.ensures.told told))
     (λ untold. subst (λ (s : SessionParts). c.tell.new.text.bytes ≡ s.text ++ reply_text (no_memory_reply s.client c.args.number))
     c.self.view_is (c.tell.ensures.untold untold))
     c.tell.ensures.kept

@@ -12,7 +12,8 @@ returns-then-i-rest c =
     subst (λ (v : BufferParts). u.taken ≤ length v.bytes) (sym c.index-texts-self.is) (c.self.invariant.within t) in
     let rest : take (length c.bytes.result.now - u.taken) (drop u.taken c.bytes.result.now) ≡ drop u.taken t.bytes =
     rest_from u.taken c.bytes.result.now ∙ ap (drop u.taken) c.bytes.ensures in
-    sym (get-there (take (length c.bytes.result.now - u.taken) (drop u.taken c.bytes.result.now)) c.args.i c.if-i-rest.true) ∙ ap (λ bs. slice_get bs c.args.i) rest
+    sym (get-there (take (length c.bytes.result.now - u.taken) (drop u.taken c.bytes.result.now)) c.args.i c.if-i-rest.true)
+    ∙ ap (λ bs. slice_get bs c.args.i) rest
     ∙ sym (get-first (drop u.taken t.bytes) (all_bytes (drop (u.client + 1) u.texts)) c.args.i
     (omega (arith, c.if-i-rest.true, ap (λ (bs : List ℕ). length bs) rest)))
     ∙ sym (ap (λ bs. slice_get bs c.args.i)
