@@ -156,6 +156,7 @@ impl VersionList {
             from: stamp,
             until: None,
         };
+        make_room(&mut self.items)?;
         self.items.push_back(version)?;
         Ok(())
     }
@@ -176,6 +177,17 @@ impl VersionList {
         ensures history { IsHistory self.new }
     {
         trim_front(&mut self.items, floor);
+    }
+}
+
+/// Makes room for the first version alone: most entities are never written again. A refusal is want of memory.
+fn make_room(items: &mut VecDeque<Kept>) -> Result<(), NoMemory>
+    ensures { items.new.items ≡ items.old.items }
+{
+    if items.is_empty() {
+        items.reserve_exact(1)
+    } else {
+        Ok(())
     }
 }
 

@@ -9,3 +9,5 @@ pub mod Lives
 pub mod Sorted
 pub mod Splitting
 pub mod Bytes
+pub mod Due
+pub mod Alike

@@ -62,8 +62,13 @@ IsSpaced [] = Unit {0}
 IsSpaced (a ∷ []) = Unit {0}
 IsSpaced (a ∷ b ∷ bs) = ((0 < length a) × (0 < length b) × (128 ≤ length a + length b)) × IsSpaced (b ∷ bs)
 
--- what holds of the blocks of a table to which no stamp above `last` was given, and that counts its versions
-pub record IsTable (blocks : List (List RowVersion)) (last count : ℕ) : Type 0 where
+-- no version ends before the stamp `due`
+abbrev pub EndFrom : ℕ → List RowVersion → Type 0
+EndFrom due vs = Each (λ (v : RowVersion). due ≤ v.to) vs
+
+-- what holds of the blocks of a table to which no stamp above `last` was given, that counts its versions, and of which none ends before
+-- the stamp `due`
+pub record IsTable (blocks : List (List RowVersion)) (last count due : ℕ) : Type 0 where
   pub ordered : IsOrdered (joined blocks)
   pub of_bytes : Each IsOfBytes (joined blocks)
   pub given : Each (IsGiven last) (joined blocks)
@@ -71,3 +76,5 @@ pub record IsTable (blocks : List (List RowVersion)) (last count : ℕ) : Type 0
   pub filled : Each (λ b. 0 < length b) blocks
   pub below_never : last < never
   pub counted : count ≡ length (joined blocks)
+  pub not_due : EndFrom due (joined blocks)
+  pub due_within : due ≤ never

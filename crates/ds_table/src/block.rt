@@ -3,7 +3,7 @@ ghost use Rattle.std.specs.Prelude.{◌≡◌, ℕ, ◌+◌, ◌<◌, ◌≤◌,
 ghost use Rattle.std.specs.Prelude.{None, option_copied, option_to_list, slice_index_or, slice_set, IfOk, OnErr, MatchOption};
 ghost use Rattle.std.specs.List.{insert};
 ghost use Rattle.ds_table.specs.Versions.{RowVersion, never, is_before, is_seen, ended_at, unseen_before, versions_within};
-ghost use Rattle.ds_table.specs.Blocks.{IsOrdered};
+ghost use Rattle.ds_table.specs.Blocks.{EndFrom, IsOrdered};
 ghost use Rattle.ds_table.specs.Changes.{kept_end, kept, changed};
 ghost use Rattle.ds_table.specs.Places.{comes_before, IsPlace};
 ghost use Rattle.std.specs.List.{AllByRecursion as Each};
@@ -73,6 +73,13 @@ impl Block {
         ensures within { result ≤ 256 }
     {
         self.rows.len()
+    }
+
+    /// A stamp before which none of its versions ends.
+    pub fn due(&self) -> u64
+        ensures { EndFrom result self.now }
+    {
+        self.due
     }
 
     /// The row of the version at this place.

@@ -1,8 +1,8 @@
 //! How all versions are changed, and small blocks joined, so that there are few.
 ghost use Rattle.std.specs.Prelude.{◌≡◌, ◌+◌, ◌^◌, ◌<◌, ◌≤◌, length, IsTrue, IsFalse, List};
-ghost use Rattle.ds_table.specs.Versions.{RowVersion};
+ghost use Rattle.ds_table.specs.Versions.{RowVersion, never};
 ghost use Rattle.ds_table.specs.Changes.{changed};
-ghost use Rattle.ds_table.specs.Blocks.{joined, IsSpaced};
+ghost use Rattle.ds_table.specs.Blocks.{EndFrom, joined, IsSpaced};
 ghost use Rattle.std.specs.List.{AllByRecursion as Each};
 
 use crate::block::{Block, MOST_VERSIONS};
@@ -80,4 +80,16 @@ pub fn count(blocks: &[Block]) -> u64
         n += block.len() as u64;
     }
     n
+}
+
+/// A stamp before which none of the blocks' versions ends: the least of those that the blocks keep.
+pub fn least_due(blocks: &[Block]) -> u64
+    ensures due { EndFrom result (joined blocks.now) }
+    ensures within { result ≤ never }
+{
+    let mut due = u64::MAX;
+    for block in blocks {
+        due = due.min(block.due());
+    }
+    due
 }

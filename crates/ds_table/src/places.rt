@@ -1,22 +1,37 @@
 //! Places of rows in the order, found by halving.
 ghost use Rattle.std.specs.Prelude.{◌≡◌, ℕ, ◌+◌, ◌<◌, ◌≤◌, Bool, true, false, List, [], length, take, drop, slice_index_or, IsTrue};
 ghost use Rattle.std.specs.Prelude.{IsFalse};
-ghost use Rattle.ds_table.specs.Versions.{RowVersion};
+ghost use Rattle.ds_table.specs.Versions.{RowVersion, is_below};
 ghost use Rattle.ds_table.specs.Blocks.{IsOrdered, joined};
 ghost use Rattle.ds_table.specs.Places.{comes_before, row_before, IsBegun, IsPlaced};
 ghost use Rattle.std.specs.List.{AllByRecursion as Each};
 
 use crate::block::Block;
+use ds_lanes::common_prefix;
 
 /// Whether a row comes before another one, or is the same where `same_too`.
 pub fn is_before_row(row: &[u8], other: &[u8], same_too: bool) -> bool
     ensures { result ≡ row_before other.now same_too row.now }
 {
     if same_too {
-        !other.cmp(row).is_lt()
+        !is_below(other, row)
     } else {
-        row.cmp(other).is_lt()
+        is_below(row, other)
     }
+}
+
+/// Whether a row is below another one. Vectors find where the two begin to differ, since rows of one index begin alike.
+fn is_below(row: &[u8], other: &[u8]) -> bool
+    ensures { result ≡ is_below row.now other.now }
+{
+    let alike = common_prefix(row, other);
+    if alike >= other.len() {
+        return false;
+    }
+    if alike >= row.len() {
+        return true;
+    }
+    row[alike] < other[alike]
 }
 
 /// The block in which a row's place is: the last one whose first row comes before it, or isn't above it where `same_too`; the

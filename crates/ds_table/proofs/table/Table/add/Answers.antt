@@ -3,7 +3,8 @@ use Rattle.std.specs.List.{insert}
 use Rattle.std.proofs.lemmas.List.{get_or_read}
 use Rattle.std.specs.List.{AllByRecursion as Each}
 use Rattle.ds_table.specs.Versions.{RowVersion, IsOfBytes, never, has_alive, added}
-use Rattle.ds_table.specs.Blocks.{Tabled, joined, IsOrdered, IsGiven}
+use Rattle.ds_table.proofs.Due.{added_later}
+use Rattle.ds_table.specs.Blocks.{EndFrom, Tabled, joined, IsOrdered, IsGiven}
 use Rattle.ds_table.specs.Places.{comes_before, IsPlace, IsPlaced}
 use Rattle.ds_table.proofs.Placing.{block_ordered}
 use Rattle.ds_table.proofs.Spacing.{spaced_longer, long_insert}
@@ -55,6 +56,8 @@ invariant_of-self-2 c =
       filled = c.in_ok-i.ensures.filled c.insert.new.self (omega (arith, ap length new, long));
       below_never = c.requires.a_stamp;
       counted = rw new (omega (arith, added_long row bs i p l q r v, ap length same, inv.counted));
+      not_due = rw (new, added_joined row bs i p l q r stamp) (added_later c.self.inside.due row stamp (joined bs) inv.due_within (subst (EndFrom c.self.inside.due) (sym same) inv.not_due));
+      due_within = inv.due_within;
     }
 
 pub returns-clause-added : goal.returns-clause-added

@@ -8,6 +8,7 @@ use Rattle.ds_table.proofs.Placing.{block_ordered}
 use Rattle.ds_table.proofs.Spacing.{spaced_longer, filled_set}
 use Rattle.ds_table.proofs.Splitting.{closed_joined, closed_in_order, closed_all_given, closed_long, some_before, some_blocks}
 use Rattle.ds_table.proofs.Bytes.{closed_of_bytes}
+use Rattle.ds_table.proofs.Due.{closed_later}
 use Rattle.ds_table.proofs.table.Table.close.Goals as goal
 
 pub place-place-requires : goal.place-place-requires
@@ -69,6 +70,9 @@ invariant_of-self c =
       filled = filled_set bs i c.close.new.self inv.filled (omega (arith, ap length new, long, r.within, some));
       below_never = c.requires.a_stamp;
       counted = rw new (inv.counted ∙ sym (closed_long row bs i j l q s stamp));
+      not_due = rw (new, closed_joined row bs i j l q s stamp c.self.inside.last inv.below_never inv.ordered inv.given alive)
+          (closed_later c.self.inside.due c.min-self-inside.result row stamp (joined bs) (omega (arith, c.min-self-inside.ensures)) (omega (arith, c.min-self-inside.ensures)) inv.not_due);
+      due_within = omega (arith, c.min-self-inside.ensures, inv.due_within);
     }
 
 pub returns-clause-closed : goal.returns-clause-closed

@@ -4,6 +4,7 @@ use Rattle.ds_table.specs.Blocks.{Tabled, joined}
 use Rattle.ds_table.specs.Changes.{kept}
 use Rattle.ds_table.proofs.Lives.{map_fewer, undo_ordered, undo_all_given}
 use Rattle.ds_table.proofs.Bytes.{changed_of_bytes}
+use Rattle.ds_table.proofs.Due.{undone_later}
 use Rattle.ds_table.proofs.table.Table.undo.Goals as goal
 
 pub count-self-inside-requires : goal.count-self-inside-requires
@@ -24,4 +25,6 @@ invariant_of-self c =
       spaced = c.change_all.ensures.spaced;
       filled = c.change_all.ensures.filled;
       counted = c.count-self-inside.ensures ∙ ap (λ l. length (joined l)) c.as_slice.ensures.value;
+      not_due = rw c.change_all.ensures.changed (undone_later c.self.inside.due c.args.stamp vs inv.due_within inv.not_due);
+      due_within = inv.due_within;
     }

@@ -1,10 +1,11 @@
-use Rattle.std.proofs.Common.{length, ap, ◌∙◌, arith}
+use Rattle.std.proofs.Common.{length, ap, sym, ◌∙◌, arith, subst}
 use Rattle.ds_table.specs.declared.change.Change.TheVariants.{Trim}
-use Rattle.ds_table.specs.Blocks.{joined}
+use Rattle.ds_table.specs.Blocks.{EndFrom, joined}
 use Rattle.ds_table.specs.Changes.{kept}
 use Rattle.ds_table.proofs.Lives.{map_fewer, trim_ordered, trim_all_given, trimmed_is}
+use Rattle.ds_table.proofs.Due.{none_due}
 use Rattle.ds_table.proofs.Bytes.{changed_of_bytes}
-use Rattle.ds_table.proofs.table.Table.trim.Goals as goal
+use Rattle.ds_table.proofs.table.Table.take_out.Goals as goal
 
 pub count-self-inside-requires : goal.count-self-inside-requires
 count-self-inside-requires c =
@@ -23,7 +24,14 @@ invariant_of-self c =
       spaced = c.change_all.ensures.spaced;
       filled = c.change_all.ensures.filled;
       counted = c.count-self-inside.ensures ∙ ap (λ l. length (joined l)) c.as_slice.ensures.value;
+      not_due = subst (λ l. EndFrom c.least_due-self-inside.result (joined l)) c.as_slice-2.ensures.value c.least_due-self-inside.ensures.due;
+      due_within = c.least_due-self-inside.ensures.within;
     }
 
 pub returns-clause-trimmed : goal.returns-clause-trimmed
 returns-clause-trimmed c = rw (← c.self.view_is) (c.change_all.ensures.changed ∙ trimmed_is c.args.floor (joined c.self.inside.blocks.items))
+
+pub returns-then-floor-self-clause-trimmed : goal.returns-then-floor-self-clause-trimmed
+returns-then-floor-self-clause-trimmed c =
+    let vs = joined c.self.inside.blocks.items in
+    rw (← c.self.view_is) (sym (none_due c.args.floor c.self.inside.due c.if-floor-self.true vs c.self.invariant.not_due) ∙ trimmed_is c.args.floor vs)
