@@ -1,9 +1,9 @@
 -- A row stands between the bounds exactly where its first value is within the range, its key is under the ancestor where the rows are in
 -- the order of keys, and its place is up to the end.
-use Rattle.std.proofs.Common.{◌≡◌, ℕ, ◌<◌, List, [], ◌∷◌, ◌++◌, length, Bool, true, false, ◌&&◌, ◌||◌, not, cond, refl, sym, ap, ◌∙◌}
+use Rattle.std.proofs.Common.{◌≡◌, ℕ, List, [], ◌∷◌, ◌++◌, length, Bool, true, false, ◌&&◌, ◌||◌, not, cond, refl, sym, ap, ◌∙◌}
 use Rattle.std.proofs.Common.{subst, Option, Some, None, arith, append_assoc, append-nil, map, drop, take}
-use Rattle.std.specs.Prelude.{IsTrue, filter, flat_map, is_some, unwrap_or, option_map, nat_eq, All}
-use Rattle.std.specs.Ordering.{is_lt, is_gt, match_ordering, ordering_then, ordering_reverse, nat_cmp, eq_by_cmp}
+use Rattle.std.specs.Prelude.{IsTrue, filter, flat_map, unwrap_or, option_map, nat_eq}
+use Rattle.std.specs.Ordering.{is_lt, match_ordering, ordering_then, ordering_reverse, eq_by_cmp}
 use Rattle.std.specs.declared.cmp.Ordering.{Ordering}
 use Rattle.std.specs.declared.cmp.Ordering.TheVariants.{Less, Equal, Greater}
 use Rattle.std.specs.Cmp.{nat_cmp_is}
@@ -18,7 +18,7 @@ use Rattle.ds_base.specs.declared.index_value.IndexValue.{IndexValue}
 use Rattle.ds_base.specs.declared.index_value.IndexValue.TheVariants as class
 use Rattle.ds_base.specs.Keys.{KeyParts}
 use Rattle.ds_base.specs.KeyOrder.{bytes_cmp, key_cmp, elem_cmp, is_ancestor}
-use Rattle.ds_base.specs.KeyOrderLaws.{same_elem-decides, key_cmp-total}
+use Rattle.ds_base.specs.KeyOrderLaws.{same_elem-decides}
 use Rattle.ds_base.specs.IndexOrder.{index_value_cmp}
 use Rattle.ds_base.specs.IndexOrderLaws.{index_value_cmp-total}
 use Rattle.ds_bytes.specs.Encoding.{encoding, key_encoding, key_bytes, key_front, namespace_bytes, path_bytes, elem_bytes}
@@ -26,28 +26,27 @@ use Rattle.ds_bytes.specs.EncodingLaws.{encoding-ordered, key_encoding-ordered}
 use Rattle.ds_bytes.specs.AncestorLaws.{path_bytes-append, ancestor_begins}
 use Rattle.ds_bytes.specs.Ordered.{IsOrderedBy, directed_cmp}
 use Rattle.ds_bytes.specs.OrderedLaws.{bytes_cmp-front}
-use Rattle.ds_bytes.specs.Lawful.{IsKeyOfBytes, IsValueOfBytes, IsLawfulKey, IsLawfulValue}
+use Rattle.ds_bytes.specs.Lawful.{IsKeyOfBytes, IsValueOfBytes, IsLawfulKey}
 use Rattle.ds_bytes.specs.LawfulLaws.{key_of_bytes, value_of_bytes}
-use Rattle.ds_bytes.specs.Rows.{RowParts, IsRow, columns_bytes, row_bytes}
+use Rattle.ds_bytes.specs.Rows.{RowParts, IsRow, columns_bytes}
 use Rattle.ds_query.specs.declared.branch.Bound.{Bound}
 use Rattle.ds_query.specs.declared.branch.Range.{Range}
 use Rattle.ds_query.specs.declared.branch.Branch.{Branch}
 use Rattle.ds_query.specs.declared.row.Place.{Place}
-use Rattle.ds_base.specs.KeyColumn.{is_key_name, is_by_key, is_ascending_key, key_descends}
-use Rattle.ds_query.specs.ColumnLists.{has_column}
+use Rattle.ds_base.specs.KeyColumn.{is_key_name, is_by_key, key_descends}
 use Rattle.ds_query.specs.Lawful.{IsLawfulBranch, ends_in_key, names_differ, starts_with_key, bounds_are_keys, is_key_bound}
-use Rattle.ds_planner.proofs.Members.{both, join, not_true, true_false}
+use Rattle.ds_planner.proofs.Members.{both, join, true_false}
 use Rattle.ds_table.specs.Versions.{is_below, is_before, in_range}
 use Rattle.ds_zigzag.proofs.Order.{above-is_from, below_below, below_upto}
-use Rattle.ds_scan.specs.Ranges.{begins_with, rest, later}
+use Rattle.ds_scan.specs.Ranges.{rest}
 use Rattle.ds_scan.specs.RangeLaws.{begins-is}
 use Rattle.ds_scan.proofs.Order.{between, from_later, to_later}
 use Rattle.ds_cursor.specs.RowsOfColumns.{directions}
 use Rattle.ds_model.specs.Rows.{place_of, first_value, is_within, is_above as meets_lower, is_below as meets_upper, is_under}
 use Rattle.ds_model.specs.Results.{is_up_to}
-use Rattle.ds_engine.specs.Bounds.{beyond, begun_with, value_in_column, first_descends, low_at, high_at, first_bound, last_bound}
-use Rattle.ds_engine.specs.Bounds.{ancestor_low, ancestor_high, greater, lesser_end, behind_place, low_of, high_of}
-use Rattle.ds_engine.specs.Scans.{IsLawfulAncestor, IsLawfulInColumn, IsLawfulFirst, IsLawfulBound, IsLawfulEnds}
+use Rattle.ds_scan.specs.Bounds.{beyond, begun_with, value_in_column, first_descends, low_at, high_at, first_bound, last_bound}
+use Rattle.ds_scan.specs.Bounds.{ancestor_low, ancestor_high, greater, lesser_end, behind_place, low_of, high_of}
+use Rattle.ds_scan.specs.Scans.{IsLawfulAncestor, IsLawfulInColumn, IsLawfulFirst, IsLawfulBound, IsLawfulEnds}
 use Rattle.ds_engine.proofs.Columns.{first_not_key}
 use Rattle.ds_engine.proofs.LowBytes.{IsLow, path_low, row_low}
 use Rattle.ds_engine.proofs.ScanRows.{key_some}

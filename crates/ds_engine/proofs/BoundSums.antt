@@ -1,10 +1,9 @@
 -- Sums of bounds, by one shard or branch more and in either order.
-use Rattle.std.proofs.Common.{◌≡◌, ℕ, ◌+◌, List, [], ◌∷◌, ◌++◌, refl, sym, ap, ◌∙◌, arith}
+use Rattle.std.proofs.Common.{◌≡◌, ℕ, ◌+◌, List, [], ◌∷◌, ◌++◌, refl, sym, arith}
 use Rattle.std.specs.Prelude.{Option, sum_by}
 use Rattle.std.proofs.lemmas.List.Sums.{sum_by-cons}
-use Rattle.ds_query.specs.declared.branch.Branch.{Branch}
 use Rattle.ds_query.specs.declared.row.Place.{Place}
-use Rattle.ds_engine.specs.BoundSums.{Asked, bound_at, bound_over, BoundsAddUp}
+use Rattle.ds_engine.specs.BoundSums.{bound_at, bound_over, BoundsAddUp}
 
 sum-push : {X : Type 0} (f : X → ℕ) (xs : List X) (x : X) → sum_by f (xs ++ x ∷ []) ≡ sum_by f xs + f x
 sum-push f [] x = let one = sum_by-cons f x [] in omega (arith, one)

@@ -1,7 +1,7 @@
 -- The steps of an answer are within the bound.
-use Rattle.std.proofs.Common.{◌≡◌, ℕ, zero, suc, ◌+◌, ◌*◌, ◌≤◌, ◌<◌, List, [], ◌∷◌, length, map, Bool, true, false, cond, refl, sym, ap}
+use Rattle.std.proofs.Common.{◌≡◌, ℕ, zero, suc, ◌+◌, ◌*◌, ◌≤◌, List, [], length, map, Bool, true, false, cond, refl, sym, ap}
 use Rattle.std.proofs.Common.{◌∙◌, subst, Option, Some, None, arith}
-use Rattle.std.specs.Prelude.{nat_lt, ◌==◌, take}
+use Rattle.std.specs.Prelude.{nat_lt, ◌==◌}
 use Rattle.std.proofs.Math.Nat.{mul-le-mul_left}
 use Rattle.std.proofs.lemmas.Bool.Decides.{nat_tests}
 use Rattle.std.proofs.lemmas.List.{length-map, length-take}
@@ -20,7 +20,7 @@ use Rattle.ds_rows.specs.Versions.{Version, entities_at}
 use Rattle.ds_zigzag.specs.CommonStrings.{least_count, total_count}
 use Rattle.ds_zigzag.specs.Walks.{steps_to_end, steps_up_to}
 use Rattle.ds_model.specs.Results.{branch_results, last_place}
-use Rattle.ds_model.specs.Bounds.{given, stop_at, part_rows, least, old, bound}
+use Rattle.ds_model.specs.Bounds.{given, stop_at, part_rows, old, bound}
 use Rattle.ds_base.specs.Least.{least_of}
 use Rattle.ds_pages.specs.Pages.{last_of}
 use Rattle.ds_pages.specs.Places.{placed}

@@ -1,7 +1,7 @@
 -- What was collected on the way over the strings that scans have in common.
 use Rattle.std.proofs.Common.{◌≡◌, ◌⊎◌, inl, inr, ℕ, ◌+◌, ◌≤◌, ◌<◌, List, [], ◌∷◌, ◌++◌, length, map, take, get_or, Bool, true, false}
-use Rattle.std.proofs.Common.{◌&&◌, not, cond, refl, sym, ap, ◌∙◌, subst, Option, Some, None, Result, Ok, Err, arith, length-append}
-use Rattle.std.specs.Prelude.{OnErr, All, Contains, IsTrue, nat_lt, count_by, zero, suc}
+use Rattle.std.proofs.Common.{◌&&◌, cond, refl, sym, ap, ◌∙◌, subst, Option, Some, None, Result, Ok, Err, arith, length-append}
+use Rattle.std.specs.Prelude.{OnErr, All, Contains, IsTrue}
 use Rattle.std.specs.List.{list_any}
 use Rattle.std.proofs.lemmas.Bool.Decides.{nat_tests}
 use Rattle.std.proofs.lemmas.List.{length-map, take_all, map_push}
@@ -12,7 +12,7 @@ use Rattle.ds_query.specs.declared.row.Row.{Row}
 use Rattle.ds_query.specs.declared.row.Place.{Place}
 use Rattle.ds_zigzag.specs.Walks.{IsWalked, steps_to_end, steps_up_to}
 use Rattle.ds_zigzag.specs.Spans.{is_below, is_above, is_within, count_between}
-use Rattle.ds_zigzag.specs.CommonStrings.{IsCommon, IsNextCommon, HasNoNextCommon}
+use Rattle.ds_zigzag.specs.CommonStrings.{IsNextCommon, HasNoNextCommon}
 use Rattle.ds_zigzag.proofs.Counts.{count_by-lt}
 use Rattle.ds_zigzag.proofs.Order.{below_below, not_below_itself}
 use Rattle.ds_model.specs.Rows.{place_of}
@@ -27,7 +27,7 @@ use Rattle.ds_planner.proofs.Members.{both}
 use Rattle.ds_engine.specs.Common.{AreCommonRows, IsCommonAfter}
 use Rattle.ds_engine.specs.Kept.{have_no_values, with_one}
 use Rattle.ds_engine.specs.Places.{bytes_of, is_wanted, walk_steps}
-use Rattle.ds_engine.proofs.EntityRows.{all_member}
+use Rattle.ds_scan.proofs.MemberLists.{all_member}
 use Rattle.ds_engine.proofs.KeyRows.{new_row}
 use Rattle.ds_engine.proofs.Walking.{kept_at, none_kept, next_kept, all_kept, enough_kept}
 

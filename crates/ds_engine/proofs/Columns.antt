@@ -1,8 +1,7 @@
 -- The columns of an index: those in front of a branch's columns, the branch's own, and the key at the end.
 use Rattle.std.proofs.Common.{◌≡◌, ℕ, ◌-◌, List, [], ◌∷◌, ◌++◌, length, take, drop, Bool, true, false, ◌&&◌, ◌||◌, not, cond, refl, sym}
-use Rattle.std.proofs.Common.{ap, ◌∙◌, subst, Option, Some, None, map, append_assoc}
-use Rattle.std.specs.Prelude.{filter, bytes_eq}
-use Rattle.std.specs.List.{list_any, list_all}
+use Rattle.std.proofs.Common.{ap, ◌∙◌, Some, None}
+use Rattle.std.specs.Prelude.{bytes_eq}
 use Rattle.std.specs.Cmp.Lexicographic.{pointwise, pointwise_decides}
 use Rattle.std.proofs.lemmas.List.{take-append-drop}
 use Rattle.ds_base.specs.declared.column.Column.{Column}

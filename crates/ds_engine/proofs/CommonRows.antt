@@ -1,14 +1,14 @@
 -- The strings that the scans of a suiting plan have in common are the places of the branch's rows.
-use Rattle.std.proofs.Common.{◌≡◌, ◌⊎◌, inl, inr, ℕ, ◌<◌, List, [], ◌∷◌, ◌++◌, length, map, Bool, true, false, ◌&&◌, ◌||◌, not, cond}
-use Rattle.std.proofs.Common.{refl, sym, ap, ◌∙◌, subst, Option, Some, None, arith, append-nil}
-use Rattle.std.specs.Prelude.{filter, flat_map, All, Contains, IsTrue, is_some, is_none, option_map, bytes_eq}
+use Rattle.std.proofs.Common.{◌≡◌, inl, inr, ℕ, List, [], ◌∷◌, ◌++◌, length, map, Bool, true, false, ◌&&◌, ◌||◌, cond}
+use Rattle.std.proofs.Common.{refl, sym, ap, ◌∙◌, subst, Option, Some, None}
+use Rattle.std.specs.Prelude.{filter, All, Contains, is_none, bytes_eq}
 use Rattle.std.specs.List.{list_all, list_any, AllByRecursion, IsDistinct}
 use Rattle.std.proofs.lemmas.Map.Keys.{IsDistinct-head, IsDistinct-tail}
 use Rattle.std.specs.List.Sorted.{IsSorted}
 use Rattle.std.specs.Cmp.Lexicographic.{nat_list_cmp_total}
 use Rattle.std.proofs.lemmas.List.{length-map}
 use Rattle.std.proofs.lemmas.List.Elements.{All-nil}
-use Rattle.std.proofs.lemmas.List.Sorted.{Contains-permutation, All-permutation, IsPermutation-sym}
+use Rattle.std.proofs.lemmas.List.Sorted.{Contains-permutation, All-permutation}
 use Rattle.ds_base.specs.declared.column.Column.{Column}
 use Rattle.ds_base.specs.Keys.{KeyParts}
 use Rattle.ds_base.specs.KeyOrder.{bytes_cmp, same_key}
@@ -23,11 +23,10 @@ use Rattle.ds_indexdef.specs.declared.IndexDef.{IndexDef}
 use Rattle.ds_query.specs.declared.branch.Pair.{Pair}
 use Rattle.ds_query.specs.declared.branch.Branch.{Branch}
 use Rattle.ds_query.specs.declared.row.Place.{Place}
-use Rattle.ds_query.specs.Lawful.{IsLawfulBranch}
 use Rattle.ds_planner.specs.declared.planned.PlannedScan.{PlannedScan}
 use Rattle.ds_planner.specs.Indexes.{has_flag, binds_ancestor}
-use Rattle.ds_base.specs.KeyColumn.{is_by_key, key_descends}
-use Rattle.ds_planner.specs.Suits.{suits, is_scan, are_some, chooses}
+use Rattle.ds_base.specs.KeyColumn.{is_by_key}
+use Rattle.ds_planner.specs.Suits.{is_scan, are_some, chooses}
 use Rattle.ds_planner.proofs.Members.{Member, both, join, contained, member_contained, map_member, member_map, filter_member}
 use Rattle.ds_planner.proofs.Members.{member_filter, some_member, each_member, all_members, member_flat_map, or_cases, true_false}
 use Rattle.ds_planner.proofs.PairLists.{chooses-member}
@@ -35,35 +34,35 @@ use Rattle.ds_planner.proofs.PlanLaws.{suited, IsSuited}
 use Rattle.ds_rows.specs.Indexable.{IsIndexable}
 use Rattle.ds_rows.specs.Indexes.{has_ancestor}
 use Rattle.ds_rows.specs.Rows.{rows_of}
-use Rattle.ds_rows.specs.Versions.{Version, is_seen, entities_at, seen_rows, AreTables}
+use Rattle.ds_rows.specs.Versions.{Version, is_seen, entities_at, seen_rows}
 use Rattle.ds_scan.specs.Ranges.{rests}
 use Rattle.ds_scan.specs.RangeLaws.{row_of_rest, rest_of_row}
 use Rattle.ds_table.specs.Versions.{in_range}
 use Rattle.ds_zigzag.specs.Spans.{is_above}
 use Rattle.ds_zigzag.specs.CommonStrings.{IsCommon}
-use Rattle.ds_cursor.specs.RowsOfColumns.{directions, IsRowIn, IsRowOf}
+use Rattle.ds_cursor.specs.RowsOfColumns.{directions, IsRowOf}
 use Rattle.ds_model.specs.Rows.{rows, entity_rows, is_found, is_under, is_within, first_value, has_value, has_kind}
 use Rattle.ds_query.specs.RowValues.{value_columns}
 use Rattle.ds_model.specs.Rows.{place_of, compare_rows}
 use Rattle.ds_model.specs.Results.{is_between, is_after, is_up_to}
 use Rattle.ds_pages.proofs.PlaceOrder.{folded}
-use Rattle.ds_engine.specs.Prefixes.{scan_prefix}
-use Rattle.ds_engine.specs.Bounds.{low_of, high_of}
-use Rattle.ds_engine.specs.Ranging.{range_of}
-use Rattle.ds_engine.specs.Stamped.{rows_at}
+use Rattle.ds_scan.specs.Prefixes.{scan_prefix}
+use Rattle.ds_scan.specs.Bounds.{low_of, high_of}
+use Rattle.ds_scan.specs.Ranging.{range_of}
+use Rattle.ds_scan.specs.Stamped.{rows_at}
 use Rattle.ds_engine.specs.Places.{bytes_of}
-use Rattle.ds_engine.specs.Scans.{scan_branch, IsLawfulScan, IsLawfulEnds}
+use Rattle.ds_scan.specs.Scans.{scan_branch, IsLawfulScan}
 use Rattle.ds_engine.specs.ScanLaws.{IsPlanned, PlansTellRows}
 use Rattle.ds_engine.specs.Common.{AreCommonRows, IsCommonAfter}
 use Rattle.ds_engine.proofs.BoundLaws.{row_stands}
-use Rattle.ds_engine.proofs.EntityRows.{all_member, taken_lawful, entity_row, IsRowOfEntity, row_member, member_row}
-use Rattle.ds_engine.proofs.RowBytes.{all_from}
-use Rattle.ds_engine.proofs.ScanIndexes.{bound_scan, IsBoundScan}
+use Rattle.ds_engine.proofs.EntityRows.{taken_lawful, entity_row, row_member, member_row}
+use Rattle.ds_scan.proofs.MemberLists.{all_from, all_member, flat_map_member}
+use Rattle.ds_engine.proofs.ScanIndexes.{bound_scan}
 use Rattle.ds_engine.proofs.ScanColumns.{values_in}
 use Rattle.ds_engine.proofs.ScanRows.{scans_tell}
-use Rattle.ds_engine.proofs.StampedRows.{row_seen, seen_row}
+use Rattle.ds_scan.proofs.StampedRows.{row_seen, seen_row}
 use Rattle.ds_engine.proofs.Walking.{place_tells}
-use Rattle.ds_engine.proofs.Ways.{taken_long, flat_map_member}
+use Rattle.ds_engine.proofs.Ways.{taken_long}
 
 -- ---- entities
 

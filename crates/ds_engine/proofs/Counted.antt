@@ -1,23 +1,21 @@
 -- How many strings a scan has between two places: at most as many as the rows of a part that it binds.
-use Rattle.std.proofs.Common.{◌≡◌, ◌≢◌, ◌⊎◌, inl, inr, ℕ, ◌+◌, ◌*◌, ◌≤◌, ◌<◌, List, [], ◌∷◌, ◌++◌, length, map, Bool, true, false, ◌&&◌}
-use Rattle.std.proofs.Common.{◌||◌, not, cond, refl, sym, ap, ◌∙◌, subst, Option, Some, None, arith, length-append}
-use Rattle.std.specs.Prelude.{filter, flat_map, sum_by, count_by, min, All, Contains, IsTrue, is_some, is_none}
-use Rattle.std.specs.List.{list_all, list_any, AllByRecursion}
-use Rattle.std.specs.List.Sorted.{IsStrictlySortedBy, IsPermutation}
+use Rattle.std.proofs.Common.{◌≡◌, ◌≢◌, ◌⊎◌, inl, inr, ℕ, ◌+◌, ◌≤◌, ◌<◌, List, [], ◌∷◌, ◌++◌, length, map, Bool, true, false}
+use Rattle.std.proofs.Common.{cond, refl, sym, ap, ◌∙◌, subst, arith, length-append}
+use Rattle.std.specs.Prelude.{filter, count_by, All}
+use Rattle.std.specs.List.{AllByRecursion}
+use Rattle.std.specs.List.Sorted.{IsStrictlySortedBy}
 use Rattle.std.specs.declared.cmp.Ordering.TheVariants.{Less}
 use Rattle.std.specs.Cmp.Lexicographic.{nat_list_cmp_total}
 use Rattle.std.specs.Cmp.{tied_itself}
 use Rattle.std.proofs.lemmas.List.{length-map}
 use Rattle.std.proofs.lemmas.List.Sums.{sum_by-cons}
-use Rattle.std.proofs.lemmas.List.Sorted.{sum_by-IsPermutation}
 use Rattle.std.proofs.lemmas.List.Elements.{All-head, All-tail}
 use Rattle.ds_base.specs.KeyOrder.{bytes_cmp}
-use Rattle.ds_planner.proofs.Members.{Member, member_append, member_map, map_member, member_left, member_right, filter_member}
-use Rattle.ds_planner.proofs.Members.{member_filter, both, join}
+use Rattle.ds_planner.proofs.Members.{Member, member_append, member_left, member_right, filter_member}
 use Rattle.ds_rows.specs.Laws.{IsOnce}
 use Rattle.ds_rows.specs.OwnRowLaws.{each_kept}
 use Rattle.ds_base.specs.Least.{least_of}
-use Rattle.ds_engine.proofs.RowBytes.{all_from}
+use Rattle.ds_scan.proofs.MemberLists.{all_from}
 
 -- ---- items that stand once
 

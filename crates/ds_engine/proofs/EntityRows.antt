@@ -1,10 +1,9 @@
 -- The rows of a branch as members: of which entity each is, and by which values.
-use Rattle.std.proofs.Common.{◌≡◌, ◌⊎◌, inl, inr, List, [], ◌∷◌, ◌++◌, Bool, true, false, ◌&&◌, refl, sym, ap, ◌∙◌, subst, map, Some}
+use Rattle.std.proofs.Common.{◌≡◌, List, [], ◌∷◌, true, refl, sym, ap, subst, map, Some}
 use Rattle.std.proofs.Common.{None, Option}
 use Rattle.std.specs.Prelude.{ℕ, filter, flat_map, find, bytes_eq, All}
 use Rattle.std.specs.Option.{option_map_or}
-use Rattle.std.specs.List.{list_all}
-use Rattle.std.proofs.lemmas.List.Elements.{All-contains, All-nil, All-cons}
+use Rattle.std.proofs.lemmas.List.Elements.{All-nil, All-cons}
 use Rattle.ds_base.specs.declared.column.Column.{Column}
 use Rattle.ds_base.specs.declared.index_value.IndexValue.{IndexValue}
 use Rattle.ds_base.specs.declared.entity.Property.{Property}
@@ -12,16 +11,14 @@ use Rattle.ds_base.specs.Entities.{EntityParts}
 use Rattle.ds_bytes.specs.Lawful.{IsLawfulValue}
 use Rattle.ds_bytes.specs.Rows.{RowParts}
 use Rattle.ds_query.specs.declared.branch.Branch.{Branch}
-use Rattle.ds_planner.proofs.Members.{Member, contained, find_member, filter_member, member_filter, member_map, map_member, member_flat_map}
+use Rattle.ds_planner.proofs.Members.{Member, find_member, filter_member, member_filter, member_map, map_member, member_flat_map}
 use Rattle.ds_rows.specs.IndexedValues.{property_values, each_way}
 use Rattle.ds_rows.specs.Indexable.{IsIndexable}
 use Rattle.ds_model.specs.Rows.{rows, entity_rows, is_found, is_within, first_value}
 use Rattle.ds_query.specs.RowValues.{value_columns}
 use Rattle.ds_engine.proofs.ScanColumns.{values_in}
-use Rattle.ds_engine.proofs.Ways.{AreTaken, way_taken, taken_way, flat_map_member}
-
-pub all_member : {A : Type 0} (P : A → Type 0) (xs : List A) (x : A) → All P xs → Member x xs → P x
-all_member P xs x all m = All-contains P xs x all (contained xs x m)
+use Rattle.ds_engine.proofs.Ways.{AreTaken, way_taken, taken_way}
+use Rattle.ds_scan.proofs.MemberLists.{all_member, flat_map_member}
 
 -- ---- the rows of an entity
 

@@ -2,7 +2,7 @@
 use Rattle.std.proofs.Common.{◌≡◌, ◌⊎◌, inl, inr, ℕ, List, [], ◌∷◌, ◌++◌, length, fold, Bool, true, false, not, cond}
 use Rattle.std.proofs.Common.{refl, sym, ap, ◌∙◌, subst, Option, arith}
 use Rattle.std.specs.Prelude.{filter, map}
-use Rattle.std.specs.List.{list_any, list_all}
+use Rattle.std.specs.List.{list_any}
 use Rattle.ds_base.specs.declared.column.Column.{Column}
 use Rattle.ds_base.specs.declared.index_value.IndexValue.{IndexValue}
 use Rattle.ds_base.specs.KeyOrder.{same_key}
@@ -15,7 +15,7 @@ use Rattle.ds_base.specs.KeyColumn.{is_key_name}
 use Rattle.ds_cursor.specs.RowsOfColumns.{directions}
 use Rattle.ds_zigzag.specs.Spans.{is_above}
 use Rattle.ds_model.specs.Rows.{place_of}
-use Rattle.ds_model.specs.Results.{first_of_each, same_mark, projected_values}
+use Rattle.ds_model.specs.Results.{same_mark, projected_values}
 use Rattle.ds_pages.proofs.FirstLaws.{with_item}
 use Rattle.ds_planner.proofs.Members.{Member, both, refuted, true_false, some_member, filter_member, member_append}
 use Rattle.ds_engine.specs.Kept.{have_no_values}

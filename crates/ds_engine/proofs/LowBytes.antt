@@ -1,10 +1,10 @@
 -- What stands behind a value or a key in a row begins with a byte below 255.
-use Rattle.std.proofs.Common.{◌≡◌, ℕ, ◌<◌, List, [], ◌∷◌, ◌++◌, Bool, true, false, refl, arith}
+use Rattle.std.proofs.Common.{ℕ, ◌<◌, List, [], ◌∷◌, ◌++◌, Bool, true, false, arith}
 use Rattle.ds_base.specs.declared.key.Elem.{Elem}
 use Rattle.ds_base.specs.declared.index_value.IndexValue.{IndexValue}
 use Rattle.ds_base.specs.declared.index_value.IndexValue.TheVariants as class
 use Rattle.ds_base.specs.Keys.{KeyParts}
-use Rattle.ds_bytes.specs.Encoding.{path_bytes, namespace_bytes, key_bytes, key_encoding, encoding}
+use Rattle.ds_bytes.specs.Encoding.{path_bytes, key_encoding, encoding}
 use Rattle.ds_bytes.specs.Rows.{columns_bytes}
 
 -- the first byte, if there is one, is below 255

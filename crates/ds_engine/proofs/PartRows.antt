@@ -1,10 +1,8 @@
 -- The strings of a scan are places of rows of each part that it binds, and no more than these.
-use Rattle.std.proofs.Common.{◌≡◌, ◌⊎◌, inl, inr, ℕ, ◌+◌, ◌*◌, ◌≤◌, ◌<◌, List, [], ◌∷◌, ◌++◌, length, map, Bool, true, false, ◌&&◌, ◌||◌}
+use Rattle.std.proofs.Common.{◌≡◌, inl, inr, ℕ, ◌+◌, ◌≤◌, ◌<◌, List, [], ◌∷◌, ◌++◌, length, map, Bool, true, false, ◌&&◌, ◌||◌}
 use Rattle.std.proofs.Common.{not, cond, refl, sym, ap, ◌∙◌, subst, Option, Some, None, arith, length-append, append-nil}
-use Rattle.std.specs.Prelude.{filter, flat_map, sum_by, count_by, All, Contains, IsTrue, is_some, is_none, bytes_eq}
+use Rattle.std.specs.Prelude.{filter, flat_map, sum_by, count_by, is_some, is_none, bytes_eq}
 use Rattle.std.specs.List.{list_all, list_any}
-use Rattle.std.specs.List.Sorted.{IsPermutation}
-use Rattle.std.proofs.lemmas.List.{length-map}
 use Rattle.std.proofs.lemmas.List.Sums.{sum_by-cons}
 use Rattle.std.proofs.lemmas.List.Sorted.{sum_by-IsPermutation}
 use Rattle.ds_base.specs.Keys.{KeyParts}
@@ -13,7 +11,6 @@ use Rattle.ds_base.specs.Entities.{EntityParts}
 use Rattle.ds_base.specs.SortingLaws.{IsPermutation-sorted_by}
 use Rattle.ds_bytes.specs.Rows.{RowParts}
 use Rattle.ds_indexdef.specs.declared.IndexDef.{IndexDef}
-use Rattle.ds_indexdef.specs.Definitions.{AreDefs}
 use Rattle.ds_query.specs.declared.branch.Pair.{Pair}
 use Rattle.ds_query.specs.declared.branch.Branch.{Branch}
 use Rattle.ds_query.specs.declared.row.Place.{Place}
@@ -22,15 +19,14 @@ use Rattle.ds_planner.specs.declared.planned.PlannedScan.{PlannedScan}
 use Rattle.ds_planner.specs.Indexes.{has_flag, binds_ancestor}
 use Rattle.ds_base.specs.KeyColumn.{is_by_key}
 use Rattle.ds_base.specs.Least.{least_of}
-use Rattle.ds_planner.specs.Parts.{Part, pair_part, ancestor_part, empty_part, conditions, parts, branch_of_part, or_empty_part}
-use Rattle.ds_planner.specs.Suits.{suits, is_scan, chooses, are_some}
+use Rattle.ds_planner.specs.Parts.{Part, pair_part, ancestor_part, conditions, parts, branch_of_part, or_empty_part}
+use Rattle.ds_planner.specs.Suits.{is_scan, chooses, are_some}
 use Rattle.ds_planner.specs.Lean.{binds, BindEach, IsLean}
 use Rattle.ds_planner.proofs.Members.{Member, contained, member_contained, map_member, member_map, member_append, filter_member}
 use Rattle.ds_planner.proofs.Members.{member_filter, both, join, each_member, all_members, some_member, or_cases}
 use Rattle.ds_planner.proofs.PairLists.{chooses-member}
 use Rattle.ds_planner.proofs.PlanLaws.{suited, IsSuited}
 use Rattle.ds_rows.specs.Indexable.{IsIndexable}
-use Rattle.ds_rows.specs.Indexes.{has_ancestor}
 use Rattle.ds_rows.specs.Rows.{rows_of}
 use Rattle.ds_rows.specs.Versions.{Version, is_seen, entities_at, unseen_rows}
 use Rattle.ds_rows.proofs.OnceLaws.{rows_once}
@@ -43,20 +39,21 @@ use Rattle.ds_zigzag.specs.CommonStrings.{least_count, total_count}
 use Rattle.ds_model.specs.Rows.{rows, entity_rows, is_found, is_under, is_within as in_values, first_value, has_value, has_kind, place_of}
 use Rattle.ds_model.specs.Results.{is_between, is_after, is_up_to}
 use Rattle.ds_model.specs.Bounds.{part_rows, old, unseen_at}
-use Rattle.ds_engine.specs.Prefixes.{scan_prefix}
-use Rattle.ds_engine.specs.Bounds.{low_of, high_of}
-use Rattle.ds_engine.specs.Ranging.{range_of}
-use Rattle.ds_engine.specs.Stamped.{rows_at, rows_not_at}
+use Rattle.ds_scan.specs.Prefixes.{scan_prefix}
+use Rattle.ds_scan.specs.Bounds.{low_of, high_of}
+use Rattle.ds_scan.specs.Ranging.{range_of}
+use Rattle.ds_scan.specs.Stamped.{rows_at, rows_not_at}
 use Rattle.ds_engine.specs.Places.{bytes_of}
-use Rattle.ds_engine.specs.Scans.{scan_branch, IsLawfulScan, IsLawfulEnds}
+use Rattle.ds_scan.specs.Scans.{scan_branch, IsLawfulScan, IsLawfulEnds}
 use Rattle.ds_engine.specs.ScanLaws.{IsPlanned, plan_strings, ScansHaveFewStrings}
 use Rattle.ds_engine.proofs.BoundLaws.{row_stands}
-use Rattle.ds_engine.proofs.Counted.{once_counted, strict_once, count_kept, least_member, below_least}
-use Rattle.ds_engine.proofs.CommonRows.{IsOfScan, of_scan, row_of_bytes, entity_indexable}
-use Rattle.ds_engine.proofs.EntityRows.{all_member, entity_row, IsRowOfEntity, row_member, member_row}
-use Rattle.ds_engine.proofs.ScanIndexes.{bound_scan, IsBoundScan}
+use Rattle.ds_engine.proofs.Counted.{once_counted, strict_once, least_member, below_least}
+use Rattle.ds_engine.proofs.CommonRows.{of_scan, row_of_bytes, entity_indexable}
+use Rattle.ds_engine.proofs.EntityRows.{entity_row, IsRowOfEntity, row_member, member_row}
+use Rattle.ds_scan.proofs.MemberLists.{all_member}
+use Rattle.ds_engine.proofs.ScanIndexes.{bound_scan}
 use Rattle.ds_engine.proofs.ScanRows.{scans_tell}
-use Rattle.ds_engine.proofs.StampedRows.{rows_ascend}
+use Rattle.ds_scan.proofs.StampedRows.{rows_ascend}
 
 only : {A : Type 0} (x y : A) → Member x (y ∷ []) → x ≡ y
 only x y (inl e) = e

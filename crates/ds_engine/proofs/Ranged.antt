@@ -1,23 +1,16 @@
--- The scans of a plan, one after another.
-use Rattle.std.proofs.Common.{◌≡◌, ℕ, ◌+◌, ◌<◌, List, [], ◌∷◌, ◌++◌, length, map, take, get_or, refl, sym, ap, ◌∙◌, Option, Result, Ok, Err}
-use Rattle.std.specs.Prelude.{IfOk, OnErr}
-use Rattle.std.proofs.lemmas.List.{take_more, map-append, length-map}
+-- What the scans of a plan give.
+use Rattle.std.proofs.Common.{◌≡◌, ℕ, List, [], ◌∷◌, length, map, refl, sym, ap, ◌∙◌, Option, Result, Ok, Err}
+use Rattle.std.specs.Prelude.{OnErr}
+use Rattle.std.proofs.lemmas.List.{length-map}
 use Rattle.ds_indexdef.specs.declared.IndexDef.{IndexDef}
 use Rattle.ds_query.specs.declared.branch.Branch.{Branch}
 use Rattle.ds_query.specs.declared.row.Place.{Place}
 use Rattle.ds_planner.specs.declared.planned.PlannedScan.{PlannedScan}
 use Rattle.ds_rows.specs.Versions.{Version}
 use Rattle.ds_scan.specs.Ranges.{Ranged, rests}
-use Rattle.ds_engine.specs.Ranging.{range_of, ranges_over}
+use Rattle.ds_scan.specs.Ranging.{range_of, ranges_over}
 use Rattle.ds_engine.specs.ScanLaws.{plan_strings, plan_passed}
-use Rattle.ds_engine.specs.Stamped.{Stamped, rows_at, rows_not_at}
-
-pub one_more_made : {A B : Type 0} (f : A → B) (xs : List A) (i : ℕ) (x : A) (items items' : List B) (y : B) → i < length xs → x
-    ≡ get_or xs i x
-    → items ≡ map f (take i xs) → items' ≡ items ++ y ∷ [] → y ≡ f x → items' ≡ map f (take (i + 1) xs)
-one_more_made f xs i x items items' y below at_i made pushed is =
-    pushed ∙ (λ t. made t ++ (is ∙ ap f at_i) t ∷ []) ∙ sym (ap (map f) (take_more xs i x below)
-    ∙ map-append f (take i xs) (get_or xs i x ∷ []))
+use Rattle.ds_scan.specs.Stamped.{Stamped, rows_at, rows_not_at}
 
 -- what the scans of a plan give, over tables whose rows these are
 pub strings_of_plan : {T : Type 0} (q : Branch) (defs : List IndexDef) (scans : List PlannedScan) (end : Option Place) (at_stamp :
@@ -62,14 +55,6 @@ pub as_many_scans : {T : Type 0} (q : Branch) (defs : List IndexDef) (scans : Li
 as_many_scans q defs scans end at_stamp items made =
     ap length made ∙ length-map scans (λ (s : PlannedScan). record { rows = at_stamp; range = range_of q defs end s })
 
-pub if_both : {A E : Type 0} {P Q R : A → Type 0} (r : Result A E) → IfOk r P → IfOk r Q → ((a : A) → P a → Q a → R a) → IfOk r R
-if_both (Ok a) p q f = f a p q
-if_both (Err e) p q f = tt
-
 pub on_err : {A E P Q : Type 0} (r : Result A E) → OnErr r P → (P → Q) → OnErr r Q
 on_err (Ok a) p f = tt
 on_err (Err e) p f = f p
-
-pub if_ok : {A E : Type 0} {P Q : A → Type 0} (r : Result A E) → IfOk r P → ((a : A) → P a → Q a) → IfOk r Q
-if_ok (Ok a) p f = f a p
-if_ok (Err e) p f = tt

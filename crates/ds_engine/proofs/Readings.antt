@@ -1,5 +1,5 @@
 -- A row that is read back column by column.
-use Rattle.std.proofs.Common.{◌≡◌, ℕ, ◌+◌, ◌≤◌, ◌<◌, List, [], ◌∷◌, ◌++◌, length, drop, get_or, Bool, true, false, refl, sym, ap, subst}
+use Rattle.std.proofs.Common.{◌≡◌, ℕ, ◌+◌, ◌≤◌, ◌<◌, List, [], ◌∷◌, ◌++◌, length, drop, get_or, Bool, true, false, sym, ap, subst}
 use Rattle.std.proofs.Common.{◌∙◌, arith, append_assoc, append-nil}
 use Rattle.std.specs.Prelude.{All}
 use Rattle.std.proofs.lemmas.List.{drop_all, drop_more}
@@ -15,10 +15,10 @@ use Rattle.ds_bytes.specs.Reading.{Begins, NoneBegins}
 use Rattle.ds_bytes.specs.Rows.{RowParts, columns_bytes}
 use Rattle.ds_base.specs.KeyColumn.{is_key_name, key_descends}
 use Rattle.ds_query.specs.declared.row.Row.{Row}
-use Rattle.ds_cursor.specs.RowsOfColumns.{directions, IsRowIn, IsRowOf}
+use Rattle.ds_cursor.specs.RowsOfColumns.{directions, IsRowOf}
 use Rattle.ds_cursor.proofs.RowLemmas.{directions-key, directions-value}
 use Rattle.ds_model.specs.Rows.{place_of}
-use Rattle.ds_pages.specs.Places.{IsPlaced, parts_of, placed}
+use Rattle.ds_pages.specs.Places.{IsPlaced, parts_of}
 use Rattle.ds_engine.specs.Reading.{ValueStands, KeyStands}
 
 -- ---- what stands at the front

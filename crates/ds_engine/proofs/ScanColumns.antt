@@ -1,10 +1,10 @@
 -- The columns to which a scan is bound: what an entity has in them, and the bytes of the scan's values.
-use Rattle.std.proofs.Common.{◌≡◌, ◌⊎◌, inl, inr, ℕ, List, [], ◌∷◌, ◌++◌, length, Bool, true, false, ◌&&◌, ◌||◌, not, cond, refl, sym, ap}
-use Rattle.std.proofs.Common.{◌∙◌, subst, arith, Option, Some, None, append_assoc, append-nil, map}
-use Rattle.std.specs.Prelude.{bytes_eq, filter, unwrap_or, All}
-use Rattle.std.specs.List.{list_any, list_all}
+use Rattle.std.proofs.Common.{◌≡◌, inl, inr, ℕ, List, [], ◌∷◌, ◌++◌, Bool, true, false, ◌&&◌, ◌||◌, not, cond, refl, sym, ap}
+use Rattle.std.proofs.Common.{◌∙◌, subst, Some, None, map}
+use Rattle.std.specs.Prelude.{bytes_eq, unwrap_or, All}
+use Rattle.std.specs.List.{list_all}
 use Rattle.std.proofs.lemmas.List.{map-append}
-use Rattle.std.proofs.lemmas.List.Elements.{All-nil, All-cons, All-head, All-tail}
+use Rattle.std.proofs.lemmas.List.Elements.{All-nil, All-cons}
 use Rattle.ds_base.specs.declared.column.Column.{Column}
 use Rattle.ds_base.specs.declared.index_value.IndexValue.{IndexValue}
 use Rattle.ds_base.specs.declared.index_value.IndexValue.TheVariants.{Null}
@@ -19,22 +19,21 @@ use Rattle.ds_query.specs.declared.branch.Branch.{Branch}
 use Rattle.ds_base.specs.KeyColumn.{is_key_name, key_name, key_descends}
 use Rattle.ds_query.specs.ColumnLists.{ascending}
 use Rattle.ds_query.specs.Lawful.{ends_in_key, has_pair, IsLawfulBranch}
-use Rattle.ds_planner.specs.declared.planned.PlannedIndex.{PlannedIndex as Planned}
 use Rattle.ds_planner.specs.declared.planned.PlannedScan.{PlannedScan}
-use Rattle.ds_planner.specs.Indexes.{by_key, with_key}
-use Rattle.ds_planner.proofs.Members.{Member, both, join, each_member, all_members, filter_member, not_true, refuted, true_false}
-use Rattle.ds_planner.proofs.Members.{any_member, member_append}
-use Rattle.ds_planner.proofs.PairLists.{has_pair-member, member-has_pair, same_name, name_itself}
+use Rattle.ds_planner.specs.Indexes.{by_key}
+use Rattle.ds_planner.proofs.Members.{Member, both, each_member, all_members, filter_member, not_true, refuted, true_false}
+use Rattle.ds_planner.proofs.Members.{member_append}
+use Rattle.ds_planner.proofs.PairLists.{has_pair-member, member-has_pair, same_name}
 use Rattle.ds_rows.specs.Indexes.{RowIndex, AllByKey, KindByKey, ByProperty, Composite, directions as index_directions}
 use Rattle.ds_rows.specs.Indexes.{index_key_descends, last_key_descends, front_columns}
 use Rattle.ds_rows.specs.IndexedValues.{indexed_values, column_values}
 use Rattle.ds_rows.specs.Rows.{index_lists}
 use Rattle.ds_query.specs.RowValues.{value_columns, asked_value}
 use Rattle.ds_cursor.specs.RowsOfColumns.{directions}
-use Rattle.ds_engine.specs.Prefixes.{columns_of, bound_or, bound_bytes}
-use Rattle.ds_engine.specs.Scans.{AreLawfulBound, IsLawfulOr}
+use Rattle.ds_scan.specs.Prefixes.{columns_of, bound_or, bound_bytes}
+use Rattle.ds_scan.specs.Scans.{AreLawfulBound, IsLawfulOr}
 use Rattle.ds_engine.proofs.Columns.{with_key-split, end_column, same_ends}
-use Rattle.ds_engine.proofs.ScanIndexes.{IsFound, IsBoundScan, IsNamed, columns_are, pair_free}
+use Rattle.ds_engine.proofs.ScanIndexes.{IsBoundScan, IsNamed, columns_are, pair_free}
 
 -- ---- pairs
 

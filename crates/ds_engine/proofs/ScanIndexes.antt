@@ -1,17 +1,16 @@
 -- What a planned scan's index is: its columns are those that the scan is bound to and then the branch's.
 use Rattle.std.proofs.Common.{◌≡◌, ℕ, zero, suc, ◌<◌, List, [], ◌∷◌, ◌++◌, length, get_or, Bool, true, false, ◌&&◌, ◌||◌, not, cond, refl}
-use Rattle.std.proofs.Common.{sym, ap, ◌∙◌, subst, arith, Option, Some, None, append_assoc}
-use Rattle.std.specs.Prelude.{bytes_eq, is_some, is_none, option_map, option_and_then, unwrap_or, IsTrue}
+use Rattle.std.proofs.Common.{sym, ap, ◌∙◌, arith, Option, Some, None, append_assoc}
+use Rattle.std.specs.Prelude.{is_some, is_none, option_map, option_and_then, unwrap_or}
 use Rattle.std.specs.List.{list_all, slice_get}
 use Rattle.ds_base.specs.declared.column.Column.{Column}
 use Rattle.ds_base.specs.Keys.{KeyParts}
-use Rattle.ds_base.specs.KeyOrder.{same_key}
 use Rattle.ds_base.specs.KeyOrderLaws.{same_key-decides}
 use Rattle.ds_indexdef.specs.declared.IndexDef.{IndexDef}
 use Rattle.ds_query.specs.declared.branch.Pair.{Pair}
 use Rattle.ds_query.specs.declared.branch.Branch.{Branch}
-use Rattle.ds_base.specs.KeyColumn.{is_key_name, key_name, key_descends}
-use Rattle.ds_query.specs.ColumnLists.{ascending, has_column}
+use Rattle.ds_base.specs.KeyColumn.{is_key_name, key_descends}
+use Rattle.ds_query.specs.ColumnLists.{has_column}
 use Rattle.ds_query.specs.Lawful.{ends_in_key, names_differ, has_pair, IsLawfulBranch}
 use Rattle.ds_planner.specs.declared.planned.PlannedIndex.{PlannedIndex as Planned}
 use Rattle.ds_planner.specs.declared.planned.PlannedIndex.TheVariants as planned
@@ -19,13 +18,13 @@ use Rattle.ds_planner.specs.declared.planned.PlannedScan.{PlannedScan}
 use Rattle.ds_planner.specs.Indexes.{by_key, with_key, in_front_of, index_columns, defined_columns, is_usable, is_of_kind, leading}
 use Rattle.ds_planner.specs.Indexes.{are_paired, is_paired, leads, names_column, has_flag, is_candidate}
 use Rattle.ds_planner.specs.Suits.{chooses, properties_differ, same_ancestor, bound_ancestor, is_choice, is_scan}
-use Rattle.ds_planner.proofs.Members.{Member, both, true_false, not_true, each_member, all_members, some_member}
+use Rattle.ds_planner.proofs.Members.{Member, both, not_true, each_member}
 use Rattle.ds_planner.proofs.PairLists.{chooses-member, same_name, has_pair-member}
 use Rattle.ds_rows.specs.Indexes.{RowIndex, AllByKey, KindByKey, ByProperty, Composite, has_ancestor, last_key_descends}
 use Rattle.ds_rows.specs.Indexes.{front_columns}
 use Rattle.ds_rows.specs.Laws.{IsIndexOf}
 use Rattle.ds_query.specs.RowValues.{value_columns}
-use Rattle.ds_engine.specs.Prefixes.{index_in, columns_of}
+use Rattle.ds_scan.specs.Prefixes.{index_in, columns_of}
 use Rattle.ds_engine.proofs.Columns.{with_key-split, end_descends, end_column, whole_split, same_ends, values_in_front, key_at_end}
 use Rattle.ds_engine.proofs.Columns.{front_is, first_not_key}
 

@@ -1,14 +1,13 @@
 -- The rows of an entity that begin with what a scan is bound to, and its rows under what the scan binds.
-use Rattle.std.proofs.Common.{◌≡◌, ◌⊎◌, inl, inr, ℕ, zero, suc, ◌+◌, ◌<◌, List, [], ◌∷◌, ◌++◌, length, Bool, true, false, ◌&&◌, ◌||◌, not}
-use Rattle.std.proofs.Common.{cond, refl, sym, ap, ◌∙◌, subst, arith, Option, Some, None, append_assoc, append-nil, map}
+use Rattle.std.proofs.Common.{◌≡◌, inl, inr, ℕ, zero, suc, ◌+◌, ◌<◌, List, [], ◌∷◌, ◌++◌, length, Bool, true, false, ◌&&◌, ◌||◌, not}
+use Rattle.std.proofs.Common.{cond, refl, sym, ap, ◌∙◌, subst, arith, Option, Some, None, append_assoc, map}
 use Rattle.std.proofs.lemmas.Bool.Decides.{nat_tests}
-use Rattle.std.specs.Prelude.{◌↔◌, nat_le, bytes_eq, filter, flat_map, find, unwrap_or, is_some, option_map, All, Contains}
+use Rattle.std.specs.Prelude.{nat_le, bytes_eq, filter, flat_map, find, unwrap_or, is_some, option_map, All}
 use Rattle.std.specs.List.{list_any, list_all, enumerate_from}
 use Rattle.std.specs.Option.{option_map_or}
-use Rattle.std.specs.Ordering.{is_eq, eq_by_cmp}
+use Rattle.std.specs.Ordering.{is_eq}
 use Rattle.std.specs.declared.cmp.Ordering.{Ordering}
 use Rattle.std.specs.declared.cmp.Ordering.TheVariants.{Less, Equal, Greater}
-use Rattle.std.proofs.lemmas.List.Elements.{All-append, All-nil}
 use Rattle.std.proofs.lemmas.List.{length-map}
 use Rattle.ds_base.specs.declared.column.Column.{Column}
 use Rattle.ds_base.specs.declared.entity.Property.{Property}
@@ -19,12 +18,12 @@ use Rattle.ds_base.specs.Limits.{most_elements}
 use Rattle.ds_base.specs.Entities.{EntityParts}
 use Rattle.ds_base.specs.KeyOrder.{is_ancestor}
 use Rattle.ds_base.specs.IndexOrder.{index_value_cmp}
-use Rattle.ds_base.specs.IndexOrderLaws.{index_value_cmp-total, index_value_cmp-Equal}
+use Rattle.ds_base.specs.IndexOrderLaws.{index_value_cmp-Equal}
 use Rattle.ds_bytes.specs.Encoding.{key_bytes, key_encoding}
 use Rattle.ds_bytes.specs.EncodingLaws.{key_encoding-reads_once}
-use Rattle.ds_bytes.specs.Lawful.{IsKeyOfBytes, IsLawfulKey, IsValueOfBytes, IsLawfulValue}
+use Rattle.ds_bytes.specs.Lawful.{IsKeyOfBytes, IsLawfulKey, IsValueOfBytes}
 use Rattle.ds_bytes.specs.LawfulLaws.{key_of_bytes, value_of_bytes}
-use Rattle.ds_bytes.specs.Rows.{RowParts, columns_bytes, IsRow}
+use Rattle.ds_bytes.specs.Rows.{RowParts, columns_bytes}
 use Rattle.ds_indexdef.specs.declared.IndexDef.{IndexDef}
 use Rattle.ds_indexdef.specs.Definitions.{AreDefs}
 use Rattle.ds_query.specs.declared.branch.Pair.{Pair}
@@ -32,7 +31,6 @@ use Rattle.ds_query.specs.declared.branch.Branch.{Branch}
 use Rattle.ds_query.specs.Lawful.{has_pair, IsLawfulBranch}
 use Rattle.ds_query.specs.ColumnLists.{has_column}
 use Rattle.ds_planner.specs.declared.planned.PlannedScan.{PlannedScan}
-use Rattle.ds_planner.specs.Suits.{is_scan, properties_differ}
 use Rattle.ds_planner.proofs.Members.{Member, both, join, contained, member_contained, map_member, member_map, member_flat_map}
 use Rattle.ds_planner.proofs.Members.{member_append, member_left, member_right, filter_member, member_filter, some_member, any_member}
 use Rattle.ds_planner.proofs.Members.{each_member, all_members, find_member}
@@ -41,8 +39,8 @@ use Rattle.ds_rows.specs.Indexes.{RowIndex, AllByKey, KindByKey, ByProperty, Com
 use Rattle.ds_rows.specs.Indexes.{composite_indexes, directions as index_directions, index_key_descends}
 use Rattle.ds_rows.specs.IndexedValues.{kind_of, kind_in, indexed_values, property_values, each_way}
 use Rattle.ds_rows.specs.Rows.{IndexRow, rows_of, rows_in, index_rows, index_row_bytes, index_front, row_rest, row_with, row_ancestors}
-use Rattle.ds_rows.specs.Rows.{index_lists, ancestor_bytes, ancestors, paths_to}
-use Rattle.ds_rows.specs.Laws.{IsIndexOf, IsRowOf, HoldsKind, IsSameIndex}
+use Rattle.ds_rows.specs.Rows.{index_lists, ancestor_bytes, ancestors}
+use Rattle.ds_rows.specs.Laws.{IsIndexOf, HoldsKind}
 use Rattle.ds_rows.specs.RowLaws.{fronts_apart}
 use Rattle.ds_rows.specs.OwnRowLaws.{own_rows, own_indexes, IsOwn, ancestors_lawful}
 use Rattle.ds_rows.specs.Indexable.{IsIndexable}
@@ -50,15 +48,15 @@ use Rattle.ds_model.specs.Rows.{rows, place_of, entity_rows, has_value, has_kind
 use Rattle.ds_query.specs.RowValues.{value_columns}
 use Rattle.ds_cursor.specs.RowsOfColumns.{directions}
 use Rattle.ds_base.specs.KeyColumn.{key_descends}
-use Rattle.ds_engine.specs.Prefixes.{index_in, columns_of, bound_bytes, prefix_in, scan_prefix}
-use Rattle.ds_engine.specs.Scans.{scan_branch, IsLawfulScan, IsLawfulAncestor, IsLawfulIn, AreLawfulBound}
+use Rattle.ds_scan.specs.Prefixes.{columns_of, bound_bytes, prefix_in, scan_prefix}
+use Rattle.ds_scan.specs.Scans.{scan_branch, IsLawfulScan, IsLawfulAncestor, IsLawfulIn, AreLawfulBound}
 use Rattle.ds_engine.specs.ScanLaws.{ScansTellRows}
-use Rattle.ds_engine.proofs.Ways.{AreTaken, AreSplit, split_taken, join_taken, taken_long, way_taken, taken_way, bytes_join, values_once}
-use Rattle.ds_engine.proofs.Ways.{flat_map_member}
-use Rattle.ds_engine.proofs.ScanIndexes.{SuitsKind, SuitsFlag, IsFound, IsBoundScan, bound_scan}
-use Rattle.ds_engine.proofs.ScanColumns.{values_in, asked_or_null, pair_of, asked_some, IsAsked, bound_is, bound_lawful, HasRest, rest_is}
+use Rattle.ds_engine.proofs.Ways.{AreTaken, split_taken, join_taken, taken_long, way_taken, taken_way, bytes_join, values_once}
+use Rattle.ds_scan.proofs.MemberLists.{all_member, flat_map_member}
+use Rattle.ds_engine.proofs.ScanIndexes.{SuitsKind, SuitsFlag, IsBoundScan, bound_scan}
+use Rattle.ds_engine.proofs.ScanColumns.{values_in, asked_or_null, pair_of, asked_some, bound_is, bound_lawful, HasRest, rest_is}
 use Rattle.ds_engine.proofs.ScanColumns.{AreIndexColumns, index_columns_are}
-use Rattle.ds_engine.proofs.EntityRows.{all_member, taken_lawful, entity_row, row_entity, IsRowOfEntity, row_member, member_row}
+use Rattle.ds_engine.proofs.EntityRows.{taken_lawful, entity_row, row_entity, row_member, member_row}
 use Rattle.ds_engine.proofs.AncestorPaths.{under_listed, listed_under}
 
 -- ---- the indexes of an entity

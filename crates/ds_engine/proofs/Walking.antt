@@ -1,9 +1,8 @@
 -- A walk over the strings that scans have in common: what is kept of the rows that it has reached.
-use Rattle.std.proofs.Common.{◌≡◌, ◌⊎◌, inl, inr, ℕ, ◌+◌, ◌≤◌, ◌<◌, List, [], ◌∷◌, ◌++◌, length, map, fold, Bool, true, false, ◌&&◌, ◌||◌}
-use Rattle.std.proofs.Common.{not, cond, refl, sym, ap, ◌∙◌, subst, Option, Some, None, arith, append_assoc, append-nil, take, drop}
-use Rattle.std.specs.Prelude.{filter, All, Contains, IsTrue, IsFalse}
+use Rattle.std.proofs.Common.{◌≡◌, ◌⊎◌, inl, inr, ℕ, List, [], ◌∷◌, ◌++◌, length, map, fold, Bool, true, false, ◌&&◌, ◌||◌}
+use Rattle.std.proofs.Common.{not, cond, refl, sym, ap, ◌∙◌, subst, Option, Some, None, append_assoc, append-nil, take}
+use Rattle.std.specs.Prelude.{filter, IsTrue}
 use Rattle.std.specs.List.{list_any}
-use Rattle.std.specs.List.Sorted.{IsSorted}
 use Rattle.std.specs.Ordering.{is_eq, is_gt, is_lt, ordering_reverse}
 use Rattle.std.specs.declared.cmp.Ordering.{Ordering}
 use Rattle.std.specs.declared.cmp.Ordering.TheVariants.{Less, Equal, Greater}
@@ -21,17 +20,17 @@ use Rattle.ds_bytes.specs.RowLaws.{row_bytes-reads_once}
 use Rattle.ds_cursor.specs.RowsOfColumns.{directions}
 use Rattle.ds_base.specs.KeyColumn.{key_descends}
 use Rattle.ds_query.specs.declared.row.Row.{Row}
-use Rattle.ds_planner.proofs.Members.{Member, contained, member_contained, map_member, filter_member, member_filter, member_append, join}
-use Rattle.ds_planner.proofs.Members.{both, true_false, not_true}
+use Rattle.ds_planner.proofs.Members.{Member, member_contained, map_member, filter_member, member_filter, join}
+use Rattle.ds_planner.proofs.Members.{true_false, not_true}
 use Rattle.ds_zigzag.specs.Spans.{is_below, is_above}
-use Rattle.ds_zigzag.specs.CommonStrings.{IsCommon, IsNextCommon, HasNoNextCommon}
-use Rattle.ds_zigzag.proofs.Order.{below_below, below_upto, upto_upto, same_unless_below, below_back, not_below_itself}
+use Rattle.ds_zigzag.specs.CommonStrings.{IsNextCommon, HasNoNextCommon}
+use Rattle.ds_zigzag.proofs.Order.{below_below, below_upto, same_unless_below, not_below_itself}
 use Rattle.ds_model.specs.Rows.{place_of}
 use Rattle.ds_model.specs.Results.{at_most, first_of_each, same_mark, projected_values}
-use Rattle.ds_pages.specs.Places.{IsPlaced, parts_of, placed}
+use Rattle.ds_pages.specs.Places.{IsPlaced, parts_of}
 use Rattle.ds_pages.proofs.FirstLaws.{with_item}
 use Rattle.ds_engine.specs.Common.{AreCommonRows, IsCommonAfter}
-use Rattle.ds_engine.proofs.EntityRows.{all_member}
+use Rattle.ds_scan.proofs.MemberLists.{all_member}
 
 -- ---- first occurrence
 

@@ -1,26 +1,16 @@
 -- Ways to take one value of each list, and the values that are taken.
-use Rattle.std.proofs.Common.{◌≡◌, ◌⊎◌, inl, inr, ℕ, ◌+◌, List, [], ◌∷◌, ◌++◌, length, map, Bool, refl, sym, ap, ◌∙◌, subst, arith}
+use Rattle.std.proofs.Common.{◌≡◌, inl, inr, ℕ, List, [], ◌∷◌, ◌++◌, length, map, Bool, refl, sym, ap, ◌∙◌, subst, arith}
 use Rattle.std.proofs.Common.{append_assoc}
-use Rattle.std.specs.Prelude.{flat_map, All}
-use Rattle.std.proofs.lemmas.List.Elements.{All-nil, All-cons, All-head, All-tail}
+use Rattle.std.specs.Prelude.{All}
+use Rattle.std.proofs.lemmas.List.Elements.{All-head, All-tail}
 use Rattle.ds_base.specs.declared.index_value.IndexValue.{IndexValue}
 use Rattle.ds_bytes.specs.Encoding.{encoding}
 use Rattle.ds_bytes.specs.EncodingLaws.{encoding-reads_once}
 use Rattle.ds_bytes.specs.Lawful.{IsValueOfBytes}
 use Rattle.ds_bytes.specs.Rows.{columns_bytes}
-use Rattle.ds_planner.proofs.Members.{Member, member_map, map_member, member_flat_map, member_append}
+use Rattle.ds_planner.proofs.Members.{Member, member_map, map_member, member_flat_map}
 use Rattle.ds_rows.specs.IndexedValues.{each_way}
-
--- ---- members of a list of lists
-
-pub flat_map_member : {A B : Type 0} (f : A → List B) (xs : List A) (y : B) → Member y (flat_map f xs)
-    → (x : A) × (Member x xs × Member y (f x))
-flat_map_member f [] y m = absurd m
-flat_map_member {A = A} f (x ∷ xs) y m = by (member_append (f x) (flat_map f xs) y m) (λ h. flat_map_member f xs y h) where
-  by : Member y (f x) ⊎ Member y (flat_map f xs) → (Member y (flat_map f xs) → (z : A) × (Member z xs × Member y (f z)))
-      → (z : A) × (Member z (x ∷ xs) × Member y (f z))
-  by (inl h) more = (x, (inl refl, h))
-  by (inr h) more = let r = more h in (r.0, (inr r.1.0, r.1.1))
+use Rattle.ds_scan.proofs.MemberLists.{flat_map_member}
 
 -- ---- ways
 

@@ -1,5 +1,5 @@
 -- The strings that scans have in common, as rows.
-use Rattle.std.specs.Prelude.{◌≡◌, ℕ, List, All, Option, IsTrue, map, Contains}
+use Rattle.std.specs.Prelude.{ℕ, List, All, Option, IsTrue, map, Contains}
 use Rattle.std.specs.List.Sorted.{IsSorted}
 use Rattle.ds_base.specs.declared.column.Column.{Column}
 use Rattle.ds_base.specs.KeyOrder.{bytes_cmp}

@@ -24,13 +24,13 @@ use Rattle.ds_cursor.specs.RowsOfColumns.{directions}
 use Rattle.ds_model.specs.Rows.{rows, place_of, compare_rows, first_value, is_within, is_under}
 use Rattle.ds_model.specs.Results.{is_between, is_up_to}
 use Rattle.ds_model.specs.Bounds.{part_rows, old}
-use Rattle.ds_engine.specs.Bounds.{low_of, high_of}
+use Rattle.ds_scan.specs.Bounds.{low_of, high_of}
 use Rattle.ds_engine.specs.Common.{AreCommonRows}
 use Rattle.ds_engine.specs.Places.{bytes_of}
-use Rattle.ds_engine.specs.Prefixes.{scan_prefix}
-use Rattle.ds_engine.specs.Ranging.{range_of}
-use Rattle.ds_engine.specs.Scans.{scan_branch, IsLawfulScan, IsLawfulEnds}
-use Rattle.ds_engine.specs.Stamped.{rows_at, rows_not_at}
+use Rattle.ds_scan.specs.Prefixes.{scan_prefix}
+use Rattle.ds_scan.specs.Ranging.{range_of}
+use Rattle.ds_scan.specs.Scans.{scan_branch, IsLawfulScan, IsLawfulEnds}
+use Rattle.ds_scan.specs.Stamped.{rows_at, rows_not_at}
 
 -- An entity has a row that begins with what a scan is bound to exactly where what follows is the place of one of its rows under
 -- the pairs and the ancestor that the scan binds.

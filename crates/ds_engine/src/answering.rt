@@ -10,7 +10,6 @@ ghost use Rattle.ds_model.specs.Bounds.{bound, given};
 ghost use Rattle.ds_pages.specs.Places.{IsPlaced, placed};
 
 use crate::collecting::first_common;
-use crate::ranging::scans_of;
 use crate::refused::EngineRefused;
 use ds_base::NoMemory;
 use ds_indexdef::Defs;
@@ -18,6 +17,7 @@ use ds_io::Steps;
 use ds_planner::{PlanRefused, ScanPlan, plan};
 use ds_query::{Branch, Place, RowList};
 use ds_rows::Tables;
+use ds_scan::scans_of;
 use std::alloc::Global;
 use std::sync::ledger::Ledger;
 

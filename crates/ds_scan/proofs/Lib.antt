@@ -4,3 +4,7 @@ pub mod Order
 pub mod Passed
 pub mod Rests
 pub mod Kept
+pub mod MemberLists
+pub mod PlannedScans
+pub mod RowBytes
+pub mod StampedRows

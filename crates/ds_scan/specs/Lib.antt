@@ -1,3 +1,8 @@
+pub mod Bounds
 pub mod Kept
+pub mod Prefixes
 pub mod RangeLaws
 pub mod Ranges
+pub mod Ranging
+pub mod Scans
+pub mod Stamped

@@ -40,10 +40,10 @@ use Rattle.ds_protocol.specs.Preparing as protocol
 use Rattle.ds_protocol.specs.Refused.{IsRefusal}
 use Rattle.ds_protocol.specs.Preparing.{IsReady}
 use Rattle.ds_protocol.specs.Searches.{IsSearchOf, is_statement, search_parts}
-use Rattle.ds_states.specs.Counted.{FindsGlobally}
-use Rattle.ds_states.specs.Plans as states
-use Rattle.ds_states.specs.Searches.{IsResultOf, ancestor_of, look_ups, most_of, search_bound}
-use Rattle.ds_states.specs.Snapshots.{SnapshotParts, newest, snapshot_of}
+use Rattle.ds_engine.specs.Counted.{FindsGlobally}
+use Rattle.ds_engine.specs.Plans as states
+use Rattle.ds_engine.specs.Searches.{IsResultOf, ancestor_of, look_ups, most_of, search_bound}
+use Rattle.ds_engine.specs.Snapshots.{SnapshotParts, newest, snapshot_of}
 use Rattle.ds_store.specs.Answered.{HasReadGroup, IsExpired, entries_up_to}
 use Rattle.ds_store.specs.Passes.{PassParts, HasRead, counts_of}
 use Rattle.ds_store.specs.Searched.{HasCounted}

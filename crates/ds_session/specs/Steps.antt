@@ -19,8 +19,8 @@ use Rattle.ds_model.specs.Refusals.{Places, PlacesRead}
 use Rattle.ds_model.specs.Sessions.{list_of}
 use Rattle.ds_protocol.specs.Finishing.{found}
 use Rattle.ds_protocol.specs.Searches.{is_statement}
-use Rattle.ds_states.specs.Searches.{look_ups, most_of, search_bound}
-use Rattle.ds_states.specs.Snapshots.{SnapshotParts, newest, snapshot_of}
+use Rattle.ds_engine.specs.Searches.{look_ups, most_of, search_bound}
+use Rattle.ds_engine.specs.Snapshots.{SnapshotParts, newest, snapshot_of}
 use Rattle.ds_store.specs.Answered.{entries_up_to}
 use Rattle.ds_store.specs.Passes.{PassParts}
 use Rattle.ds_session.specs.Sessions.{SessionParts}

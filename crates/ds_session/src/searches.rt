@@ -18,9 +18,9 @@ ghost use Rattle.ds_request.specs.declared.call.Call.{Call};
 ghost use Rattle.ds_session.specs.Replying.{HasReplied, request_of};
 ghost use Rattle.ds_session.specs.Sessions.{IsWithin};
 ghost use Rattle.ds_session.specs.Steps.{IsWithinSteps};
-ghost use Rattle.ds_states.specs.Counted.{FindsGlobally};
-ghost use Rattle.ds_states.specs.Searches.{look_ups, most_of, search_bound};
-ghost use Rattle.ds_states.specs.Snapshots.{newest};
+ghost use Rattle.ds_engine.specs.Counted.{FindsGlobally};
+ghost use Rattle.ds_engine.specs.Searches.{look_ups, most_of, search_bound};
+ghost use Rattle.ds_engine.specs.Snapshots.{newest};
 ghost use Rattle.ds_store.specs.Passes.{HasRead};
 ghost use Rattle.ds_store.specs.Searched.{HasCounted};
 

@@ -13,10 +13,10 @@ use Rattle.ds_model.specs.Sessions.{list_of}
 use Rattle.ds_query.specs.declared.branch.Normal.{Normal}
 use Rattle.ds_query.specs.declared.branch.Window.{Window}
 use Rattle.ds_query.specs.declared.row.Place.{Place}
-use Rattle.ds_states.specs.Groups.{FindsInGroup, look_ups_of}
-use Rattle.ds_states.specs.declared.group.GroupFound.TheVariants as group
+use Rattle.ds_engine.specs.Groups.{FindsInGroup, look_ups_of}
+use Rattle.ds_engine.specs.declared.states.group.GroupFound.TheVariants as group
 use Rattle.ds_query.specs.declared.branch.Branch.{Branch}
-use Rattle.ds_states.specs.Searches.{ancestor_of}
+use Rattle.ds_engine.specs.Searches.{ancestor_of}
 use Rattle.ds_store.specs.Passes.{PassParts}
 use Rattle.ds_store.specs.Standing.{StandsAt}
 use Rattle.ds_store.specs.Strong.{IsFoundInGroup}

@@ -1,7 +1,7 @@
 -- What queries without an ancestor answer, over what their pass had seen before and has seen after.
 use Rattle.std.specs.Prelude.{◌≡◌, ℕ, max}
 use Rattle.ds_base.specs.declared.results.Seen.{Seen}
-use Rattle.ds_states.specs.Counted.{IsCounted}
+use Rattle.ds_engine.specs.Counted.{IsCounted}
 use Rattle.ds_store.specs.Passes.{PassParts, HasRead}
 
 -- A query without an ancestor counts all entries that its pass has then seen applied, and looks at no commit. The pass stands no lower

@@ -11,7 +11,7 @@ use Rattle.ds_planner.specs.Missing.{Missing}
 use Rattle.ds_query.specs.declared.branch.Normal.{Normal}
 use Rattle.ds_query.specs.declared.branch.Window.{Window}
 use Rattle.ds_query.specs.declared.row.Place.{Place}
-use Rattle.ds_states.specs.Searches.{IsResultOf}
+use Rattle.ds_engine.specs.Searches.{IsResultOf}
 use Rattle.ds_store.specs.declared.answers.Expired.{Expired}
 use Rattle.ds_store.specs.declared.answers.GetRefused.{GetRefused}
 use Rattle.ds_store.specs.declared.answers.GetRefused.TheVariants as get

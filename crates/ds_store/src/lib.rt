@@ -10,7 +10,7 @@
 //! which the types are generic. `open` makes all hubs and words; a function that is generic in `Names` makes the store of them by
 //! `make`, runs it, and closes it; its caller picks the names, at `Brand`.
 //!
-//! Queries (`searching` for those of all shards, `strong` for those of one group) are answered by `ds_states`, which knows no lock: a pass
+//! Queries (`searching` for those of all shards, `strong` for those of one group) are answered by `ds_engine`, which knows no lock: a pass
 //! enters its shards, which waits for nobody, and leaves them.
 //!
 //! Begin with `specs/Passes.antt`, what contracts see of a pass and of the store, and with `store`.
@@ -54,7 +54,7 @@ pub use answers::{
     StrongRefused,
 };
 pub use closing::Closed;
-pub use ds_states::Answer;
+pub use ds_engine::states::Answer;
 pub use journal_state::JournalState;
 pub use making::{Made, Passes, Tail, make};
 pub use names::Names;

@@ -1,4 +1,4 @@
-use Rattle.std.proofs.Common.{◌≡◌, ℕ, ◌+◌, ◌≤◌, List, length, map, sym, subst, ◌∙◌, None, option_copied}
+use Rattle.std.proofs.Common.{ℕ, List, length, sym, subst, ◌∙◌, None, option_copied}
 use Rattle.ds_indexdef.specs.declared.IndexDef.{IndexDef}
 use Rattle.ds_zigzag.specs.CommonStrings.{IsCommon}
 use Rattle.ds_rows.specs.Versions.{AreTables, entities_at}
@@ -9,7 +9,8 @@ use Rattle.ds_pages.specs.Pages.{last_of}
 use Rattle.ds_engine.proofs.Bounded.{done_within, refused_within, moved_steps}
 use Rattle.ds_engine.specs.ScanLaws.{IsPlanned, rows_between}
 use Rattle.ds_engine.proofs.CommonRows.{of_branch, plans_tell}
-use Rattle.ds_engine.proofs.Ranged.{plan_strings_are, plan_passed_are, as_many_scans, if_ok, if_both, on_err}
+use Rattle.ds_engine.proofs.Ranged.{plan_strings_are, plan_passed_are, as_many_scans, on_err}
+use Rattle.ds_engine.proofs.RowLoops.{ok_both, ok_then}
 use Rattle.ds_engine.proofs.answering.answer.Goals as goal
 
 pub first_common-requires-clause-rows : goal.first_common-requires-clause-rows
@@ -50,7 +51,7 @@ returns-clause-rows g c =
     c.as_mut_slice.result.now
     (c.as_mut_slice.ensures.value ∙ c.in_ok-scans.ensures.scans) c.requires.definitions in
     let sorted = rows_between q start end (entities_at c.args.at versions) in
-    if_ok c.first_common.result c.first_common.ensures.rows (λ found rows. rows sorted
+    ok_then c.first_common.result c.first_common.ensures.rows (λ found rows. rows sorted
     (subst (λ (ls : List (List (List ℕ))). AreCommonRows q.columns (bytes_of start) ls sorted) (sym listed)
     (plans_tell q defs scans c.args.at versions start end planned)))
 
@@ -80,7 +81,7 @@ returns-clause-steps_bounded g c = λ lean.
     let sorted = rows_between q start end (entities_at c.args.at versions) in
     let common = subst (λ (ls : List (List (List ℕ))). AreCommonRows q.columns (bytes_of start) ls sorted) (sym strings)
     (plans_tell q defs scans c.args.at versions start end planned) in
-    if_both c.first_common.result c.first_common.ensures.rows c.first_common.ensures.steps_when_done (λ found rows steps.
+    ok_both c.first_common.result c.first_common.ensures.rows c.first_common.ensures.steps_when_done (λ found rows steps.
     done_within q defs scans c.args.at versions start end planned lean c.args.most c.args.steps.now c.first_common.new.steps found (rows
     sorted common)
     (moved_steps c.args.steps.now c.first_common.new.steps (λ n ss ps. walk_steps (is_wanted c.args.most (length found)) n (bytes_of

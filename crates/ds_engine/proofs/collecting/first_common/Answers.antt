@@ -1,5 +1,5 @@
-use Rattle.std.proofs.Common.{◌≡◌, inl, inr, ℕ, ◌+◌, ◌≤◌, ◌<◌, List, [], length, map, get_or, refl, sym, ap, subst, ◌∙◌, true, false}
-use Rattle.std.proofs.Common.{arith, Some, None, Ok, option_copied}
+use Rattle.std.proofs.Common.{◌≡◌, inl, ℕ, ◌<◌, List, [], length, map, get_or, refl, sym, ap, subst, ◌∙◌, true, false}
+use Rattle.std.proofs.Common.{arith, Some, None, option_copied}
 use Rattle.std.specs.Prelude.{All, IfOk, IfSome}
 use Rattle.std.proofs.lemmas.List.Elements.{All-nil}
 use Rattle.std.proofs.lemmas.List.{length-map}

@@ -1,6 +1,6 @@
 -- The scans have the strings that they had, and the rows up to where the walk stands were collected. It ends as the first scan has
 -- fewer strings left.
-use Rattle.std.proofs.Common.{◌≡◌, ◌+◌, ◌≤◌, ◌<◌, [], length, map, get_or, Some, None}
+use Rattle.std.proofs.Common.{◌≡◌, ◌+◌, ◌≤◌, [], length, map, get_or, Some, None}
 use Rattle.std.specs.Prelude.{All}
 use Rattle.std.specs.Option.{option_copied}
 use Rattle.ds_query.specs.Filters.{projected}

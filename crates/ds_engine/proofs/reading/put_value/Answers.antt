@@ -1,4 +1,4 @@
-use Rattle.std.proofs.Common.{◌≡◌, ◌∷◌, ◌++◌, [], ap, sym, ◌∙◌}
+use Rattle.std.proofs.Common.{◌∷◌, ◌++◌, [], ap, ◌∙◌}
 use Rattle.ds_engine.proofs.Readings.{value_found, no_value}
 use Rattle.ds_engine.proofs.reading.put_value.Goals as goal
 

@@ -1,4 +1,4 @@
-use Rattle.std.proofs.Common.{◌≡◌, ap, sym, subst, ◌∙◌}
+use Rattle.std.proofs.Common.{ap, sym, subst, ◌∙◌}
 use Rattle.ds_bytes.specs.Encoding.{key_encoding}
 use Rattle.ds_base.specs.KeyColumn.{key_descends}
 use Rattle.ds_engine.specs.Reading.{KeyStands}

@@ -8,9 +8,9 @@ use Rattle.ds_model.specs.Groups.{group_refusal, with_transaction}
 use Rattle.ds_model.specs.Sessions.{Transaction, list_of, saw_entries}
 use Rattle.ds_protocol.specs.Preparing.{IsReady}
 use Rattle.ds_protocol.specs.Searches.{search_parts}
-use Rattle.ds_states.specs.Plans as states
-use Rattle.ds_states.specs.Searches.{most_of, search_bound}
-use Rattle.ds_states.specs.Snapshots.{snapshot_of}
+use Rattle.ds_engine.specs.Plans as states
+use Rattle.ds_engine.specs.Searches.{most_of, search_bound}
+use Rattle.ds_engine.specs.Snapshots.{snapshot_of}
 use Rattle.ds_store.specs.Answered.{IsExpired, WhereExpired}
 use Rattle.ds_session.specs.Sessions.{SessionParts}
 use Rattle.ds_session.specs.Steps.{shards_read}

@@ -2,9 +2,9 @@ use Rattle.std.proofs.Common.{◌+◌, ◌≤◌, List, length, map, subst, sym,
 use Rattle.std.specs.Prelude.{All}
 use Rattle.ds_query.specs.declared.branch.Branch.{Branch}
 use Rattle.ds_hub.specs.Holding.{known_in}
-use Rattle.ds_states.specs.Plans.{ArePlansFor}
-use Rattle.ds_states.specs.Searches.{look_ups, most_of, search_bound}
-use Rattle.ds_states.specs.Snapshots.{SnapshotParts, newest}
+use Rattle.ds_engine.specs.Plans.{ArePlansFor}
+use Rattle.ds_engine.specs.Searches.{look_ups, most_of, search_bound}
+use Rattle.ds_engine.specs.Snapshots.{SnapshotParts, newest}
 use Rattle.ds_store.proofs.QueryLaws.{begun-of, many-origins}
 use Rattle.ds_store.proofs.pass.Pass.query.Goals as goal
 

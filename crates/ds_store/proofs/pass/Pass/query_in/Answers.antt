@@ -5,9 +5,9 @@ use Rattle.std.proofs.Math.Seq.{map-set_same}
 use Rattle.ds_hub.specs.Holding.{hub_in, known_in}
 use Rattle.ds_log.specs.declared.Entry.{Entry}
 use Rattle.ds_model.specs.Sessions.{list_of}
-use Rattle.ds_states.specs.Groups.{IsGroupFound, look_ups_of}
-use Rattle.ds_states.specs.Searches.{most_of, search_bound}
-use Rattle.ds_states.specs.Snapshots.{SnapshotParts, snapshot_of}
+use Rattle.ds_engine.specs.Groups.{IsGroupFound, look_ups_of}
+use Rattle.ds_engine.specs.Searches.{most_of, search_bound}
+use Rattle.ds_engine.specs.Snapshots.{SnapshotParts, snapshot_of}
 use Rattle.ds_shard.specs.Shards.{empty}
 use Rattle.ds_store.specs.Passes.{PassParts}
 use Rattle.ds_store.proofs.SlotLists.{hubs_stay, list_there, start_there}

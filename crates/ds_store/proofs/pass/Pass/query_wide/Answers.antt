@@ -1,5 +1,5 @@
 use Rattle.std.proofs.Common.{subst, sym, ◌∙◌, arith}
-use Rattle.ds_states.specs.Plans.{ArePlansFor}
+use Rattle.ds_engine.specs.Plans.{ArePlansFor}
 use Rattle.ds_store.proofs.QueryLaws.{begun-of, many-origins}
 use Rattle.ds_store.proofs.pass.Pass.query_wide.Goals as goal
 

@@ -3,9 +3,9 @@ use Rattle.std.specs.Prelude.{All}
 use Rattle.ds_base.specs.Keys.{KeyParts, root_of}
 use Rattle.ds_log.specs.Shards.{shard_of}
 use Rattle.ds_model.specs.Sessions.{list_of}
-use Rattle.ds_states.specs.Groups.{IsGroupFound, look_ups_of}
-use Rattle.ds_states.specs.Searches.{ancestor_of, look_ups, most_of, search_bound}
-use Rattle.ds_states.specs.Snapshots.{SnapshotParts, snapshot_of}
+use Rattle.ds_engine.specs.Groups.{IsGroupFound, look_ups_of}
+use Rattle.ds_engine.specs.Searches.{ancestor_of, look_ups, most_of, search_bound}
+use Rattle.ds_engine.specs.Snapshots.{SnapshotParts, snapshot_of}
 use Rattle.ds_store.specs.Answered.{IsExpired}
 use Rattle.ds_store.specs.Passes.{HasRead, PassParts}
 use Rattle.ds_store.proofs.Gets.{expired_in}

@@ -1,0 +1,196 @@
+-- The page of what the shards give is the page of the query over the entities of all shards.
+use Rattle.std.proofs.Common.{◌≡◌, ℕ, ◌+◌, List, [], ◌∷◌, ◌++◌, length, map, get_or, refl, ap, sym, ◌∙◌, subst, append-nil, arith}
+use Rattle.std.proofs.Common.{Bool, true, false, cond, None}
+use Rattle.std.specs.Prelude.{All, flat_map}
+use Rattle.std.specs.List.{AllByRecursion}
+use Rattle.std.proofs.lemmas.List.Elements.{All-head, All-tail, All-nil, All-cons}
+use Rattle.ds_base.specs.declared.column.Column.{Column}
+use Rattle.ds_base.specs.declared.results.Item.{Item}
+use Rattle.ds_base.specs.Entities.{EntityParts}
+use Rattle.ds_base.specs.SortingLaws.{sorted_by-IsPermutation}
+use Rattle.ds_bytes.specs.Rows.{RowParts}
+use Rattle.ds_query.specs.declared.query.Select.{Select}
+use Rattle.ds_query.specs.declared.branch.Branch.{Branch}
+use Rattle.ds_query.specs.declared.branch.Normal.{Normal}
+use Rattle.ds_query.specs.declared.branch.Window.{Window}
+use Rattle.ds_query.specs.declared.row.Row.{Row}
+use Rattle.ds_query.specs.Filters.{projected}
+use Rattle.ds_query.specs.Lawful.{AreAlike, IsLawfulNormal, IsPlaceless, SuitsSeveral}
+use Rattle.ds_pages.specs.declared.row_page.RowPage.{RowPage}
+use Rattle.ds_pages.specs.Extended.{extended}
+use Rattle.ds_pages.specs.Pages.{first_rows, page_of, page_of_rows, plus_limit, same_mark, with_places}
+use Rattle.ds_pages.specs.Places.{parts_of, placed}
+use Rattle.ds_model.specs.Bounds.{given}
+use Rattle.ds_model.specs.Results.{branch_results, items_of, result, united}
+use Rattle.ds_model.proofs.AllOf.{all_of, all-flat_map}
+use Rattle.ds_model.proofs.ResultOrder.{long_extended}
+use Rattle.ds_model.proofs.RowOrder.{IsLongRow, full_row-total, full_row-same, sorted-full}
+use Rattle.ds_engine.proofs.PartFirsts.{AreParts, firsts}
+use Rattle.ds_engine.proofs.ShardResults.{shards_page}
+use Rattle.ds_engine.proofs.UnitedResults.{given_page, given_rows}
+use Rattle.ds_engine.specs.Searches.{AreOfShards, IsResultOf, all_entities, item_in, names_of}
+use Rattle.ds_engine.specs.Searches.{rows_of_shards, shard_among}
+use Rattle.ds_engine.proofs.InAnyOrder.{either_order}
+use Rattle.ds_engine.proofs.InShards.{items_in_shards}
+
+as_parts : (shards first : ℕ) (views : List (List EntityParts)) → AreOfShards shards first views
+    → AreParts (λ (e : EntityParts). shard_among shards e.key) first views
+as_parts shards first [] own = tt
+as_parts shards first (es ∷ views) own = (own.0, as_parts shards (first + 1) views own.1)
+
+-- ---- several branches
+
+module _ (n : Normal) (views : List (List EntityParts)) where
+  abbrev of_branch : List EntityParts → Branch → List RowParts
+  of_branch es q = map (extended n.merged q) (branch_results q None None es)
+
+  abbrev by_shards : List RowParts
+  by_shards = flat_map (λ es. flat_map (of_branch es) n.branches) views
+
+  long_of : (q : Branch) (rs : List RowParts) → AllByRecursion (IsLongRow n.merged) (map (extended n.merged q) rs)
+  long_of q [] = tt
+  long_of q (r ∷ rs) = (long_extended n.merged q r, long_of q rs)
+
+  long_by_shards : AllByRecursion (IsLongRow n.merged) by_shards
+  long_by_shards =
+      all-flat_map (IsLongRow n.merged) (λ es. flat_map (of_branch es) n.branches) views
+      (all_of (λ es. AllByRecursion (IsLongRow n.merged) (flat_map (of_branch es) n.branches))
+      (λ es. all-flat_map (IsLongRow n.merged) (of_branch es) n.branches
+      (all_of (λ q. AllByRecursion (IsLongRow n.merged) (of_branch es q)) (λ q. long_of q (branch_results q None None es)) n.branches))
+      views)
+
+  long_given : AllByRecursion (IsLongRow n.merged) (given_rows n views)
+  long_given =
+      all-flat_map (IsLongRow n.merged) (λ q. flat_map (λ es. of_branch es q) views) n.branches
+      (all_of (λ q. AllByRecursion (IsLongRow n.merged) (flat_map (λ es. of_branch es q) views))
+      (λ q. all-flat_map (IsLongRow n.merged) (λ es. of_branch es q) views
+      (all_of (λ es. AllByRecursion (IsLongRow n.merged) (of_branch es q)) (λ es. long_of q (branch_results q None None es)) views))
+      n.branches)
+
+  -- shard by shard or branch by branch, the first row of each key is the same
+  same_firsts : first_rows n.merged [] by_shards ≡ first_rows n.merged [] (given_rows n views)
+  same_firsts =
+      ap (firsts (same_mark n.merged []) [])
+      (sorted-full n.merged by_shards long_by_shards
+      ∙ sorted_by-IsPermutation (full_row-total n.merged) (full_row-same n.merged) by_shards (given_rows n views)
+      (either_order of_branch views n.branches)
+      ∙ sym (sorted-full n.merged (given_rows n views) long_given))
+
+several_rows : (n : Normal) (w : Window) (views : List (List EntityParts)) → n.several ≡ true → IsPlaceless w
+    → rows_of_shards n w views ≡ by_shards n views
+several_rows n w views several placeless =
+    λ i. flat_map (λ es. flat_map (λ q. cond (several i) (map (extended n.merged q)
+    (given q (placeless.start i) (placeless.end i) (cond (several i) None (plus_limit w.offset w.limit)) es))
+    (given q (placeless.start i) (placeless.end i) (cond (several i) None (plus_limit w.offset w.limit)) es)) n.branches) views
+
+suits_several : (b : Bool) (w : Window) → SuitsSeveral b w → b ≡ true → IsPlaceless w
+suits_several true w suits is = suits
+suits_several false w suits is = cc
+
+several_page : (n : Normal) (w : Window) (views : List (List EntityParts)) → IsLawfulNormal n → SuitsSeveral n.several w
+    → n.several ≡ true
+    → page_of_rows n.merged [] w (rows_of_shards n w views) ≡ with_places n.merged (result n w (all_entities views))
+several_page n w views lawful suits several =
+    ap (page_of_rows n.merged [] w) (several_rows n w views several (suits_several n.several w suits several))
+    ∙ ap (λ fs. with_places n.merged (page_of n.merged w fs)) (same_firsts n views)
+    ∙ given_page n lawful views w several
+
+-- ---- one branch
+
+pub only : (bs : List Branch) (q : Branch) → length bs ≡ 1 → q ≡ get_or bs 0 q → bs ≡ q ∷ []
+only [] q one e = absurd (omega (arith, one))
+only (b ∷ []) q one e = ap (λ z. z ∷ []) (sym e)
+only (b ∷ c ∷ bs) q one e = absurd (omega (arith, one))
+
+alone : (n : Normal) (w : Window) (q : Branch) (views : List (List EntityParts)) → n.several ≡ false → n.branches ≡ q ∷ []
+    → rows_of_shards n w views ≡ flat_map (given q w.start w.end (plus_limit w.offset w.limit)) views
+alone n w q views single one =
+    (λ i. flat_map (λ es. flat_map (λ b. cond (single i) (map (extended n.merged b)
+    (given b w.start w.end (cond (single i) None (plus_limit w.offset w.limit)) es))
+    (given b w.start w.end (cond (single i) None (plus_limit w.offset w.limit)) es)) (one i)) views)
+    ∙ each views
+  where
+    each : (es : List (List EntityParts))
+        → flat_map (λ e. given q w.start w.end (plus_limit w.offset w.limit) e ++ []) es
+        ≡ flat_map (given q w.start w.end (plus_limit w.offset w.limit)) es
+    each [] = refl
+    each (e ∷ es) = λ i. append-nil (given q w.start w.end (plus_limit w.offset w.limit) e) i ++ each es i
+
+single_page : (n : Normal) (w : Window) (q : Branch) (views : List (List EntityParts)) → IsLawfulNormal n → n.several ≡ false
+    → q ≡ get_or n.branches 0 q → AreOfShards (length views) 0 views
+    → page_of_rows n.merged (projected q.select) w (rows_of_shards n w views) ≡ with_places n.merged (result n w (all_entities views))
+single_page n w q views lawful single first own =
+    let one : n.branches ≡ q ∷ [] = only n.branches q (lawful.single single) first in
+    let columns : q.columns ≡ n.merged =
+    All-head (λ (b : Branch). b.columns ≡ n.merged) q []
+    (subst (λ bs. All (λ (b : Branch). b.columns ≡ n.merged) bs) one (lawful.single_columns single)) in
+    let results : List RowParts = branch_results q w.start w.end (all_entities views) in
+    ap (page_of_rows n.merged (projected q.select) w) (alone n w q views single one)
+    ∙ ap (λ cs. page_of_rows cs (projected q.select) w (flat_map (given q w.start w.end (plus_limit w.offset w.limit)) views)) (sym columns)
+    ∙ shards_page q w (shard_among (length views)) views (as_parts (length views) 0 views own)
+    ∙ ap (λ cs. with_places cs (page_of cs w results)) columns
+    ∙ ap (λ rs. with_places n.merged (page_of n.merged w rs)) (sym (append-nil results))
+    ∙ ap (λ bs. with_places n.merged (page_of n.merged w (flat_map (λ b. branch_results b w.start w.end (all_entities views)) bs)))
+    (sym one)
+    ∙ ap (λ b. with_places n.merged (page_of n.merged w
+    (cond b (first_rows n.merged [] (united n (all_entities views)))
+    (flat_map (λ b. branch_results b w.start w.end (all_entities views)) n.branches)))) (sym single)
+
+-- ---- a query
+
+pub shards_page_is : (n : Normal) (w : Window) (q : Branch) (views : List (List EntityParts)) → IsLawfulNormal n → SuitsSeveral n.several w
+    → q ≡ get_or n.branches 0 q → AreOfShards (length views) 0 views
+    → page_of_rows n.merged (names_of n q) w (rows_of_shards n w views) ≡ with_places n.merged (result n w (all_entities views))
+shards_page_is n w q views lawful suits first own = by n.several refl where
+  by : (b : Bool) → n.several ≡ b
+      → page_of_rows n.merged (names_of n q) w (rows_of_shards n w views) ≡ with_places n.merged (result n w (all_entities views))
+  by true several =
+      ap (λ s. page_of_rows n.merged (cond s [] (projected q.select)) w (rows_of_shards n w views)) several
+      ∙ several_page n w views lawful suits several
+  by false single =
+      ap (λ s. page_of_rows n.merged (cond s [] (projected q.select)) w (rows_of_shards n w views)) single
+      ∙ single_page n w q views lawful single first own
+
+-- rows without their places
+pub parts-placed : (columns : List Column) (rs : List RowParts) → map parts_of (map (placed columns) rs) ≡ rs
+parts-placed columns [] = refl
+parts-placed columns (r ∷ rs) = ap (λ zs. r ∷ zs) (parts-placed columns rs)
+
+-- all branches select what the first one does
+selected_alike : (n : Normal) (q : Branch) (P : Select → Type 0) → IsLawfulNormal n → q ≡ get_or n.branches 0 q → P q.select
+    → All (λ (b : Branch). P b.select) n.branches
+selected_alike n q P lawful first here = from n.branches lawful.alike first where
+  each : (bs : List Branch) → All (AreAlike q) bs → All (λ (b : Branch). P b.select) bs
+  each [] alike = All-nil (λ (b : Branch). P b.select)
+  each (b ∷ bs) alike =
+      All-cons (λ (b : Branch). P b.select) b bs (subst P (All-head (AreAlike q) b bs alike).select here)
+      (each bs (All-tail (AreAlike q) b bs alike))
+
+  from : (bs : List Branch) → All (λ a. All (AreAlike a) bs) bs → q ≡ get_or bs 0 q → All (λ (b : Branch). P b.select) bs
+  from [] alike is = All-nil (λ (b : Branch). P b.select)
+  from (b ∷ bs) alike is =
+      let of_b : All (AreAlike b) (b ∷ bs) = All-head (λ a. All (AreAlike a) (b ∷ bs)) b bs alike in
+      each (b ∷ bs) (subst (λ a. All (AreAlike a) (b ∷ bs)) (sym is) of_b)
+
+-- the page of what the shards give, and what is told of its rows by their shards, are what the query finds
+pub found_in_shards : (n : Normal) (w : Window) (q : Branch) (views : List (List EntityParts)) (names : List (List ℕ)) (given : List Row)
+    (page : RowPage) (results : List Item)
+    → IsLawfulNormal n → SuitsSeveral n.several w → q ≡ get_or n.branches 0 q → names ≡ names_of n q
+    → given ≡ map (placed n.merged) (rows_of_shards n w views)
+    → page ≡ page_of_rows n.merged names w (map parts_of given)
+    → results ≡ map (item_in n.merged q.select views) (map parts_of page.rows)
+    → AreOfShards (length views) 0 views → IsResultOf n w (all_entities views) results page.next
+found_in_shards n w q views names given page results lawful suits first named all is items own =
+    let found : page ≡ with_places n.merged (result n w (all_entities views)) =
+    is ∙ (λ i. page_of_rows n.merged (named i) w (map parts_of (all i)))
+    ∙ ap (page_of_rows n.merged (names_of n q) w) (parts-placed n.merged (rows_of_shards n w views))
+    ∙ shards_page_is n w q views lawful suits first own in
+    let told : results ≡ items_of n.merged q.select (all_entities views) (result n w (all_entities views)).rows =
+    items ∙ ap (λ (p : RowPage). map (item_in n.merged q.select views) (map parts_of p.rows)) found
+    ∙ ap (map (item_in n.merged q.select views)) (parts-placed n.merged (result n w (all_entities views)).rows)
+    ∙ items_in_shards n.merged q.select views (result n w (all_entities views)).rows own in
+    record {
+      told = selected_alike n q (λ s. results ≡ items_of n.merged s (all_entities views) (result n w (all_entities views)).rows) lawful
+          first told;
+      place = ap (λ (p : RowPage). p.next) found;
+    }

@@ -1,0 +1,112 @@
+-- Slots that are entered and left, and what the newest snapshots of their shards tell.
+use Rattle.std.proofs.Common.{◌≡◌, ℕ, ◌≤◌, Option, Some, List, [], ◌∷◌, length, map, refl, ap, sym, ◌∙◌, subst}
+use Rattle.std.specs.Prelude.{All, max}
+use Rattle.std.proofs.Math.Seq.{take-length}
+use Rattle.std.proofs.lemmas.List.{length-map}
+use Rattle.std.proofs.lemmas.List.Elements.{All-head, All-tail, All-nil, All-cons}
+use Rattle.ds_base.specs.declared.results.Item.{Item}
+use Rattle.ds_base.specs.declared.results.Seen.{Seen}
+use Rattle.ds_base.specs.declared.results.Seen.TheVariants as seen
+use Rattle.ds_query.specs.declared.branch.Normal.{Normal}
+use Rattle.ds_query.specs.declared.branch.Window.{Window}
+use Rattle.ds_query.specs.declared.row.Place.{Place}
+use Rattle.ds_hub.specs.Holding.{IsFold, Slotted, hub_in, known_in, out_of}
+use Rattle.ds_hub.specs.Logs.{told_by}
+use Rattle.ds_indexdef.specs.declared.IndexDef.{IndexDef}
+use Rattle.ds_log.specs.declared.Entry.{Entry}
+use Rattle.ds_shard.specs.declared.state.ShardState.{ShardState}
+use Rattle.ds_shard.specs.Shards.{EntriesAreKept, ShardParts, absorbed, empty, shard_of_entries}
+use Rattle.ds_model.specs.Sessions.{counted_place, last_commit}
+use Rattle.ds_model.specs.Views.{global_view}
+use Rattle.ds_engine.specs.Counted.{FindsGlobally, HasBegun, IsCounted, greatest_last}
+use Rattle.ds_engine.specs.Searches.{AreOfShards, IsResultOf, all_entities}
+use Rattle.ds_engine.proofs.GlobalPages.{found_globally}
+use Rattle.ds_engine.specs.Snapshots.{SnapshotParts, entities_in, newest, newest_of}
+
+module _ {T E S : Type 0} where
+  pub left-hubs : (slots : List (Slotted T E S)) → map hub_in (map out_of slots) ≡ map hub_in slots
+  left-hubs [] = refl
+  left-hubs (s ∷ slots) = ap (λ hs. (s.hub, s.start) ∷ hs) (left-hubs slots)
+
+  pub left-known : (slots : List (Slotted T E S)) → map known_in (map out_of slots) ≡ map known_in slots
+  left-known [] = refl
+  left-known (s ∷ slots) = ap (λ ks. s.known ∷ ks) (left-known slots)
+
+  pub as_many : (new old : List (Slotted T E S)) → map hub_in new ≡ map hub_in old → length new ≡ length old
+  as_many new old same = sym (length-map new hub_in) ∙ ap length same ∙ length-map old hub_in
+
+-- where the hubs are the same they begin as before
+pub begun-same : (definitions : List IndexDef) (kept : ℕ) (old new : List (Slotted ShardParts Entry ShardState))
+    → map hub_in new ≡ map hub_in old → All (HasBegun definitions kept) old → All (HasBegun definitions kept) new
+begun-same definitions kept old [] same all = All-nil (HasBegun definitions kept)
+begun-same definitions kept [] (s ∷ new) same all = absurd (none same) where
+  none : hub_in s ∷ map hub_in new ≡ [] → ⊥
+  none e = cc
+begun-same definitions kept (o ∷ old) (s ∷ new) same all =
+    let first : hub_in s ≡ hub_in o = cc in
+    let rest : map hub_in new ≡ map hub_in old = cc in
+    All-cons (HasBegun definitions kept) s new (ap (λ h. h.1) first ∙ All-head (HasBegun definitions kept) o old all)
+    (begun-same definitions kept old new rest (All-tail (HasBegun definitions kept) o old all))
+
+-- the counts of the newest snapshots
+pub counts-newest : (definitions : List IndexDef) (kept : ℕ) (lists : List (List Entry))
+    → map (λ s. s.stamp) (newest definitions kept lists) ≡ map length lists
+counts-newest definitions kept [] = refl
+counts-newest definitions kept (entries ∷ lists) = ap (λ ns. length entries ∷ ns) (counts-newest definitions kept lists)
+
+-- and the greatest commit of their last entries
+pub last-newest : EntriesAreKept → (definitions : List IndexDef) (kept : ℕ) → 1 ≤ kept → (lists : List (List Entry))
+    → greatest_last (newest definitions kept lists) ≡ counted_place lists (map length lists)
+last-newest law definitions kept some [] = refl
+last-newest law definitions kept some (entries ∷ lists) =
+    (λ i. max ((law definitions kept some entries).last i) (last-newest law definitions kept some lists i))
+    ∙ ap (λ (es : List Entry). max (last_commit es) (counted_place lists (map length lists))) (sym (take-length entries))
+
+-- the definitions of the newest snapshots
+pub definitions-newest : EntriesAreKept → (definitions : List IndexDef) (kept : ℕ) → 1 ≤ kept → (lists : List (List Entry))
+    → All (λ s. definitions ≡ s.shard.definitions) (newest definitions kept lists)
+definitions-newest law definitions kept some [] = All-nil (λ s. definitions ≡ s.shard.definitions)
+definitions-newest law definitions kept some (entries ∷ lists) =
+    All-cons (λ s. definitions ≡ s.shard.definitions) (newest_of definitions kept entries) (newest definitions kept lists)
+    (sym (law definitions kept some entries).definitions) (definitions-newest law definitions kept some lists)
+
+-- ---- what a slot shows
+
+pub fold_is : (definitions : List IndexDef) (kept : ℕ) (start : Option ShardParts) (entries : List Entry) (s : ShardParts)
+    → start ≡ Some (empty definitions kept) → IsFold (told_by (λ (told : Entry). told) absorbed) start entries s
+    → s ≡ shard_of_entries definitions kept entries
+fold_is definitions kept start entries s begun folded =
+    subst (λ o. IsFold (told_by (λ (told : Entry). told) absorbed) o entries s) begun folded
+
+pub window_is : EntriesAreKept → (definitions : List IndexDef) (kept : ℕ) → 1 ≤ kept → (entries : List Entry) (s : ShardParts)
+    → s ≡ shard_of_entries definitions kept entries → 1 ≤ s.window
+window_is law definitions kept some entries s is =
+    subst (λ n. 1 ≤ n) (sym (ap (λ (x : ShardParts). x.window) is ∙ (law definitions kept some entries).window)) some
+
+pub newest_is : EntriesAreKept → (definitions : List IndexDef) (kept : ℕ) → 1 ≤ kept → (entries : List Entry) (s : ShardParts)
+    → s ≡ shard_of_entries definitions kept entries
+    → newest_of definitions kept entries ≡ record { shard = s; stamp = s.count }
+newest_is law definitions kept some entries s is =
+    λ i. record { shard = sym is i; stamp = sym (ap (λ (x : ShardParts). x.count) is ∙ (law definitions kept some entries).count) i }
+
+-- ---- what is told of the newest snapshots
+
+pub counted_of : EntriesAreKept → (definitions : List IndexDef) (kept : ℕ) → 1 ≤ kept → (lists : List (List Entry))
+    (snapshots : List SnapshotParts) → snapshots ≡ newest definitions kept lists → (saw : Seen) (beside : ℕ)
+    → saw ≡ seen.Counts (map (λ s. s.stamp) snapshots) → beside ≡ greatest_last snapshots → IsCounted lists saw beside
+counted_of law definitions kept some lists snapshots are saw beside counts last = record {
+  counts = counts ∙ ap (λ (ss : List SnapshotParts). seen.Counts (map (λ s. s.stamp) ss)) are
+      ∙ ap (λ ns. seen.Counts ns) (counts-newest definitions kept lists);
+  commit = last ∙ ap greatest_last are ∙ last-newest law definitions kept some lists;
+}
+
+pub found_of : EntriesAreKept → (definitions : List IndexDef) (kept : ℕ) → 1 ≤ kept → (lists : List (List Entry))
+    (snapshots : List SnapshotParts) → snapshots ≡ newest definitions kept lists
+    → (n : Normal) (w : Window) (found : List Item) (ends : Option Place)
+    → (AreOfShards (length (map entities_in snapshots)) 0 (map entities_in snapshots)
+    → IsResultOf n w (all_entities (map entities_in snapshots)) found ends)
+    → (results : List Item) (next : Option Place) → results ≡ found → next ≡ ends → FindsGlobally lists n w results next
+found_of law definitions kept some lists snapshots are n w found ends is results next same here = λ journal longer.
+    subst (λ rs. IsResultOf n w (global_view lists (map length lists)) rs next) (sym same)
+    (subst (λ p. IsResultOf n w (global_view lists (map length lists)) found p) (sym here)
+    (found_globally law definitions kept some lists snapshots are n w found ends is (length lists) journal refl longer))

@@ -1,0 +1,97 @@
+-- What a query finds among the entities of shards, and what it is joined from: each shard's own results.
+use Rattle.std.specs.Prelude.{◌≡◌, ℕ, ◌+◌, List, [], ◌∷◌, length, map, flat_map, All, slice_get, Option, None, cond, unwrap_or, ⊤}
+use Rattle.std.specs.List.{AllByRecursion}
+use Rattle.ds_base.specs.declared.column.Column.{Column}
+use Rattle.ds_base.specs.declared.results.Item.{Item}
+use Rattle.ds_base.specs.Keys.{KeyParts, root_of}
+use Rattle.ds_base.specs.Entities.{EntityParts}
+use Rattle.ds_bytes.specs.Rows.{RowParts}
+use Rattle.ds_query.specs.declared.query.Select.{Select}
+use Rattle.ds_query.specs.declared.query.Select.TheVariants as select
+use Rattle.ds_query.specs.declared.branch.Branch.{Branch}
+use Rattle.ds_query.specs.declared.branch.Normal.{Normal}
+use Rattle.ds_query.specs.declared.branch.Window.{Window}
+use Rattle.ds_query.specs.declared.row.Place.{Place}
+use Rattle.ds_query.specs.Filters.{projected}
+use Rattle.ds_log.specs.Shards.{shard_of}
+use Rattle.ds_pages.specs.Extended.{extended}
+use Rattle.ds_pages.specs.Pages.{plus_limit}
+use Rattle.ds_engine.specs.BoundSums.{bound_of_all}
+use Rattle.ds_model.specs.Bounds.{given}
+use Rattle.ds_model.specs.Results.{items_of, item_of, result}
+use Rattle.ds_engine.specs.Snapshots.{SnapshotParts, asked_in}
+
+-- ---- what is found
+
+-- What a query finds over a list of entities: what it selects of the rows of its page, and the place where the next page begins. All
+-- branches of a query select the same.
+pub record IsResultOf (n : Normal) (w : Window) (entities : List EntityParts) (results : List Item) (next : Option Place) : Type 0 where
+  pub told : All (λ q. results ≡ items_of n.merged q.select entities (result n w entities).rows) n.branches
+  pub place : next ≡ (result n w entities).next
+
+-- the ancestor of a query, which all its branches have
+abbrev pub ancestor_of : List Branch → Option KeyParts
+ancestor_of [] = None
+ancestor_of (q ∷ qs) = q.ancestor
+
+-- the entities of all shards
+abbrev pub all_entities : List (List EntityParts) → List EntityParts
+all_entities = flat_map (λ entities. entities)
+
+-- the shard of a key's group, among so many
+abbrev pub shard_among : ℕ → KeyParts → ℕ
+shard_among shards k = shard_of (root_of k) shards
+
+-- the entities of each shard, from a first one on, are of its groups
+abbrev pub AreOfShards : ℕ → ℕ → List (List EntityParts) → Type 0
+AreOfShards shards first [] = ⊤
+AreOfShards shards first (entities ∷ views) =
+    AllByRecursion (λ (e : EntityParts). shard_among shards e.key ≡ first) entities × AreOfShards shards (first + 1) views
+
+-- ---- what each shard gives
+
+-- how many results of a branch: of a query of one branch as many as its page skips or takes, and of several branches all
+abbrev pub most_of : Normal → Window → Option ℕ
+most_of n w = cond n.several None (plus_limit w.offset w.limit)
+
+-- a branch's rows in the columns of the query
+abbrev pub in_columns : Normal → Branch → List RowParts → List RowParts
+in_columns n q rows = cond n.several (map (extended n.merged q) rows) rows
+
+-- what a branch gives of one shard
+abbrev pub branch_rows : Normal → Window → List EntityParts → Branch → List RowParts
+branch_rows n w entities q = in_columns n q (given q w.start w.end (most_of n w) entities)
+
+-- what all branches give of one shard
+abbrev pub shard_rows : Normal → Window → List EntityParts → List RowParts
+shard_rows n w entities = flat_map (branch_rows n w entities) n.branches
+
+-- what they give of all shards
+abbrev pub rows_of_shards : Normal → Window → List (List EntityParts) → List RowParts
+rows_of_shards n w = flat_map (shard_rows n w)
+
+-- the names whose values tell two results of one key apart: those that a query of one branch projects
+abbrev pub names_of : Normal → Branch → List (List ℕ)
+names_of n q = cond n.several [] (projected q.select)
+
+-- ---- what is told of a row
+
+-- the entities of the shard of the key's group
+abbrev pub view_of : List (List EntityParts) → KeyParts → List EntityParts
+view_of views k = unwrap_or (slice_get views (shard_among (length views) k)) []
+
+-- what is selected of a row, whose entity is looked up in its shard
+abbrev pub item_in : List Column → Select → List (List EntityParts) → RowParts → Item
+item_in columns selected views row = item_of columns selected (view_of views row.key) row
+
+-- ---- steps
+
+-- one look-up for each result where entities are selected
+abbrev pub look_ups : Select → ℕ → ℕ
+look_ups select.Entities results = results
+look_ups select.Keys results = 0
+look_ups (select.Projection names) results = 0
+
+-- the most steps of the answers of all branches over all shards
+abbrev pub search_bound : Normal → Window → Option ℕ → List SnapshotParts → ℕ
+search_bound n w most snapshots = bound_of_all w.start w.end most (map asked_in snapshots) n.branches

@@ -1,0 +1,33 @@
+//! Queries over shards, each as it stands at a stamp.
+//!
+//! It stands on `ds_shard` (shards), on `answering` (a branch's results in one shard) and on `extending`. It knows no lock and no journal:
+//! of the running store it is handed the slots through which a reader sees the shards.
+//!
+//! A `ShardSnapshot` is a shard at one of the stamps that it keeps. `search` answers a query from the indexes of several snapshots: each
+//! gives its own results, as many as a page may need, and their page is that of the query over the entities of all; `search_wide` scans
+//! all at once. `plans_of` plans each branch once for all shards. `query_slots` enters the shards of a reader for a query without an
+//! ancestor, and `query_slot` searches the one shard of an ancestor's group.
+//!
+//! Begin with `specs/Searches`, then `searching`. `planning` has the plans, `snapshot` a shard at a stamp, `rows` what a shard gives,
+//! `items` what is told of each result, and `wide` the scans that run at once; `slots` and `group` are the calls of the store, whose
+//! promises are in `specs/Counted` and `specs/Groups`. What is proved of lists and views stands in `proofs/`: `ShardPages` (the page of
+//! what the shards give is that over all entities), `InShards` (an entity is found in the shard of its group), `GlobalPages` and
+//! `GroupPages` (these are the views of a journal), `FewerSteps` (sums of bounds).
+
+mod answer;
+mod group;
+mod items;
+mod planning;
+mod rows;
+mod searching;
+mod slots;
+mod snapshot;
+mod wide;
+
+pub use answer::Answer;
+pub use group::{GroupFound, query_slot};
+pub use planning::plans_of;
+pub use searching::{Found, search};
+pub use slots::{query_slots, query_slots_wide};
+pub use snapshot::ShardSnapshot;
+pub use wide::search_wide;

@@ -1,0 +1,119 @@
+//! A query over shards.
+ghost use Rattle.std.specs.Prelude.{◌≡◌, ◌+◌, ◌≤◌, [], All, None, map, length, get_or, IfOk, OnErr};
+ghost use Rattle.ds_base.specs.Limits.{most_shards};
+ghost use Rattle.ds_query.specs.Filters.{projected};
+ghost use Rattle.ds_query.specs.Lawful.{IsLawfulNormal, SuitsSeveral};
+ghost use Rattle.ds_pages.specs.Places.{IsPlaced, placed};
+ghost use Rattle.ds_engine.specs.Plans.{ArePlansFor};
+ghost use Rattle.ds_engine.specs.Searches.{AreOfShards, IsResultOf, all_entities, look_ups, most_of, names_of, rows_of_shards};
+ghost use Rattle.ds_engine.specs.Searches.{search_bound};
+ghost use Rattle.ds_engine.specs.Snapshots.{entities_in};
+
+use crate::laws::bounds_add_up;
+use crate::states::items::items;
+use crate::states::rows::put_shard_rows;
+use crate::states::snapshot::ShardSnapshot;
+use ds_base::{Names, NoMemory, Results};
+use ds_indexdef::Defs;
+use ds_io::Steps;
+use ds_pages::page_of_rows;
+use ds_planner::ScanPlan;
+use ds_query::{Branch, Normal, Place, Row, Select, Window};
+use std::alloc::Global;
+use std::sync::ledger::Ledger;
+
+/// What a query found.
+#[derive(Drop)]
+pub struct Found {
+    /// What is selected of each result, in their order.
+    pub results: Results,
+    /// The place of the last result skipped or taken, else the window's start: where the next page begins.
+    pub next: Option<Place>,
+}
+
+/// What a query finds in shards, each as its snapshot stands: a page of its results over the entities of all.
+///
+/// It needs the definitions of the shards and for each branch a plan that answers it and has no scan too many, as `plans_of` gives them.
+/// The steps are within the sum of the bounds of all branches over all shards, where a query of one branch asks each shard for as many
+/// results as its page skips or takes; and each entity that is given takes one step more. A refusal is want of memory.
+pub fn search<L: Ledger>(
+    alloc: Global,
+    snapshots: &[ShardSnapshot<'_>],
+    normal: &Normal,
+    window: &Window,
+    defs: &Defs,
+    plans: &[ScanPlan],
+    steps: &mut Steps<L>,
+) -> Result<Found, NoMemory>
+    requires lawful { IsLawfulNormal normal.now }
+    requires placeless { SuitsSeveral normal.now.several window.now }
+    requires some { 1 ≤ length snapshots.now }
+    requires few { length snapshots.now ≤ most_shards }
+    requires definitions { All (λ s. defs.now ≡ s.shard.definitions) snapshots.now }
+    requires plans { ArePlansFor defs.now normal.now.branches plans.now }
+    ensures found { AreOfShards (length (map entities_in snapshots.now)) 0 (map entities_in snapshots.now)
+        → IfOk result (λ f. IsResultOf normal.now window.now (all_entities (map entities_in snapshots.now)) f.results f.next) }
+    ensures steps_bounded { IfOk result (λ f. All (λ q. steps.new ≤ (steps.old
+        + search_bound normal.now window.now (most_of normal.now window.now) snapshots.now) + look_ups q.select (length f.results))
+        normal.now.branches) }
+{
+    let mut rows = Vec::new(alloc);
+    for snapshot in snapshots {
+        put_shard_rows(
+            alloc, snapshot, normal, window, defs, plans, &mut rows, steps,
+        )?;
+    }
+    bounds_add_up();
+    page_of(alloc, snapshots, normal, window, rows, steps)
+}
+
+/// The page of what the shards gave, and what is told of its rows.
+pub(crate) fn page_of<L: Ledger>(
+    alloc: Global,
+    snapshots: &[ShardSnapshot<'_>],
+    normal: &Normal,
+    window: &Window,
+    rows: Vec<Row>,
+    steps: &mut Steps<L>,
+) -> Result<Found, NoMemory>
+    requires lawful { IsLawfulNormal normal.now }
+    requires placeless { SuitsSeveral normal.now.several window.now }
+    requires some { 1 ≤ length snapshots.now }
+    requires few { length snapshots.now ≤ most_shards }
+    requires rows { rows.items ≡ map (placed normal.now.merged) (rows_of_shards normal.now window.now (map entities_in snapshots.now)) }
+    requires placed { All (IsPlaced normal.now.merged) rows.items }
+    ensures found { AreOfShards (length (map entities_in snapshots.now)) 0 (map entities_in snapshots.now)
+        → IfOk result (λ f. IsResultOf normal.now window.now (all_entities (map entities_in snapshots.now)) f.results f.next) }
+    ensures steps { IfOk result (λ f. All (λ q. steps.new ≡ steps.old + look_ups q.select (length f.results)) normal.now.branches) }
+{
+    let none = Names::new(alloc);
+    let branch = &normal.branches.as_slice()[0];
+    let names = names_of(normal, branch, &none);
+    let page = page_of_rows(alloc, rows, &normal.merged, names, window)?;
+    let results = items(
+        alloc,
+        snapshots,
+        &normal.merged,
+        &branch.select,
+        page.rows,
+        steps,
+    )?;
+    Ok(Found {
+        results,
+        next: page.next,
+    })
+}
+
+/// The names whose values tell two results of one key apart.
+fn names_of<'a>(normal: &Normal, branch: &'a Branch, none: &'a Names) -> &'a Names
+    requires { none.now ≡ [] }
+    ensures { result.now ≡ names_of normal.now branch.now }
+{
+    if normal.several {
+        return none;
+    }
+    match &branch.select {
+        Select::Projection(names) => names,
+        _ => none,
+    }
+}
