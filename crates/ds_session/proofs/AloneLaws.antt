@@ -1,13 +1,12 @@
 -- Writes outside a transaction: what the store asks of their commits, and what is said of them.
-use Rattle.std.proofs.Common.{◌≡◌, ℕ, ◌+◌, ◌<◌, ◌≤◌, List, [], ◌∷◌, ◌++◌, length, refl, ap, sym, ◌∙◌, subst, arith, true, false}
+use Rattle.std.proofs.Common.{◌≡◌, ℕ, ◌+◌, ◌<◌, ◌≤◌, List, [], ◌∷◌, ◌++◌, length, ap, sym, ◌∙◌, subst, arith, true, false}
 use Rattle.std.proofs.Common.{Option, Some, None}
 use Rattle.std.specs.Prelude.{nat_le, ◌&&◌}
 use Rattle.std.specs.List.{list_all}
 use Rattle.std.proofs.lemmas.Bool.{and_parts}
 use Rattle.std.proofs.lemmas.List.Elements.{All-nil, All-cons}
-use Rattle.ds_base.specs.declared.key.Elem.{Elem}
 use Rattle.ds_base.specs.Entities.{EntityParts}
-use Rattle.ds_base.specs.Keys.{KeyParts, ends_in_id, is_elem, is_key, is_namespace, is_path, renumbered, with_last_id}
+use Rattle.ds_base.specs.Keys.{KeyParts, ends_in_id, is_elem, is_key, is_namespace, is_path, renumbered}
 use Rattle.ds_base.specs.Limits.{greatest_id, most_elements}
 use Rattle.ds_indexdef.specs.declared.IndexDef.{IndexDef}
 use Rattle.ds_journal.specs.Drafts.{renumbered_commit}
@@ -29,7 +28,8 @@ use Rattle.ds_store.specs.declared.answers.NewCause.TheVariants as new_cause
 use Rattle.ds_store.specs.Answered.{IsAppended, WhereExhausted}
 use Rattle.ds_store.specs.Passes.{PassParts, HasRead}
 use Rattle.ds_session.specs.Answering.{HasSaid}
-use Rattle.ds_session.specs.Replying.{HasReplied, own_commit, request_of, write_call, written_body}
+use Rattle.ds_session.specs.Replying.{HasReplied, own_commit, request_of, write_call}
+use Rattle.ds_output.specs.Writes.{written_body}
 use Rattle.ds_session.specs.Sessions.{IsWithin, SessionParts}
 use Rattle.ds_session.proofs.GrowthLaws.{grown_by_reading}
 use Rattle.ds_session.proofs.IdLaws.{delete_unissued, put_exhausted, put_unissued}
@@ -38,28 +38,6 @@ use Rattle.ds_session.proofs.SayingLaws.{said_after}
 use Rattle.ds_session.proofs.SeeingLaws.{within_later}
 use Rattle.ds_session.proofs.WriteLaws.{delete_committed, put_committed, put_new_committed, saw_commit}
 use Rattle.ds_session.proofs.WrittenLaws.{completed_issued}
-
--- ---- keys that get another last id
-
-ends_later : (es : List Elem) (id : ℕ) → ends_in_id es ≡ true → ends_in_id (with_last_id es id) ≡ true
-ends_later [] id ends = ends
-ends_later (e ∷ []) id ends = refl
-ends_later (e ∷ f ∷ []) id ends = refl
-ends_later (e ∷ f ∷ g ∷ es) id ends = ends_later (f ∷ g ∷ es) id ends
-
-last_twice : (es : List Elem) (first id : ℕ) → with_last_id (with_last_id es first) id ≡ with_last_id es id
-last_twice [] first id = refl
-last_twice (e ∷ []) first id = refl
-last_twice (e ∷ f ∷ []) first id = refl
-last_twice (e ∷ f ∷ g ∷ es) first id = ap (λ fs. e ∷ fs) (last_twice (f ∷ g ∷ es) first id)
-
--- a key that ends in an id does so with another id
-pub ends_renumbered : (k : KeyParts) (id : ℕ) → ends_in_id k.elems ≡ true → ends_in_id (renumbered k id).elems ≡ true
-ends_renumbered k id ends = ends_later k.elems id ends
-
--- of two last ids the later stands
-pub renumbered_twice : (k : KeyParts) (first id : ℕ) → renumbered (renumbered k first) id ≡ renumbered k id
-renumbered_twice k first id = ap (λ es. record k { elems = es }) (last_twice k.elems first id)
 
 -- the elements of a key are lawful
 pub lawful_path : (k : KeyParts) → is_key k ≡ true → list_all is_elem k.elems ≡ true

@@ -32,7 +32,8 @@ use Rattle.ds_protocol.specs.Transactions.{MayWrite}
 use Rattle.ds_store.specs.Answered.{HasDrawn, HasLooked, HasSeenNext}
 use Rattle.ds_store.specs.Passes.{PassParts, HasRead}
 use Rattle.ds_session.specs.Answering.{HasSaid}
-use Rattle.ds_session.specs.Replying.{HasReplied, request_of, write_call, written_body}
+use Rattle.ds_session.specs.Replying.{HasReplied, request_of, write_call}
+use Rattle.ds_output.specs.Writes.{written_body}
 use Rattle.ds_session.specs.Sessions.{HasTransaction, IsWithin, SessionParts}
 use Rattle.ds_session.specs.Standing.{AskedAt, MayReadAt, Touched}
 use Rattle.ds_session.proofs.GrowthLaws.{grown_by_reading, read_through}

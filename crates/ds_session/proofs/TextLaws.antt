@@ -1,37 +1,23 @@
--- Texts that stand one behind the other.
+-- The texts of sessions, one behind the other.
 use Rattle.std.proofs.Common.{◌≡◌, ℕ, zero, suc, ◌+◌, ◌-◌, ◌<◌, ◌≤◌, List, [], ◌∷◌, ◌++◌, length, map, take, drop, refl, ap, sym, ◌∙◌}
 use Rattle.std.proofs.Common.{subst, arith}
-use Rattle.std.proofs.Common.{append_assoc, length-append, length-drop, get_or, set, length-set, get_or-set_same, get_or-set_other}
+use Rattle.std.proofs.Common.{append_assoc, length-append, get_or, set, length-set, get_or-set_same, get_or-set_other}
 use Rattle.std.proofs.Common.{below_more, Option, Some, None}
 use Rattle.std.specs.Prelude.{All, flat_map, min, slice_get}
 use Rattle.std.specs.Io.KnownBytes.{Appends, Keeps}
-use Rattle.std.proofs.KnownBytes.{Appends-trans}
-use Rattle.std.proofs.Math.Seq.{take-add}
 use Rattle.std.proofs.lemmas.List.{append-nil, take_all, take-append-le}
-use Rattle.std.proofs.lemmas.List.Elements.{All-head, All-tail}
 use Rattle.ds_base.specs.Buffers.{BufferParts}
 use Rattle.ds_session.specs.declared.output.Cut.{Cut}
 use Rattle.ds_session.specs.Clients.{IsCut, IsCutAt, WrotePart}
 use Rattle.ds_session.specs.Runs.{texts_of}
 use Rattle.ds_session.specs.Sessions.{SessionParts}
-use Rattle.ds_session.specs.Unsent.{AreEmpty, IsPartTaken}
-
--- what is behind the first bytes, as a program takes it
-pub rest_from : {A : Type 0} (n : ℕ) (l : List A) → take (length l - n) (drop n l) ≡ drop n l
-rest_from n l = take_all (length l - n) (drop n l) (omega (arith, length-drop n l))
+use Rattle.ds_output.specs.Unsent.{AreEmpty, IsPartTaken}
+use Rattle.ds_output.proofs.TextLaws.{all_bytes}
 
 take_drop : {A : Type 0} (n : ℕ) (l : List A) → take n l ++ drop n l ≡ l
 take_drop zero l = refl
 take_drop (suc n) [] = refl
 take_drop (suc n) (x ∷ l) = ap (λ xs. x ∷ xs) (take_drop n l)
-
--- the first bytes of a text, and then some more of them
-pub written_more : (h0 h1 h2 : Option (List ℕ)) (text : List ℕ) (sent n : ℕ) → Appends h0 h1 (take sent text)
-    → Appends h1 h2 (take n (take (length text - sent) (drop sent text))) → Appends h0 h2 (take (sent + n) text)
-written_more h0 h1 h2 text sent n before more =
-    let rest : Appends h1 h2 (take n (drop sent text)) = subst (λ (bs : List ℕ). Appends h1 h2 (take n bs)) (rest_from sent text) more in
-    subst (λ (bs : List ℕ). Appends h0 h2 bs) (sym (take-add sent n text))
-    (Appends-trans h0 h1 h2 (take sent text) (take n (drop sent text)) before rest)
 
 -- ---- the texts of sessions
 
@@ -80,9 +66,6 @@ cut_part h0 h1 sessions cut at = record {
 
 -- ---- the same in buffers
 
-abbrev pub all_bytes : List BufferParts → List ℕ
-all_bytes texts = flat_map (λ (text : BufferParts). text.bytes) texts
-
 pub bytes-same : {A : Type 0} (text_of : A → List ℕ) (texts : List BufferParts) (xs : List A) (k : ℕ)
     → map (λ (text : BufferParts). text.bytes) texts ≡ map text_of xs → all_bytes (drop k texts) ≡ flat_map text_of (drop k xs)
 bytes-same text_of [] [] zero is = refl
@@ -95,47 +78,6 @@ bytes-same text_of (t ∷ texts) (x ∷ xs) zero is =
     λ i. first i ++ bytes-same text_of texts xs 0 others i
 bytes-same text_of (t ∷ texts) (x ∷ xs) (suc k) is =
     let others : map (λ (text : BufferParts). text.bytes) texts ≡ map text_of xs = cc in bytes-same text_of texts xs k others
-
-pub bytes-empty : (texts : List BufferParts) → AreEmpty texts → all_bytes texts ≡ []
-bytes-empty [] h = refl
-bytes-empty (t ∷ texts) h =
-    ap (λ bs. bs ++ all_bytes texts) (All-head (λ (text : BufferParts). text.bytes ≡ []) t texts h)
-    ∙ bytes-empty texts (All-tail (λ (text : BufferParts). text.bytes ≡ []) t texts h)
-
--- the first of some texts
-pub bytes-there : (texts : List BufferParts) (k : ℕ) (t : BufferParts) → k < length texts → t ≡ get_or texts k t
-    → all_bytes (drop k texts) ≡ t.bytes ++ all_bytes (drop (k + 1) texts)
-bytes-there texts k t below is =
-    by texts k below is ∙ ap (λ n. t.bytes ++ all_bytes (drop n texts)) (let e : suc k ≡ k + 1 = omega arith in e) where
-      by : (all : List BufferParts) (j : ℕ) → j < length all → t ≡ get_or all j t
-          → all_bytes (drop j all) ≡ t.bytes ++ all_bytes (drop (suc j) all)
-      by [] j low there = absurd (omega (arith, low))
-      by (u ∷ all) zero low there = ap (λ (v : BufferParts). v.bytes ++ all_bytes all) (sym there)
-      by (u ∷ all) (suc j) low there = by all j (omega (arith, low)) there
-
-pub drop-part : (n : ℕ) (xs ys : List ℕ) → n ≤ length xs → drop n (xs ++ ys) ≡ drop n xs ++ ys
-drop-part zero xs ys within = refl
-drop-part (suc n) [] ys within = absurd (omega (arith, within))
-drop-part (suc n) (x ∷ xs) ys within = drop-part n xs ys (omega (arith, within))
-
--- what is left of the first text, and the others
-pub bytes-left : (texts : List BufferParts) (k taken : ℕ) (t : BufferParts) → k < length texts → t ≡ get_or texts k t
-    → taken ≤ length t.bytes → drop taken (all_bytes (drop k texts)) ≡ drop taken t.bytes ++ all_bytes (drop (k + 1) texts)
-bytes-left texts k taken t below is within =
-    ap (drop taken) (bytes-there texts k t below is) ∙ drop-part taken t.bytes (all_bytes (drop (k + 1) texts)) within
-
--- ---- bytes at a place
-
-pub get-first : (xs ys : List ℕ) (i : ℕ) → i < length xs → slice_get (xs ++ ys) i ≡ slice_get xs i
-get-first [] ys i below = absurd (omega (arith, below))
-get-first (x ∷ xs) ys zero below = refl
-get-first (x ∷ xs) ys (suc i) below = get-first xs ys i (omega (arith, below))
-
-pub get-later : (xs ys : List ℕ) (i : ℕ) → length xs ≤ i → slice_get (xs ++ ys) i ≡ slice_get ys (i - length xs)
-get-later [] ys i from = ap (slice_get ys) (let e : i ≡ i - 0 = omega arith in e)
-get-later (x ∷ xs) ys zero from = absurd (omega (arith, from))
-get-later (x ∷ xs) ys (suc i) from =
-    get-later xs ys i (omega (arith, from)) ∙ ap (slice_get ys) (let e : i - length xs ≡ suc i - suc (length xs) = omega arith in e)
 
 -- ---- texts that are moved, one after another
 
@@ -187,22 +129,6 @@ module _ {A : Type 0} (text_of : A → List ℕ) where
             let others = by zs bs (omega (arith, same)) (λ k d e below. each (suc k) d e (omega (arith, below))) in
             λ i. first i ∷ others i
 
--- ---- loops over texts
-
-pub byte-found : (texts : List BufferParts) (k left place : ℕ) (t : BufferParts) → k < length texts → t ≡ get_or texts k t
-    → left < length t.bytes → slice_get (all_bytes (drop k texts)) left ≡ slice_get (all_bytes texts) place
-    → slice_get t.bytes left ≡ slice_get (all_bytes texts) place
-byte-found texts k left place t below there within is =
-    sym (get-first t.bytes (all_bytes (drop (k + 1) texts)) left within)
-    ∙ sym (ap (λ bs. slice_get bs left) (bytes-there texts k t below there)) ∙ is
-
-pub byte-passed : (texts : List BufferParts) (k left place : ℕ) (t : BufferParts) → k < length texts → t ≡ get_or texts k t
-    → length t.bytes ≤ left → slice_get (all_bytes (drop k texts)) left ≡ slice_get (all_bytes texts) place
-    → slice_get (all_bytes (drop (k + 1) texts)) (left - length t.bytes) ≡ slice_get (all_bytes texts) place
-byte-passed texts k left place t below there from is =
-    sym (get-later t.bytes (all_bytes (drop (k + 1) texts)) left from)
-    ∙ sym (ap (λ bs. slice_get bs left) (bytes-there texts k t below there)) ∙ is
-
 -- ---- elements
 
 pub get-mapped : {A : Type 0} (session : A → SessionParts) (xs : List A) (i : ℕ) (x : A) → i < length xs → x ≡ get_or xs i x
@@ -210,11 +136,6 @@ pub get-mapped : {A : Type 0} (session : A → SessionParts) (xs : List A) (i : 
 get-mapped session [] i x below is = absurd (omega (arith, below))
 get-mapped session (y ∷ xs) zero x below is = ap (λ z. Some (session z)) (sym is)
 get-mapped session (y ∷ xs) (suc i) x below is = get-mapped session xs i x (omega (arith, below)) is
-
-pub get-there : (xs : List ℕ) (i : ℕ) → i < length xs → slice_get xs i ≡ Some (get_or xs i 0)
-get-there [] i below = absurd (omega (arith, below))
-get-there (x ∷ xs) zero below = refl
-get-there (x ∷ xs) (suc i) below = get-there xs i (omega (arith, below))
 
 -- ---- the texts of clients, moved
 

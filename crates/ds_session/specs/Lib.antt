@@ -10,4 +10,3 @@ pub mod Sessions
 pub mod Standing
 pub mod Steps
 pub mod Touched
-pub mod Unsent

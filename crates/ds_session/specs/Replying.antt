@@ -7,9 +7,7 @@ use Rattle.ds_log.specs.declared.Write.TheVariants.{Put, Delete}
 use Rattle.ds_request.specs.declared.call.Call.{Call}
 use Rattle.ds_request.specs.declared.call.Call.TheVariants as call
 use Rattle.ds_request.specs.declared.call.Request.{Request}
-use Rattle.ds_reply.specs.declared.reply.WriteAt.{WriteAt}
 use Rattle.ds_reply.specs.declared.reply.Body.{Body}
-use Rattle.ds_reply.specs.declared.reply.Body.TheVariants as body
 use Rattle.ds_reply.specs.Replies.{reply_text}
 use Rattle.ds_session.specs.Answering.{HasSaid}
 use Rattle.ds_session.specs.Sessions.{SessionParts}
@@ -22,11 +20,6 @@ request_of client c = Ok (record { client = client; call = c })
 abbrev pub write_call : Write → Call
 write_call (Put e) = call.Put e.key false e.properties
 write_call (Delete k) = call.Delete k
-
--- what the reply to a write says
-abbrev pub written_body : Write → WriteAt → Body
-written_body (Put e) = body.Put e.key
-written_body (Delete k) = body.Delete k
 
 -- the commit of one write outside a transaction
 abbrev pub own_commit : ℕ → Write → Commit

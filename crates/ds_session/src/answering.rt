@@ -12,11 +12,12 @@ ghost use Rattle.ds_session.specs.Replying.{HasReplied, request_of};
 ghost use Rattle.ds_session.specs.Sessions.{IsWithin};
 ghost use Rattle.ds_session.specs.Steps.{IsWithinSteps};
 
-use crate::state::{State, tell};
+use crate::state::State;
 use ds_base::Entity;
 use ds_indexdef::Defs;
 use ds_io::Steps;
 use ds_log::Write;
+use ds_output::tell;
 use ds_protocol::{Operation, operation_of, refusal_of};
 use ds_reply::Body;
 use ds_request::Call;

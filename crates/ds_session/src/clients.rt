@@ -10,16 +10,16 @@ ghost use Rattle.ds_rounds.specs.Rounds.{lines_of_round};
 ghost use Rattle.ds_session.specs.Clients.{AreAlike, AreSeated, EachOf, HasAnsweredOwn, IsReady};
 ghost use Rattle.ds_session.specs.Room.{most_no_memory};
 ghost use Rattle.ds_session.specs.Runs.{AreWritten, HasTaken, HaveRun, seen_of};
-ghost use Rattle.ds_session.specs.Unsent.{AreEmpty};
+ghost use Rattle.ds_output.specs.Unsent.{AreEmpty};
 ghost use Rattle.ds_store.specs.Opening.{nothing_seen};
 
 use crate::asked::{Asked, asked_by_client};
 use crate::session::Session;
-use crate::unsent::Texts;
 use ds_base::limits::MAX_CLIENT;
 use ds_base::{Counts, NoMemory, Sequence};
 use ds_indexdef::Defs;
 use ds_io::{Gate, Steps};
+use ds_output::Texts;
 use ds_protocol::Watermark;
 use ds_rounds::Round;
 use ds_store::{Names, Pass, Store};

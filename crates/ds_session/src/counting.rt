@@ -7,8 +7,9 @@ ghost use Rattle.ds_request.specs.declared.call.Call.{Call};
 ghost use Rattle.ds_session.specs.Replying.{HasReplied, request_of};
 ghost use Rattle.ds_session.specs.Sessions.{IsWithin};
 
-use crate::state::{State, tell};
+use crate::state::State;
 use ds_base::TryCopy;
+use ds_output::tell;
 use ds_reply::Body;
 use ds_store::{Applied, Names, Settled, Store};
 use std::sync::Wait;

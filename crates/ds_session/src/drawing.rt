@@ -13,10 +13,11 @@ ghost use Rattle.ds_session.specs.Replying.{HasReplied, request_of};
 ghost use Rattle.ds_session.specs.Sessions.{IsWithin};
 ghost use Rattle.ds_store.specs.Passes.{HasRead, PassParts};
 
-use crate::state::{State, tell, tell_last};
-use ds_base::{Buffer, Elem};
-use ds_protocol::{first_unissued, make_room};
-use ds_reply::{Body, Reply};
+use crate::state::State;
+use ds_base::Elem;
+use ds_output::{make_room_for_ids, tell, tell_last};
+use ds_protocol::first_unissued;
+use ds_reply::Body;
 use ds_store::{Names, Pass, Store};
 use std::sync::Wait;
 
@@ -37,22 +38,6 @@ pub(crate) fn unissued<J: Names, R: Wait, H: Wait + Drop>(
     }
     let next = store.next_id(rt, pass);
     first_unissued(path, next)
-}
-
-/// Makes room for the longest reply that tells so many ids, and `keep` bytes beside it; false where there is no memory for them.
-fn make_room_for_ids(client: u32, number: u64, count: u64, keep: usize, text: &mut Buffer) -> bool
-    ensures same { text.new.bytes ≡ text.old.bytes }
-    ensures kept { text.old.spare ≤ text.new.spare }
-{
-    let longest = Reply {
-        client,
-        line: number,
-        body: Body::AllocateIds {
-            first: u64::MAX,
-            count,
-        },
-    };
-    make_room(&longest, keep, text)
 }
 
 impl<J: Names> State<J> {

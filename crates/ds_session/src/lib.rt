@@ -7,6 +7,7 @@
 //! Begin with `session`; `state` holds a client's parts, and `answering` says what answers a request: `reads`, `searches`, `writes` (in a
 //! transaction `writes_inside`), `drawing`, `counting`, `transactions`, and `refusing` where nothing is asked of the store. `asked` reads a
 //! round's lines by client, `clients` does with each client what a round asks, `rounds` and `output` do it with all.
+//! How a reply is told and a text written stands in `ds_output`.
 //!
 //! `specs/` has what a session is to contracts (`Sessions`), what an answered line leaves (`Answering`, `Replying`, `Refusing`) and how
 //! many steps it takes (`Steps`), where a strong read is asked for (`Standing`), what a round's lines ask (`AskedLines`), and what rounds
@@ -31,12 +32,11 @@ mod searches;
 mod session;
 mod state;
 mod transactions;
-mod unsent;
 mod writes;
 mod writes_inside;
 
+pub use ds_output::Unsent;
 pub use ds_rounds::{Lines, Round, RoundRefused, Rounds};
 pub use output::write_round;
 pub use rounds::{Sessions, run_round};
 pub use session::Session;
-pub use unsent::Unsent;

@@ -1,5 +1,5 @@
 //! Writing the replies of a round.
-ghost use Rattle.std.specs.Prelude.{◌≡◌, ◌<◌, ◌≤◌, ◌++◌, length, map, take, IfErr, OnErr, OnOk};
+ghost use Rattle.std.specs.Prelude.{◌≡◌, ◌<◌, ◌++◌, map, IfErr, OnErr, OnOk};
 ghost use Rattle.std.specs.Io.KnownBytes.{Appends};
 ghost use Rattle.ds_io.specs.Faults.{next_count};
 ghost use Rattle.ds_session.specs.Clients.{AreAlike, IsCutAt, WrotePart};
@@ -7,8 +7,8 @@ ghost use Rattle.ds_session.specs.Runs.{AreWritten, texts_of};
 
 use crate::clients::Client;
 use crate::rounds::Sessions;
-use crate::unsent::Unsent;
 use ds_io::Sink;
+use ds_output::{Unsent, write_all};
 use ds_store::Names;
 
 /// Writes the sessions' texts, by client, and sends them on their way once. A refusal comes exactly where a write or the flush failed, and
@@ -56,24 +56,6 @@ fn write_texts<J: Names, O: Sink>(clients: &[Client<J>], output: &mut O) -> Resu
             Ok(()) => {}
             Err(taken) => return Err(Cut { client, taken }),
         }
-    }
-    Ok(())
-}
-
-/// Writes a text to its end, or says how many of its bytes were taken when a write failed; no further one is made.
-fn write_all<O: Sink>(output: &mut O, text: &[u8]) -> Result<(), usize>
-    ensures ok { OnOk result (Appends (O.held output.old) (O.held output.new) text.now) }
-    ensures err { IfErr result (λ sent. Appends (O.held output.old) (O.held output.new) (take sent text.now)) }
-    ensures within { IfErr result (λ sent. sent ≤ length text.now) }
-    ensures fault { OnErr result (O.faults output.new ≡ next_count (O.faults output.old)) }
-    ensures no_fault { OnOk result (O.faults output.new ≡ O.faults output.old) }
-{
-    let mut sent = 0;
-    'write: while sent < text.len() {
-        let Ok(n) = output.write(&text[sent..]) else {
-            return Err(sent);
-        };
-        sent += n;
     }
     Ok(())
 }

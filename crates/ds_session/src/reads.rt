@@ -17,9 +17,10 @@ ghost use Rattle.ds_session.specs.Sessions.{IsWithin};
 ghost use Rattle.ds_session.specs.Standing.{AskedAt};
 ghost use Rattle.ds_store.specs.Passes.{HasRead, PassParts};
 
-use crate::state::{State, tell};
+use crate::state::State;
 use ds_base::{Key, NoMemory};
 use ds_log::shard_of;
+use ds_output::tell;
 use ds_protocol::OpenTransaction;
 use ds_reply::Body;
 use ds_store::{Expired, GetRefused, Got, Names, Pass, Store};

@@ -8,7 +8,8 @@ ghost use Rattle.ds_session.specs.Replying.{HasReplied};
 ghost use Rattle.ds_session.specs.Refusing.{IsRefusedWith};
 ghost use Rattle.ds_session.specs.Sessions.{IsWithin};
 
-use crate::state::{State, tell, tell_no_memory};
+use crate::state::State;
+use ds_output::{tell, tell_no_memory};
 use ds_reply::Body;
 use ds_store::Names;
 

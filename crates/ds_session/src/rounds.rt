@@ -11,10 +11,10 @@ ghost use Rattle.ds_store.specs.Opening.{nothing_seen};
 
 use crate::clients::{CLIENTS, Client, clear_texts, first_marks, run_clients, seated, take_texts};
 use crate::output::Cut;
-use crate::unsent::{Unsent, no_texts};
 use ds_base::NoMemory;
 use ds_indexdef::Defs;
 use ds_io::Gate;
+use ds_output::{Unsent, no_texts};
 use ds_rounds::Round;
 use ds_store::{Names, Pass, Store};
 use std::alloc::Global;

@@ -1,7 +1,6 @@
 //! Queries and statements.
-ghost use Rattle.std.specs.Prelude.{◌≡◌, ℕ, ◌+◌, ◌≤◌, All, Bool, List, None, Option, Some, length, is_some, IfOk, OnErr};
-ghost use Rattle.std.specs.Option.{option_copied, option_map};
-ghost use Rattle.ds_base.specs.declared.results.Item.{Item};
+ghost use Rattle.std.specs.Prelude.{◌≡◌, ◌+◌, ◌≤◌, All, None, Some, length, is_some, IfOk, OnErr};
+ghost use Rattle.std.specs.Option.{option_map};
 ghost use Rattle.ds_base.specs.declared.results.Seen.{Seen};
 ghost use Rattle.ds_base.specs.Keys.{root_of};
 ghost use Rattle.ds_log.specs.Shards.{shard_of};
@@ -12,7 +11,6 @@ ghost use Rattle.ds_protocol.specs.Preparing.{ArePlansFor, IsReady};
 ghost use Rattle.ds_protocol.specs.Saying.{no_memory_reply};
 ghost use Rattle.ds_protocol.specs.Searches.{IsLawfulSearch, IsSearchOf, search_parts};
 ghost use Rattle.ds_query.specs.Lawful.{IsLawfulNormal, SuitsSeveral};
-ghost use Rattle.ds_query.specs.declared.query.Select.{Select};
 ghost use Rattle.ds_reply.specs.Replies.{reply_text};
 ghost use Rattle.ds_request.specs.declared.call.Call.{Call};
 ghost use Rattle.ds_session.specs.Replying.{HasReplied, request_of};
@@ -25,16 +23,17 @@ ghost use Rattle.ds_store.specs.Passes.{HasRead};
 ghost use Rattle.ds_store.specs.Searched.{HasCounted};
 
 use crate::reads::{group_and_shard, touch_place};
-use crate::state::{State, tell};
-use ds_base::{Counts, Key, NoMemory, Results, Seen, TryCopy};
+use crate::state::State;
+use ds_base::{Counts, Key, NoMemory, Seen, TryCopy};
 use ds_indexdef::Defs;
 use ds_io::{NoGate, Steps};
+use ds_output::{counts_in, found_body, place_in, tell};
 use ds_planner::ScanPlan;
-use ds_protocol::{Ready, Search, finish, prepare};
-use ds_query::{Normal, Place, RowList, Window};
+use ds_protocol::{Ready, Search, prepare};
+use ds_query::{Normal, Place, Window};
 use ds_reply::Body;
 use ds_store::{Answer, GetRefused, Names, Pass, Store};
-use std::alloc::{AllocError, Global};
+use std::alloc::Global;
 use std::sync::Wait;
 use std::sync::ledger::Ledger;
 use std::thread::Threads;
@@ -312,16 +311,6 @@ fn counted_body(
     })
 }
 
-/// The counts that were looked at. A refusal is want of memory.
-fn counts_in(alloc: Global, seen: &Seen) -> Result<Counts, NoMemory>
-    ensures { IfOk result (λ counts. seen.now ≡ Seen.Counts counts) }
-{
-    match seen {
-        Seen::Counts(counts) => counts.copy(alloc),
-        Seen::Place(_) => Err(AllocError),
-    }
-}
-
 /// What the reply to a search says of what one group's shard holds, with where it was read.
 #[derive(Drop)]
 struct ReadAt {
@@ -354,62 +343,4 @@ fn place_body(
         place,
         entries: beside,
     })
-}
-
-/// The place that was looked at.
-fn place_in(seen: &Seen) -> Result<u64, NoMemory>
-    ensures { IfOk result (λ place. seen.now ≡ Seen.Place place) }
-{
-    match seen {
-        Seen::Place(place) => Ok(*place),
-        Seen::Counts(_) => Err(AllocError),
-    }
-}
-
-/// What the reply to a search says of what the store found. A refusal is want of memory.
-fn found_body(
-    alloc: Global,
-    search: &Search,
-    normal: &Normal,
-    results: Results,
-    next: Option<&Place>,
-    seen: Seen,
-) -> Result<Body, NoMemory>
-    ensures { IfOk result (λ b. b ≡ found search.now.statement search.now.query.select results seen
-        (cursor_of search.now.cursor normal.now.branches (option_copied next.entry))) }
-{
-    let empty = finish(alloc, search, normal, &[], RowList::new(alloc), next, seen)?;
-    Ok(with_results(empty, results))
-}
-
-/// The same with these results.
-fn with_results(body: Body, results: Results) -> Body
-    ensures { (statement : Bool) (select : Select) (none : List Item) (seen : Seen) (cursor : Option (List ℕ))
-        → body ≡ found statement select none seen cursor → result ≡ found statement select results seen cursor }
-{
-    match body {
-        Body::Query {
-            select,
-            results: _none,
-            seen,
-            cursor,
-        } => Body::Query {
-            select,
-            results,
-            seen,
-            cursor,
-        },
-        Body::Gql {
-            select,
-            results: _none,
-            seen,
-            cursor,
-        } => Body::Gql {
-            select,
-            results,
-            seen,
-            cursor,
-        },
-        other => other,
-    }
 }

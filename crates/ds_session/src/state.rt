@@ -1,16 +1,10 @@
 //! A client's state: what a line is answered from, and what it leaves.
-ghost use Rattle.std.specs.Prelude.{◌≡◌, ◌+◌, ◌≤◌, ◌++◌, false, length, IsTrue};
-ghost use Rattle.ds_protocol.specs.Saying.{no_memory_reply};
-ghost use Rattle.ds_reply.specs.Replies.{reply_text};
 
 use ds_base::Buffer;
-use ds_protocol::{OpenTransaction, Watermark, make_room, say_if_room, say_no_memory};
-use ds_reply::{Body, Reply};
+use ds_protocol::{OpenTransaction, Watermark};
 use ds_store::{Names, Pass};
 use std::alloc::Global;
 use std::marker::Model;
-use std::sync::Wait;
-use std::thread;
 
 /// A client, its pass, what it has seen, its transaction, and the text of its replies.
 #[derive(Drop)]
@@ -36,88 +30,4 @@ impl<J: Names> Model for State<J> {
       text = s.text.bytes;
       room = s.text.spare;
     } };
-}
-
-/// Writes a reply, or that there was no memory where there is no room for it, and says which; `keep` bytes of room are left.
-pub(crate) fn tell(client: u32, number: u64, body: Body, keep: usize, text: &mut Buffer) -> bool
-    requires { keep + length (reply_text (no_memory_reply client number)) ≤ text.old.spare }
-    ensures told { IsTrue result → text.new.bytes ≡ text.old.bytes ++ reply_text (record { client = client; line = number; body = body }) }
-    ensures untold { result ≡ false → text.new.bytes ≡ text.old.bytes ++ reply_text (no_memory_reply client number) }
-    ensures kept { keep ≤ text.new.spare }
-{
-    if tell_if_room(client, number, body, keep, text) {
-        return true;
-    }
-    tell_no_memory(client, number, keep, text);
-    false
-}
-
-/// Writes a reply and leaves `keep` bytes of room; false, and nothing is written, where there is no memory for that.
-fn tell_if_room(client: u32, number: u64, body: Body, keep: usize, text: &mut Buffer) -> bool
-    ensures told { IsTrue result → text.new.bytes ≡ text.old.bytes ++ reply_text (record { client = client; line = number; body = body }) }
-    ensures kept { IsTrue result → keep ≤ text.new.spare }
-    ensures same { result ≡ false → text.new.bytes ≡ text.old.bytes }
-    ensures room { result ≡ false → text.old.spare ≤ text.new.spare }
-{
-    let reply = Reply {
-        client,
-        line: number,
-        body,
-    };
-    say_if_room(&reply, keep, text)
-}
-
-/// Writes that there was no memory, for which there is room; `keep` bytes of it are left.
-pub(crate) fn tell_no_memory(client: u32, number: u64, keep: usize, text: &mut Buffer)
-    requires { keep + length (reply_text (no_memory_reply client number)) ≤ text.old.spare }
-    ensures told { text.new.bytes ≡ text.old.bytes ++ reply_text (no_memory_reply client number) }
-    ensures kept { keep ≤ text.new.spare }
-{
-    say_no_memory(client, number, keep, text);
-}
-
-/// Makes room for a reply, and `keep` bytes beside it; false where there is no memory for them.
-pub(crate) fn make_room_to_tell(
-    client: u32,
-    number: u64,
-    body: Body,
-    keep: usize,
-    text: &mut Buffer,
-) -> bool
-    ensures same { text.new.bytes ≡ text.old.bytes }
-    ensures kept { text.old.spare ≤ text.new.spare }
-    ensures room { IsTrue result → keep + length (reply_text (record { client = client; line = number; body = body })) ≤ text.new.spare }
-{
-    let reply = Reply {
-        client,
-        line: number,
-        body,
-    };
-    make_room(&reply, keep, text)
-}
-
-/// Writes a reply for which room was taken, though for one with another number: it is tried until there is room, which there is at once.
-pub(crate) fn tell_last<R: Wait>(
-    rt: &R,
-    client: u32,
-    number: u64,
-    body: Body,
-    keep: usize,
-    text: &mut Buffer,
-)
-    ensures told { text.new.bytes ≡ text.old.bytes ++ reply_text (record { client = client; line = number; body = body }) }
-    ensures kept { keep ≤ text.new.spare }
-{
-    let reply = Reply {
-        client,
-        line: number,
-        body,
-    };
-    for _ in rt.forever() {
-        if say_if_room(&reply, keep, text) {
-            return;
-        }
-        thread::yield_now();
-    }
-    unreachable!()
 }

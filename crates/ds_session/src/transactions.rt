@@ -13,10 +13,11 @@ ghost use Rattle.ds_session.specs.Touched.{IsTouchedAs};
 ghost use Rattle.ds_store.specs.Answered.{IsAppended, IsConflict, WhereConflict};
 ghost use Rattle.ds_store.specs.Passes.{HasRead, PassParts};
 
-use crate::state::{State, make_room_to_tell, tell, tell_last};
+use crate::state::State;
 use ds_base::{Buffer, Key, TryCopy};
 use ds_journal::{CommitCause, CommitRefused, Draft};
 use ds_log::Conflict;
+use ds_output::{make_room_to_tell, tell, tell_last};
 use ds_protocol::{OpenTransaction, draft_of_transaction};
 use ds_reply::Body;
 use ds_store::{Names, Store};

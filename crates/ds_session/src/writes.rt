@@ -1,6 +1,6 @@
 //! Puts and deletes: outside a transaction each is a commit of its own.
 ghost use Rattle.std.specs.Prelude.{◌≡◌, ◌+◌, ◌≤◌, ℕ, None, Some, Result, true, length, IfOk, IsTrue};
-ghost use Rattle.ds_base.specs.Keys.{KeyParts, ends_in_id, renumbered};
+ghost use Rattle.ds_base.specs.Keys.{ends_in_id, renumbered};
 ghost use Rattle.ds_log.specs.declared.Write.TheVariants as write;
 ghost use Rattle.ds_model.specs.Refusals.{refusal_of};
 ghost use Rattle.ds_model.specs.Sessions.{saw_next};
@@ -11,17 +11,18 @@ ghost use Rattle.ds_reply.specs.declared.reply.WriteAt.{WriteAt};
 ghost use Rattle.ds_request.specs.declared.call.Call.{Call};
 ghost use Rattle.ds_request.specs.declared.call.Request.{Request};
 ghost use Rattle.ds_session.specs.Answering.{HasSaid};
-ghost use Rattle.ds_session.specs.Replying.{HasReplied, own_commit, request_of, write_call, written_body};
+ghost use Rattle.ds_session.specs.Replying.{HasReplied, own_commit, request_of, write_call};
+ghost use Rattle.ds_output.specs.Writes.{written_body};
 ghost use Rattle.ds_session.specs.Sessions.{IsWithin};
 ghost use Rattle.ds_store.specs.Answered.{WhereExhausted};
 ghost use Rattle.ds_store.specs.Passes.{HasRead, PassParts};
 
 use crate::drawing::unissued;
-use crate::state::{State, tell_last};
-use ds_base::limits::MAX_ID;
+use crate::state::State;
 use ds_base::{Buffer, Entity, Key, NoMemory, TryCopy};
 use ds_journal::Draft;
 use ds_log::Write;
+use ds_output::{body_of, placed, prepare_key, tell_last};
 use ds_protocol::{draft_of_write, make_room, next_above};
 use ds_reply::{Body, Reply, WriteAt};
 use ds_store::{Names, NewCause, NewRefused, Store};
@@ -41,28 +42,6 @@ struct Prepared {
 struct PreparedNew {
     draft: Draft,
     key: Key,
-}
-
-/// What the reply to a write says, at a place. A refusal is want of memory.
-pub(crate) fn body_of(alloc: Global, write: &Write, at: WriteAt) -> Result<Body, NoMemory>
-    ensures { IfOk result (λ b. b ≡ written_body write.now at) }
-{
-    let key = write.key().copy(alloc)?;
-    Ok(match write {
-        Write::Put(_) => Body::Put { key, at },
-        Write::Delete(_) => Body::Delete { key, at },
-    })
-}
-
-/// The same, at this place.
-fn placed(body: Body, at: WriteAt) -> Body
-    ensures { (write : Write) (before : WriteAt) → body ≡ written_body write before → result ≡ written_body write at }
-{
-    match body {
-        Body::Put { key, at: _ } => Body::Put { key, at },
-        Body::Delete { key, at: _ } => Body::Delete { key, at },
-        other => other,
-    }
 }
 
 /// The commit of a write, and its reply, for which there is then room. A refusal is want of memory.
@@ -91,53 +70,6 @@ fn prepare_commit(
     let body = longest.body;
     let draft = draft_of_write(alloc, client, write)?;
     Ok(Prepared { draft, body })
-}
-
-/// The key that the reply to a put with a new id tells, but for that id; there is then room for the reply. A refusal is want of memory.
-pub(crate) fn prepare_key(
-    alloc: Global,
-    client: u32,
-    number: u64,
-    key: &Key,
-    at: WriteAt,
-    keep: usize,
-    text: &mut Buffer,
-) -> Result<Key, NoMemory>
-    requires { IsTrue (ends_in_id key.now.elems) }
-    ensures ends { IfOk result (λ k. IsTrue (ends_in_id k.elems)) }
-    ensures key { IfOk result (λ k. (id : ℕ) → renumbered k id ≡ renumbered key.now id) }
-    ensures same { text.new.bytes ≡ text.old.bytes }
-    ensures kept { text.old.spare ≤ text.new.spare }
-{
-    let mut longest_key = key.copy(alloc)?;
-    longest_key.renumber(MAX_ID);
-    let longest = Reply {
-        client,
-        line: number,
-        body: Body::Put {
-            key: longest_key,
-            at,
-        },
-    };
-    if !make_room(&longest, keep, text) {
-        return Err(AllocError);
-    }
-    let Reply {
-        client: _,
-        line: _,
-        body,
-    } = longest;
-    key_in(body)
-}
-
-/// The key that the reply to a put tells; there is none in any other.
-fn key_in(body: Body) -> Result<Key, NoMemory>
-    ensures { (key : KeyParts) (at : WriteAt) → body ≡ Body.Put key at → IfOk result (λ k. k ≡ key) }
-{
-    match body {
-        Body::Put { key, at: _at } => Ok(key),
-        _other => Err(AllocError),
-    }
 }
 
 /// The commit of a put with a new id, and the key that its reply tells, for which there is then room. A refusal is want of memory.

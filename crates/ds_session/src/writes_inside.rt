@@ -14,10 +14,10 @@ ghost use Rattle.ds_session.specs.Sessions.{IsWithin};
 
 use crate::drawing::unissued;
 use crate::reads::touch_place;
-use crate::state::{State, tell, tell_last};
-use crate::writes::{body_of, prepare_key};
+use crate::state::State;
 use ds_base::{Buffer, Entity, Key, NoMemory};
 use ds_log::Write;
+use ds_output::{body_of, prepare_key, tell, tell_last};
 use ds_protocol::{OpenTransaction, next_above};
 use ds_reply::{Body, WriteAt};
 use ds_store::{Names, Store};

@@ -9,7 +9,8 @@ use Rattle.ds_model.specs.Sessions.{next_above}
 use Rattle.ds_reply.specs.declared.reply.Body.{Body}
 use Rattle.ds_reply.specs.declared.reply.WriteAt.TheVariants as at
 use Rattle.ds_reply.specs.Replies.{reply_text}
-use Rattle.ds_session.specs.Replying.{write_call, written_body}
+use Rattle.ds_session.specs.Replying.{write_call}
+use Rattle.ds_output.specs.Writes.{written_body}
 use Rattle.ds_session.specs.Sessions.{SessionParts}
 use Rattle.ds_session.proofs.AloneLaws.{lawful_path, write_unissued, wrote_replied, wrote_seen}
 use Rattle.ds_session.proofs.GrowthLaws.{read_itself, read_through}

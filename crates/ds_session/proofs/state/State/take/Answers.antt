@@ -10,7 +10,8 @@ use Rattle.ds_reply.specs.Replies.{reply_text}
 use Rattle.ds_model.specs.Groups.{with_transaction}
 use Rattle.ds_model.specs.Sessions.{next_above}
 use Rattle.ds_protocol.specs.Transactions.{MayWrite}
-use Rattle.ds_session.specs.Replying.{write_call, written_body}
+use Rattle.ds_session.specs.Replying.{write_call}
+use Rattle.ds_output.specs.Writes.{written_body}
 use Rattle.ds_session.specs.Sessions.{SessionParts}
 use Rattle.ds_session.proofs.GrowthLaws.{read_itself}
 use Rattle.ds_session.proofs.InsideLaws.{may_write, stood, taken_seen, write_taken}

@@ -1,7 +1,7 @@
 //! Replies that an output didn't take.
 ghost use Rattle.std.specs.Prelude.{◌≡◌, ◌+◌, ◌^◌, ◌-◌, ◌<◌, ◌≤◌, ◌==◌, [], length, drop, flat_map, map, min, slice_get};
 ghost use Rattle.ds_base.specs.Limits.{greatest_client};
-ghost use Rattle.ds_session.specs.Unsent.{AreEmpty, IsPartTaken};
+ghost use Rattle.ds_output.specs.Unsent.{AreEmpty, IsPartTaken};
 
 use ds_base::Buffer;
 use ds_base::limits::MAX_CLIENT;
@@ -9,7 +9,7 @@ use std::alloc::Global;
 use std::marker::Model;
 
 /// A text for each client.
-pub(crate) type Texts = [Buffer; MAX_CLIENT as usize + 1];
+pub type Texts = [Buffer; MAX_CLIENT as usize + 1];
 
 /// The replies of a round that were not taken, in the clients' own buffers: they are moved here, which takes no memory. Contracts see the
 /// list of their bytes.
@@ -24,7 +24,7 @@ pub struct Unsent {
 
 impl Model for Unsent {
     ghost use Rattle.std.specs.Prelude.{List, ℕ, drop, flat_map};
-    ghost use Rattle.ds_session.specs.Unsent.{IsPartTaken};
+    ghost use Rattle.ds_output.specs.Unsent.{IsPartTaken};
 
     ghost Value = { List ℕ };
 
@@ -46,7 +46,7 @@ impl Unsent {
     }
 
     /// What is left of these texts behind the first bytes of a client's. It takes no memory.
-    pub(crate) fn rest_of(texts: Texts, client: usize, taken: usize) -> Unsent
+    pub fn rest_of(texts: Texts, client: usize, taken: usize) -> Unsent
         requires { IsPartTaken texts client taken }
         ensures { result ≡ drop taken (flat_map (λ text. text.bytes) (drop client texts)) }
     {
@@ -113,7 +113,7 @@ fn byte_in(texts: &[Buffer], place: usize) -> Option<u8>
 }
 
 /// An empty text for each client. It takes no memory.
-pub(crate) fn no_texts(alloc: Global) -> Texts
+pub fn no_texts(alloc: Global) -> Texts
     ensures many { length result ≡ greatest_client + 1 }
     ensures empty { AreEmpty result }
 {

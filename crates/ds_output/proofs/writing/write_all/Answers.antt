@@ -1,7 +1,7 @@
 use Rattle.std.proofs.Common.{take, ◌∙◌, arith, refl}
 use Rattle.std.proofs.KnownBytes.{Appends-nil}
-use Rattle.ds_session.proofs.TextLaws.{written_more}
-use Rattle.ds_session.proofs.output.write_all.Goals as goal
+use Rattle.ds_output.proofs.TextLaws.{written_more}
+use Rattle.ds_output.proofs.writing.write_all.Goals as goal
 
 pub write-init : goal.write-init
 write-init g c = (omega arith, Appends-nil (g.O.Sink.held c.args.output.now), refl)

@@ -3,8 +3,8 @@ use Rattle.std.specs.Prelude.{IsTrue, ℕ}
 use Rattle.std.proofs.lemmas.Result.{IfOk-weaker}
 use Rattle.ds_base.specs.Keys.{KeyParts, ends_in_id, renumbered}
 use Rattle.ds_base.specs.Limits.{greatest_id}
-use Rattle.ds_session.proofs.AloneLaws.{ends_renumbered, renumbered_twice}
-use Rattle.ds_session.proofs.writes.prepare_key.Goals as goal
+use Rattle.ds_output.proofs.LastIds.{ends_renumbered, renumbered_twice}
+use Rattle.ds_output.proofs.written.prepare_key.Goals as goal
 
 pub returns-clause-ends : goal.returns-clause-ends
 returns-clause-ends c =

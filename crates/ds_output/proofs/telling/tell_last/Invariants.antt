@@ -1,5 +1,5 @@
 use Rattle.std.proofs.Common.{◌≡◌}
-use Rattle.ds_session.proofs.state.tell_last.Given as goal
+use Rattle.ds_output.proofs.telling.tell_last.Given as goal
 
 -- nothing is written yet
 abbrev pub invariant-loop : goal.invariant-loop

@@ -1,8 +1,8 @@
 use Rattle.std.proofs.Common.{◌≡◌, ◌+◌, ◌-◌, ◌≤◌, List, ℕ, ◌∙◌, ap, arith, drop, length, subst, sym, take}
 use Rattle.std.specs.Prelude.{slice_get}
 use Rattle.ds_base.specs.Buffers.{BufferParts}
-use Rattle.ds_session.proofs.TextLaws.{all_bytes, bytes-left, get-first, get-later, get-there, rest_from}
-use Rattle.ds_session.proofs.unsent.Unsent.byte.Goals as goal
+use Rattle.ds_output.proofs.TextLaws.{all_bytes, bytes-left, get-first, get-later, get-there, rest_from}
+use Rattle.ds_output.proofs.unsent.Unsent.byte.Goals as goal
 
 pub returns-then-i-rest : goal.returns-then-i-rest
 returns-then-i-rest c =

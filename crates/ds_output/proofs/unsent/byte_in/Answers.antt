@@ -1,7 +1,7 @@
 use Rattle.std.proofs.Common.{◌∙◌, ap, arith, length, sym}
 use Rattle.std.specs.Prelude.{slice_get}
-use Rattle.ds_session.proofs.TextLaws.{byte-found, byte-passed, get-there}
-use Rattle.ds_session.proofs.unsent.byte_in.Goals as goal
+use Rattle.ds_output.proofs.TextLaws.{byte-found, byte-passed, get-there}
+use Rattle.ds_output.proofs.unsent.byte_in.Goals as goal
 
 pub returns-then-left-bytes : goal.returns-then-left-bytes
 returns-then-left-bytes c =

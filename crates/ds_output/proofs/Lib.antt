@@ -1,0 +1,2 @@
+pub mod LastIds
+pub mod TextLaws

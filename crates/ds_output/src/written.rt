@@ -1,0 +1,83 @@
+//! What the reply to a write says.
+ghost use Rattle.std.specs.Prelude.{◌≡◌, ◌≤◌, ℕ, IfOk, IsTrue};
+ghost use Rattle.ds_base.specs.Keys.{KeyParts, ends_in_id, renumbered};
+ghost use Rattle.ds_log.specs.declared.Write.TheVariants as write;
+ghost use Rattle.ds_reply.specs.declared.reply.Body.{Body};
+ghost use Rattle.ds_reply.specs.declared.reply.WriteAt.{WriteAt};
+ghost use Rattle.ds_output.specs.Writes.{written_body};
+
+use ds_base::limits::MAX_ID;
+use ds_base::{Buffer, Key, NoMemory, TryCopy};
+use ds_log::Write;
+use ds_protocol::make_room;
+use ds_reply::{Body, Reply, WriteAt};
+use std::alloc::{AllocError, Global};
+
+/// What the reply to a write says, at a place. A refusal is want of memory.
+pub fn body_of(alloc: Global, write: &Write, at: WriteAt) -> Result<Body, NoMemory>
+    ensures { IfOk result (λ b. b ≡ written_body write.now at) }
+{
+    let key = write.key().copy(alloc)?;
+    Ok(match write {
+        Write::Put(_) => Body::Put { key, at },
+        Write::Delete(_) => Body::Delete { key, at },
+    })
+}
+
+/// The same, at this place.
+pub fn placed(body: Body, at: WriteAt) -> Body
+    ensures { (write : Write) (before : WriteAt) → body ≡ written_body write before → result ≡ written_body write at }
+{
+    match body {
+        Body::Put { key, at: _ } => Body::Put { key, at },
+        Body::Delete { key, at: _ } => Body::Delete { key, at },
+        other => other,
+    }
+}
+
+/// The key that the reply to a put with a new id tells, but for that id; there is then room for the reply. A refusal is want of memory.
+pub fn prepare_key(
+    alloc: Global,
+    client: u32,
+    number: u64,
+    key: &Key,
+    at: WriteAt,
+    keep: usize,
+    text: &mut Buffer,
+) -> Result<Key, NoMemory>
+    requires { IsTrue (ends_in_id key.now.elems) }
+    ensures ends { IfOk result (λ k. IsTrue (ends_in_id k.elems)) }
+    ensures key { IfOk result (λ k. (id : ℕ) → renumbered k id ≡ renumbered key.now id) }
+    ensures same { text.new.bytes ≡ text.old.bytes }
+    ensures kept { text.old.spare ≤ text.new.spare }
+{
+    let mut longest_key = key.copy(alloc)?;
+    longest_key.renumber(MAX_ID);
+    let longest = Reply {
+        client,
+        line: number,
+        body: Body::Put {
+            key: longest_key,
+            at,
+        },
+    };
+    if !make_room(&longest, keep, text) {
+        return Err(AllocError);
+    }
+    let Reply {
+        client: _,
+        line: _,
+        body,
+    } = longest;
+    key_in(body)
+}
+
+/// The key that the reply to a put tells; there is none in any other.
+fn key_in(body: Body) -> Result<Key, NoMemory>
+    ensures { (key : KeyParts) (at : WriteAt) → body ≡ Body.Put key at → IfOk result (λ k. k ≡ key) }
+{
+    match body {
+        Body::Put { key, at: _at } => Ok(key),
+        _other => Err(AllocError),
+    }
+}
