@@ -10,7 +10,8 @@ use Rattle.ds_request.specs.declared.call.Call.{Call}
 use Rattle.ds_request.specs.declared.call.Call.TheVariants as call
 use Rattle.ds_request.specs.declared.call.Request.{Request}
 use Rattle.ds_model.specs.Sessions.{Session, count_of}
-use Rattle.ds_plans.specs.Due.{GatheredParts, IsGathered, AppliedWithin, ids_of, ids_from}
+use Rattle.ds_plans.specs.Due.{IsGathered, AppliedWithin, ids_of, ids_from}
+use Rattle.ds_steps.specs.Taken.{GatheredParts}
 use Rattle.ds_protocol.specs.Operations.{ids_asked}
 use Rattle.ds_plans.specs.States.{StoreParts, StateParts, IsSession, Grows, AreUpTo}
 use Rattle.ds_plans.proofs.Gatherings.{gathered-applied, gathered-first, gathered-nothing, gathered-place, gathered-view}

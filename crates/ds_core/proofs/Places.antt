@@ -8,7 +8,8 @@ use Rattle.ds_log.specs.declared.Touch.{Touch}
 use Rattle.ds_log.specs.Touches.{touch_place}
 use Rattle.ds_model.specs.Groups.{IsSeenPlace, place_in}
 use Rattle.ds_model.specs.Sessions.{Session, Transaction}
-use Rattle.ds_plans.specs.Due.{AreViewed, GatheredParts}
+use Rattle.ds_plans.specs.Due.{AreViewed}
+use Rattle.ds_steps.specs.Taken.{GatheredParts}
 use Rattle.ds_plans.specs.States.{StateParts, StoreParts, IsSession, IsTransaction}
 use Rattle.ds_core.specs.declared.opened.Open.{Open}
 use Rattle.ds_core.specs.Machines.{IsOpen}

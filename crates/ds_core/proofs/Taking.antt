@@ -10,8 +10,8 @@ use Rattle.ds_reply.specs.declared.reply.Body.{Body}
 use Rattle.ds_reply.specs.declared.reply.Body.TheVariants as body
 use Rattle.ds_model.specs.Sessions.{Session, count_of, raised_at}
 use Rattle.ds_plans.specs.declared.effect.Effect.{Effect}
-use Rattle.ds_plans.specs.declared.gathered.Step.{Step}
-use Rattle.ds_plans.specs.declared.gathered.Step.TheVariants as steps
+use Rattle.ds_steps.specs.declared.gathered.Step.{Step}
+use Rattle.ds_steps.specs.declared.gathered.Step.TheVariants as steps
 use Rattle.ds_plans.specs.States.{StoreParts, StateParts}
 use Rattle.ds_plans.specs.Told.{IsTold}
 use Rattle.ds_protocol.specs.declared.operations.Operation.{Operation}

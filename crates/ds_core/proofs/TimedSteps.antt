@@ -9,8 +9,8 @@ use Rattle.ds_model.specs.Sessions.{Session, count_of}
 use Rattle.ds_plans.specs.declared.effect.Effect.{Effect}
 use Rattle.ds_plans.specs.Due.{counts_applied, is_pending}
 use Rattle.ds_plans.specs.States.{StateParts}
-use Rattle.ds_plans.specs.declared.gathered.Step.{Step}
-use Rattle.ds_plans.specs.declared.gathered.Step.TheVariants as steps
+use Rattle.ds_steps.specs.declared.gathered.Step.{Step}
+use Rattle.ds_steps.specs.declared.gathered.Step.TheVariants as steps
 use Rattle.ds_protocol.specs.declared.operations.Operation.{Operation}
 use Rattle.ds_protocol.specs.declared.operations.OperationRefused.{OperationRefused}
 use Rattle.ds_core.specs.declared.opened.Open.{Open}

@@ -25,9 +25,10 @@ use Rattle.ds_model.specs.Sessions.{Session, Transaction, count_of}
 use Rattle.ds_model.specs.Worlds.{World}
 use Rattle.ds_model.proofs.OkReplies.{OkAnswers, ok_answers}
 use Rattle.ds_plans.specs.declared.effect.Effect.{Effect}
-use Rattle.ds_plans.specs.declared.gathered.Step.{Step}
-use Rattle.ds_plans.specs.declared.gathered.Step.TheVariants as steps
-use Rattle.ds_plans.specs.Due.{GatheredParts, IsDue, ids_from, ids_of}
+use Rattle.ds_steps.specs.declared.gathered.Step.{Step}
+use Rattle.ds_steps.specs.declared.gathered.Step.TheVariants as steps
+use Rattle.ds_plans.specs.Due.{IsDue, ids_from, ids_of}
+use Rattle.ds_steps.specs.Taken.{GatheredParts}
 use Rattle.ds_protocol.specs.Operations.{ids_asked}
 use Rattle.ds_plans.specs.Effects.{store_after, session_after}
 use Rattle.ds_plans.specs.States.{StoreParts, world}

@@ -6,8 +6,8 @@ use Rattle.ds_log.specs.declared.Commit.{Commit}
 use Rattle.ds_model.specs.Sessions.{Session, count_of, raised_at}
 use Rattle.ds_plans.specs.Due.{counts_applied, is_pending}
 use Rattle.ds_plans.specs.States.{StoreParts, StateParts}
-use Rattle.ds_plans.specs.declared.gathered.Step.{Step}
-use Rattle.ds_plans.specs.declared.gathered.Step.TheVariants as steps
+use Rattle.ds_steps.specs.declared.gathered.Step.{Step}
+use Rattle.ds_steps.specs.declared.gathered.Step.TheVariants as steps
 use Rattle.ds_core.specs.declared.opened.Open.{Open}
 use Rattle.ds_core.specs.Happenings.{Happening, moment_of}
 use Rattle.ds_core.specs.Machines.{MachineParts}

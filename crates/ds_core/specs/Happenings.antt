@@ -8,7 +8,7 @@ use Rattle.ds_log.specs.declared.Commit.{Commit}
 use Rattle.ds_request.specs.declared.call.Request.{Request}
 use Rattle.ds_reply.specs.declared.reply.Reply.{Reply}
 use Rattle.ds_model.specs.Sessions.{first_id}
-use Rattle.ds_plans.specs.declared.gathered.Step.{Step}
+use Rattle.ds_steps.specs.declared.gathered.Step.{Step}
 use Rattle.ds_core.specs.declared.event.Event.{Event}
 use Rattle.ds_core.specs.declared.opened.Open.{Open}
 use Rattle.ds_core.specs.Machines.{MachineParts}

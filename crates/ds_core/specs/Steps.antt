@@ -5,7 +5,7 @@ use Rattle.ds_base.specs.Keys.{KeyParts}
 use Rattle.ds_request.specs.declared.call.Call.TheVariants as call
 use Rattle.ds_model.specs.Groups.{place_in}
 use Rattle.ds_model.specs.Sessions.{Session}
-use Rattle.ds_plans.specs.Due.{GatheredParts}
+use Rattle.ds_steps.specs.Taken.{GatheredParts}
 use Rattle.ds_protocol.specs.Operations.{ids_asked}
 use Rattle.ds_plans.specs.States.{StateParts}
 use Rattle.ds_core.specs.declared.opened.Open.{Open}

@@ -3,7 +3,7 @@ ghost use Rattle.std.specs.Prelude.{◌≡◌, ◌≢◌, ◌≤◌, ◌<◌, []
 ghost use Rattle.std.specs.Prelude.{IfOk, IfSome, OnOk};
 ghost use Rattle.ds_base.specs.Limits.{greatest_client, most_shards};
 ghost use Rattle.ds_model.specs.Sessions.{Session};
-ghost use Rattle.ds_plans.specs.declared.gathered.Step.{Step};
+ghost use Rattle.ds_steps.specs.declared.gathered.Step.{Step};
 ghost use Rattle.ds_plans.specs.Effects.{IsAllowed};
 ghost use Rattle.ds_core.specs.declared.opened.Open.{Open};
 ghost use Rattle.ds_core.specs.Courses.{IsPast};

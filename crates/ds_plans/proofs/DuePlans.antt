@@ -43,7 +43,8 @@ use Rattle.ds_protocol.specs.declared.searching.Search.{Search}
 use Rattle.ds_protocol.specs.Searches.{IsSearchOf}
 use Rattle.ds_plans.specs.Answered.{IsPlan}
 use Rattle.ds_plans.specs.Queries.{IsPrepared, told_over}
-use Rattle.ds_plans.specs.Due.{GatheredParts, IsDue, IsDuePlan, IsGathered, AreViewed, AreCovering, counts_applied, ids_of, ids_from}
+use Rattle.ds_plans.specs.Due.{IsDue, IsDuePlan, IsGathered, AreViewed, AreCovering, counts_applied, ids_of, ids_from}
+use Rattle.ds_steps.specs.Taken.{GatheredParts}
 use Rattle.ds_plans.specs.Due.{is_pending}
 use Rattle.ds_plans.specs.Effects.{store_after, session_after}
 use Rattle.ds_plans.specs.Reads.{IsPulled}

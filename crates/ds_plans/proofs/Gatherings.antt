@@ -13,7 +13,8 @@ use Rattle.ds_model.specs.Sessions.{Session, count_of}
 use Rattle.ds_model.specs.Worlds.{shard_lists}
 use Rattle.ds_model.proofs.LongerJournals.{body-grown}
 use Rattle.ds_plans.specs.declared.effect.Effect.{Effect}
-use Rattle.ds_plans.specs.Due.{GatheredParts, IsDue, IsGathered, AppliedWithin, AreViewed}
+use Rattle.ds_plans.specs.Due.{IsDue, IsGathered, AppliedWithin, AreViewed}
+use Rattle.ds_steps.specs.Taken.{GatheredParts}
 use Rattle.ds_protocol.specs.Operations.{ids_asked}
 use Rattle.ds_plans.specs.Effects.{store_after, session_after}
 use Rattle.ds_plans.specs.States.{StateParts, AreUpTo, Grows, world}

@@ -24,7 +24,8 @@ use Rattle.ds_plans.specs.declared.effect.Effect.{Effect}
 use Rattle.ds_plans.specs.declared.effect.Effect.TheVariants as effect
 use Rattle.ds_plans.specs.declared.effect.Plan.{Plan}
 use Rattle.ds_plans.specs.Answered.{IsPlan, IsPlanFor}
-use Rattle.ds_plans.specs.Due.{GatheredParts, IsDueFor, IsDuePlan, IsGathered, AppliedWithin, ids_of}
+use Rattle.ds_plans.specs.Due.{IsDueFor, IsDuePlan, IsGathered, AppliedWithin, ids_of}
+use Rattle.ds_steps.specs.Taken.{GatheredParts}
 use Rattle.ds_plans.specs.States.{StateParts}
 use Rattle.ds_plans.proofs.DuePlans.{due_search, search_ids}
 use Rattle.ds_plans.proofs.Plans.{memory_as, refused_as}

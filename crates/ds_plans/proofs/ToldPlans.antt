@@ -28,13 +28,13 @@ use Rattle.ds_plans.specs.declared.effect.Effect.TheVariants as effect
 use Rattle.ds_plans.specs.declared.effect.GroupRead.{GroupRead}
 use Rattle.ds_plans.specs.declared.effect.GroupWrite.{GroupWrite}
 use Rattle.ds_plans.specs.declared.effect.WriteCommit.{WriteCommit}
-use Rattle.ds_plans.specs.declared.gathered.Step.{Step}
-use Rattle.ds_plans.specs.declared.gathered.Step.TheVariants as steps
-use Rattle.ds_plans.specs.Due.{GatheredParts}
+use Rattle.ds_steps.specs.declared.gathered.Step.{Step}
+use Rattle.ds_steps.specs.declared.gathered.Step.TheVariants as steps
+use Rattle.ds_steps.specs.Taken.{GatheredParts}
 use Rattle.ds_plans.specs.Effects.{ids_drawn, store_after, session_after, with_write}
 use Rattle.ds_plans.specs.Queries.{told_over}
 use Rattle.ds_plans.specs.States.{StateParts}
-use Rattle.ds_plans.specs.Taken.{is_commit, is_view, is_placed}
+use Rattle.ds_steps.specs.Taken.{is_commit, is_view, is_placed}
 use Rattle.ds_protocol.specs.Transactions.{HasTouched}
 use Rattle.ds_plans.specs.Told.{AreNumbersOf, IsPlaceOf, IsSeenBy, IsTold, StandsOncePlaced, ToldAlways, ToldOnceDue}
 use Rattle.ds_plans.specs.Told.{WriteToldOnceDue, is_refusal, is_silent}

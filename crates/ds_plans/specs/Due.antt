@@ -21,14 +21,7 @@ use Rattle.ds_protocol.specs.Searches.{IsSearchOf}
 use Rattle.ds_plans.specs.declared.effect.Effect.{Effect}
 use Rattle.ds_plans.specs.Effects.{IsAllowed, store_after, session_after}
 use Rattle.ds_plans.specs.States.{StateParts, world}
-
--- the journal's length at the request's Touch, the first of the ids that its Issue drew, the count that its Apply raised the shard's to,
--- and for each shard its count at a View
-pub record GatheredParts : Type 0 where
-  pub place : Option ℕ
-  pub first : Option ℕ
-  pub applied : Option ℕ
-  pub views : List (Option ℕ)
+use Rattle.ds_steps.specs.Taken.{GatheredParts}
 
 abbrev pub ids_from : ℕ → Option ℕ → List ℕ
 ids_from count None = []

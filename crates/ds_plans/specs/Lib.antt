@@ -4,6 +4,5 @@ pub mod Effects
 pub mod Queries
 pub mod Reads
 pub mod States
-pub mod Taken
 pub mod Told
 pub mod WritePlans

@@ -12,14 +12,14 @@ use Rattle.ds_model.specs.Sessions.{Session, count_of}
 use Rattle.ds_plans.specs.declared.effect.Effect.{Effect}
 use Rattle.ds_plans.specs.declared.effect.Effect.TheVariants as effect
 use Rattle.ds_plans.specs.declared.effect.GroupRead.{GroupRead}
-use Rattle.ds_plans.specs.declared.gathered.Step.{Step}
-use Rattle.ds_plans.specs.declared.gathered.Step.TheVariants as steps
-use Rattle.ds_plans.specs.Due.{GatheredParts}
+use Rattle.ds_steps.specs.declared.gathered.Step.{Step}
+use Rattle.ds_steps.specs.declared.gathered.Step.TheVariants as steps
+use Rattle.ds_steps.specs.Taken.{GatheredParts}
 use Rattle.ds_protocol.specs.Refused.{tells_no_step}
 use Rattle.ds_plans.specs.Effects.{store_after, session_after}
 use Rattle.ds_plans.specs.Reads.{IsReached}
 use Rattle.ds_plans.specs.States.{StateParts}
-use Rattle.ds_plans.specs.Taken.{is_placed, is_write_due}
+use Rattle.ds_steps.specs.Taken.{is_placed, is_write_due}
 
 -- the place is that of the request's Touch, or one at which the client's transaction touched a group
 abbrev pub IsPlaceOf : Session → GatheredParts → ℕ → Type 0

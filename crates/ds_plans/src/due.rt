@@ -8,20 +8,21 @@ ghost use Rattle.ds_model.specs.Answers.{AppliedCount};
 ghost use Rattle.ds_model.specs.Groups.{IsSeenPlace};
 ghost use Rattle.ds_model.specs.Refusals.{refusal_of};
 ghost use Rattle.ds_model.specs.Sessions.{count_of};
-ghost use Rattle.ds_plans.specs.declared.gathered.Step.{Step};
-ghost use Rattle.ds_plans.specs.Due.{AreCovering, GatheredParts, IsDueFor, IsDuePlan, IsGathered, ids_of};
+ghost use Rattle.ds_steps.specs.declared.gathered.Step.{Step};
+ghost use Rattle.ds_plans.specs.Due.{AreCovering, IsDueFor, IsDuePlan, IsGathered, ids_of};
+ghost use Rattle.ds_steps.specs.Taken.{GatheredParts};
 ghost use Rattle.ds_plans.specs.Reads.{IsPulled};
 ghost use Rattle.ds_plans.specs.States.{AreUpTo, IsSession};
 ghost use Rattle.ds_plans.specs.Told.{AreViewsOf, IsTold, ToldByNumbers, ToldSettled};
 
 use crate::effect::{CountSeen, CountsSeen, Effect, Plan};
-use crate::gathered::{Gathered, Step};
 use crate::session::Session;
 use crate::state::State;
 use ds_base::limits::MAX_ID;
 use ds_base::{Counts, TryCopy};
 use ds_protocol::{Operation, OperationRefused, refusal_of};
 use ds_reply::Body;
+use ds_steps::{Gathered, Step};
 use std::alloc::Global;
 
 impl State {

@@ -5,7 +5,7 @@ ghost use Rattle.ds_base.specs.Keys.{root_of};
 ghost use Rattle.ds_request.specs.declared.call.Call.{Call};
 ghost use Rattle.ds_model.specs.Groups.{ReadsAt, group_refusal};
 ghost use Rattle.ds_protocol.specs.Searches.{IsLawfulSearch, IsSearchOf};
-ghost use Rattle.ds_plans.specs.declared.gathered.Step.{Step};
+ghost use Rattle.ds_steps.specs.declared.gathered.Step.{Step};
 ghost use Rattle.ds_plans.specs.Due.{IsDuePlan, IsGathered};
 ghost use Rattle.ds_plans.specs.Queries.{IsPrepared};
 ghost use Rattle.ds_plans.specs.Reads.{IsPulled, IsReached};
@@ -16,13 +16,13 @@ ghost use Rattle.ds_protocol.specs.Refused.{tells_no_step};
 ghost use Rattle.ds_plans.specs.Answered.{IsPlan};
 
 use crate::effect::{CountsSeen, Effect, GroupRead, Plan};
-use crate::gathered::{Gathered, Step};
 use crate::session::Session;
 use crate::state::State;
 use ds_base::{Counts, Key, NoMemory, TryCopy};
 use ds_log::shard_of;
 use ds_protocol::{Ready, Search, group_of, prepare};
 use ds_reply::Body;
+use ds_steps::{Gathered, Step};
 use std::alloc::Global;
 
 impl State {

@@ -9,17 +9,17 @@ ghost use Rattle.ds_plans.specs.Due.{IsDuePlan, IsGathered, ids_of};
 ghost use Rattle.ds_plans.specs.Effects.{store_after};
 ghost use Rattle.ds_plans.specs.Answered.{IsPlan};
 ghost use Rattle.ds_plans.specs.States.{IsSession};
-ghost use Rattle.ds_plans.specs.Taken.{is_write_due};
+ghost use Rattle.ds_steps.specs.Taken.{is_write_due};
 ghost use Rattle.ds_plans.specs.Told.{IsTold, ToldAlways, is_silent};
 ghost use Rattle.ds_plans.specs.WritePlans.{IsChecked, IsWritable, SaysWrite};
 
 use crate::effect::{Effect, Plan};
-use crate::gathered::{Gathered, Step};
 use crate::session::Session;
 use crate::state::State;
 use ds_base::limits::MAX_ID;
 use ds_base::{Entity, Key, NoMemory, TryCopy};
 use ds_reply::Body;
+use ds_steps::{Gathered, Step};
 use std::alloc::Global;
 
 impl State {

@@ -1,7 +1,7 @@
 use Rattle.std.proofs.Common.{◌≡◌, ◌∙◌, ◌<◌, ap, arith, get_or, length, subst, sym, None, true}
 use Rattle.std.specs.Prelude.{Option, is_some}
 use Rattle.ds_core.specs.declared.opened.Open.{Open}
-use Rattle.ds_plans.specs.declared.gathered.Step.TheVariants as step
+use Rattle.ds_steps.specs.declared.gathered.Step.TheVariants as step
 use Rattle.ds_core.specs.Machines.{MachineParts}
 use Rattle.ds_core.proofs.Clients.{client-open}
 use Rattle.ds_core.proofs.Turns.{goes-turn-ok, open-asks, read-here}

@@ -4,7 +4,7 @@ use Rattle.ds_base.specs.Keys.{KeyParts, is_key}
 use Rattle.ds_model.specs.Groups.{ReadsAt, group_refusal}
 use Rattle.ds_model.specs.Sessions.{Session}
 use Rattle.ds_plans.specs.declared.effect.GroupRead.{GroupRead}
-use Rattle.ds_plans.specs.Due.{GatheredParts}
+use Rattle.ds_steps.specs.Taken.{GatheredParts}
 use Rattle.ds_plans.specs.Reads.{IsReached}
 use Rattle.ds_plans.specs.States.{StateParts, StoreParts}
 use Rattle.ds_plans.specs.Told.{IsGroupRead, IsPlaceOf}

@@ -7,7 +7,8 @@ use Rattle.ds_request.specs.declared.call.Call.TheVariants as call
 use Rattle.ds_reply.specs.declared.reply.Body.TheVariants as body
 use Rattle.ds_model.specs.Sessions.{Session}
 use Rattle.ds_plans.specs.declared.effect.Plan.{Plan}
-use Rattle.ds_plans.specs.Due.{GatheredParts, IsDuePlan, IsGathered, ids_from}
+use Rattle.ds_plans.specs.Due.{IsDuePlan, IsGathered, ids_from}
+use Rattle.ds_steps.specs.Taken.{GatheredParts}
 use Rattle.ds_plans.specs.States.{StateParts}
 use Rattle.ds_plans.specs.WritePlans.{IsChecked, IsWritable, SaysWrite}
 use Rattle.ds_plans.proofs.DuePlans.{id_due, id_writable, numbered}

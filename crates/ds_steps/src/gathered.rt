@@ -31,7 +31,7 @@ pub enum Step {
 }
 
 impl Step {
-    ghost use Rattle.ds_plans.specs.Taken.{is_commit, is_issue, is_view};
+    ghost use Rattle.ds_steps.specs.Taken.{is_commit, is_issue, is_view};
 
     /// Whether it is a Commit.
     pub fn is_commit(&self) -> bool
@@ -74,7 +74,7 @@ pub struct Gathered {
 }
 
 impl Model for Gathered {
-    ghost use Rattle.ds_plans.specs.Due.{GatheredParts};
+    ghost use Rattle.ds_steps.specs.Taken.{GatheredParts};
 
     ghost Value = { GatheredParts };
 
@@ -82,7 +82,7 @@ impl Model for Gathered {
 }
 
 impl Gathered {
-    ghost use Rattle.ds_plans.specs.Taken.{is_viewed};
+    ghost use Rattle.ds_steps.specs.Taken.{is_viewed};
 
     /// Nothing yet, of so many shards. A refusal is want of memory.
     pub fn nothing(alloc: Global, shards: u32) -> Result<Gathered, NoMemory>

@@ -1,11 +1,18 @@
 -- Which step was taken, and what of a request was gathered by it.
-use Rattle.std.specs.Prelude.{ℕ, Bool, true, false, ◌==◌, ◌||◌, None, cond, is_some, slice_index_or}
+use Rattle.std.specs.Prelude.{ℕ, List, Option, Bool, true, false, ◌==◌, ◌||◌, None, cond, is_some, slice_index_or}
 use Rattle.ds_base.specs.Keys.{KeyParts}
 use Rattle.ds_model.specs.Groups.{place_in}
 use Rattle.ds_model.specs.Sessions.{Session}
-use Rattle.ds_plans.specs.declared.gathered.Step.{Step}
-use Rattle.ds_plans.specs.declared.gathered.Step.TheVariants as steps
-use Rattle.ds_plans.specs.Due.{GatheredParts}
+use Rattle.ds_steps.specs.declared.gathered.Step.{Step}
+use Rattle.ds_steps.specs.declared.gathered.Step.TheVariants as steps
+
+-- the journal's length at the request's Touch, the first of the ids that its Issue drew, the count that its Apply raised the shard's to,
+-- and for each shard its count at a View
+pub record GatheredParts : Type 0 where
+  pub place : Option ℕ
+  pub first : Option ℕ
+  pub applied : Option ℕ
+  pub views : List (Option ℕ)
 
 -- the journal takes a commit
 abbrev pub is_commit : Step → Bool

@@ -1,7 +1,7 @@
 use Rattle.std.proofs.Common.{◌≡◌, Some, map, take, true}
 use Rattle.std.specs.List.{list_all}
 use Rattle.std.specs.Option.{is_some}
-use Rattle.ds_plans.proofs.gathered.all_viewed.Given as goal
+use Rattle.ds_steps.proofs.gathered.all_viewed.Given as goal
 
 -- those so far
 abbrev pub invariant-loop-view : goal.invariant-loop-view
