@@ -36,7 +36,7 @@ use Rattle.ds_protocol.specs.Watermarks.{HaveCounts}
 use Rattle.ds_session.proofs.ClosingLaws.{idle_first, legal_run}
 use Rattle.ds_session.proofs.RoundLaws.{run_more, run_nothing}
 use Rattle.ds_store.specs.Ending.{Begins, HaveEnded}
-use Rattle.ds_store.specs.Opening.{nothing_seen}
+use Rattle.ds_store.specs.Passes.{nothing_seen}
 use Rattle.ds_store.specs.Passes.{PassParts}
 use Rattle.ds_model.specs.Legal.{Legal}
 use Rattle.ds_model.specs.Sessions.{first_session, first_sessions}

@@ -8,7 +8,8 @@ ghost use Rattle.ds_serve.specs.RunSteps.{HasEnded, IsRunOf};
 ghost use Rattle.ds_session.specs.Clients.{AreNew};
 ghost use Rattle.ds_session.specs.Runs.{AreWritten, IsIdle, seen_of};
 ghost use Rattle.ds_store.specs.Ending.{HaveEnded};
-ghost use Rattle.ds_store.specs.Opening.{AreBegun, AreNamesOf, nothing_seen};
+ghost use Rattle.ds_store_hubs.specs.Opening.{AreBegun, AreNamesOf};
+ghost use Rattle.ds_store.specs.Passes.{nothing_seen};
 
 use crate::appliers::with_appliers;
 use crate::outcome::{Run, nothing_run};

@@ -15,7 +15,7 @@ use Rattle.ds_model.specs.Asked.{asked}
 use Rattle.ds_model.specs.Legal.{Legal, RoundsSteps, acknowledged, accepted, printed_next, drawn_in, answered_lines}
 use Rattle.ds_model.specs.Sessions.{first_id, first_sessions}
 use Rattle.ds_store.specs.Ending.{HaveEnded, Begins, commits_of_all, draws_of_all}
-use Rattle.ds_store.specs.Opening.{nothing_seen}
+use Rattle.ds_store.specs.Passes.{nothing_seen}
 use Rattle.ds_store.specs.Passes.{PassParts, HasRead}
 use Rattle.ds_session.specs.Runs.{HasRun, AllBegin, IsIdle, passes_of, seen_of}
 use Rattle.ds_session.specs.Sessions.{SessionParts}

@@ -7,7 +7,7 @@ use Rattle.std.proofs.lemmas.List.{length-replicate}
 use Rattle.std.proofs.lemmas.List.Elements.{All-nil, All-cons, All-head, All-tail}
 use Rattle.ds_base.specs.Limits.{greatest_client}
 use Rattle.ds_model.specs.Sessions.{Session, first_session}
-use Rattle.ds_store.specs.Opening.{nothing_seen}
+use Rattle.ds_store.specs.Passes.{nothing_seen}
 use Rattle.ds_store.specs.Passes.{PassParts}
 use Rattle.ds_session.specs.Clients.{AreNew, AreSeated, clients_of}
 use Rattle.ds_session.specs.Runs.{AreWritten, passes_of, seen_of}

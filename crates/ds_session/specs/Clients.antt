@@ -6,7 +6,7 @@ use Rattle.ds_base.specs.Limits.{greatest_client}
 use Rattle.ds_indexdef.specs.declared.IndexDef.{IndexDef}
 use Rattle.ds_rounds.specs.Rounds.{NumberedLine}
 use Rattle.ds_model.specs.Sessions.{first_sessions}
-use Rattle.ds_store.specs.Opening.{nothing_seen}
+use Rattle.ds_store.specs.Passes.{nothing_seen}
 use Rattle.ds_session.specs.Answering.{HasAnswered}
 use Rattle.ds_session.specs.AskedLines.{AreAsked, MayBeAnswered}
 use Rattle.ds_session.specs.Room.{most_no_memory}

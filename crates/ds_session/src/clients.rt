@@ -11,7 +11,7 @@ ghost use Rattle.ds_session.specs.Clients.{AreAlike, AreSeated, EachOf, HasAnswe
 ghost use Rattle.ds_session.specs.Room.{most_no_memory};
 ghost use Rattle.ds_session.specs.Runs.{AreWritten, HasTaken, HaveRun, seen_of};
 ghost use Rattle.ds_output.specs.Unsent.{AreEmpty};
-ghost use Rattle.ds_store.specs.Opening.{nothing_seen};
+ghost use Rattle.ds_store.specs.Passes.{nothing_seen};
 
 use crate::asked::{Asked, asked_by_client};
 use crate::session::Session;

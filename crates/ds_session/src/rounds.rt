@@ -7,7 +7,7 @@ ghost use Rattle.ds_rounds.specs.Reading.{IsRound};
 ghost use Rattle.ds_rounds.specs.Rounds.{lines_of_round};
 ghost use Rattle.ds_session.specs.Clients.{AreAlike, AreNew, IsCut};
 ghost use Rattle.ds_session.specs.Runs.{AreWritten, HaveRun, passes_of, seen_of, texts_of};
-ghost use Rattle.ds_store.specs.Opening.{nothing_seen};
+ghost use Rattle.ds_store.specs.Passes.{nothing_seen};
 
 use crate::clients::{CLIENTS, Client, clear_texts, first_marks, run_clients, seated, take_texts};
 use crate::output::Cut;

@@ -8,7 +8,7 @@ use Rattle.ds_log.specs.declared.Write.{Write}
 use Rattle.ds_log.specs.Logs.{commit_entries, entries_from, group_writes, groups_of, shard_list}
 use Rattle.ds_log.specs.Shards.{shard_of}
 use Rattle.ds_log.specs.UpTo.{commits_of, last_number}
-use Rattle.ds_store.specs.Rising.{Rises}
+use Rattle.ds_store_hubs.specs.Rising.{Rises}
 
 lower : (m n : ℕ) (es : List Entry) → m ≤ n → Rises n es → Rises m es
 lower m n [] le h = tt

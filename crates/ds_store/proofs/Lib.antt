@@ -2,7 +2,6 @@ pub mod Growing
 pub mod Seeing
 pub mod Appending
 pub mod Ended
-pub mod ShardHubs
 pub mod HandedOut
 pub mod AllSeats
 pub mod EntryOrder

@@ -10,7 +10,7 @@ use Rattle.ds_log.specs.declared.Entry.{Entry}
 use Rattle.ds_shard.specs.declared.state.ShardState.{ShardState}
 use Rattle.ds_shard.specs.Shards.{ShardParts}
 use Rattle.ds_engine.specs.Counted.{HasBegun}
-use Rattle.ds_store.specs.Origins.{origin_of, origins}
+use Rattle.ds_store_hubs.specs.Origins.{origin_of, origins}
 use Rattle.ds_store.specs.Passes.{HasRead, PassParts}
 use Rattle.ds_store.proofs.Growing.{longer_itself}
 use Rattle.ds_store.proofs.PassReads.{read_entries}

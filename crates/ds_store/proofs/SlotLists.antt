@@ -12,7 +12,7 @@ use Rattle.ds_indexdef.specs.declared.IndexDef.{IndexDef}
 use Rattle.ds_log.specs.declared.Entry.{Entry}
 use Rattle.ds_model.specs.Sessions.{count_of, list_of}
 use Rattle.ds_shard.specs.Shards.{ShardParts, empty}
-use Rattle.ds_store.specs.Origins.{origin_of, origins}
+use Rattle.ds_store_hubs.specs.Origins.{origin_of, origins}
 use Rattle.ds_store.proofs.Growing.{begins_itself, longer_at}
 
 -- what is written at a place stands there

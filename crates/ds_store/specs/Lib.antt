@@ -1,9 +1,6 @@
 pub mod Passes
-pub mod Origins
 pub mod Answered
-pub mod Opening
 pub mod Ending
-pub mod Rising
 pub mod Standing
 pub mod Found
 pub mod Searched

@@ -1,6 +1,7 @@
 -- What contracts see of a pass, and of the store.
-use Rattle.std.specs.Prelude.{◌≡◌, ℕ, ◌≤◌, List, length, map, All}
+use Rattle.std.specs.Prelude.{◌≡◌, ℕ, ◌≤◌, List, [], length, map, replicate, All}
 use mathlib.Core.List.{IsPrefix}
+use Rattle.ds_base.specs.Limits.{first_drawn_id}
 use Rattle.ds_hub.specs.Growing.{AreLonger}
 use Rattle.ds_log.specs.declared.Commit.{Commit}
 use Rattle.ds_log.specs.declared.Entry.{Entry}
@@ -19,6 +20,11 @@ pub record PassParts : Type 0 where
   -- the numbers of its own commits, and the ids that it drew
   pub commits : List ℕ
   pub draws : List ℕ
+
+-- a pass that has seen nothing, and done nothing
+abbrev pub nothing_seen : ℕ → PassParts
+nothing_seen shards =
+    record { journal = []; lists = replicate shards []; place = 0; next = first_drawn_id; commits = []; draws = [] }
 
 -- how many entries of each shard it has seen applied
 abbrev pub counts_of : PassParts → List ℕ

@@ -7,11 +7,11 @@ ghost use Rattle.ds_store.specs.Passes.{HasRead, counts_of};
 ghost use Rattle.ds_store.specs.Standing.{IsSettled};
 
 use crate::answers::{Applied, Settled};
-use crate::names::Names;
 use crate::pass::Pass;
 use crate::shard_desk::ShardDesk;
 use crate::store::Store;
 use ds_base::{Counts, NoMemory};
+use ds_store_hubs::Names;
 use std::alloc::AllocError;
 use std::sync::Wait;
 use std::thread;

@@ -9,13 +9,12 @@ ghost use Rattle.ds_store.specs.Ending.{HaveEnded, IsConfirmed, commits_of_all, 
 
 use crate::desk::JournalDesk;
 use crate::making::Passes;
-use crate::names::Names;
 use crate::pass::Pass;
-use crate::seat_room::SeatRoom;
 use crate::shard_desk::ShardDesk;
 use crate::store::Store;
 use ds_draw::{Seat, Seats};
 use ds_log::Journal;
+use ds_store_hubs::{Names, SeatRoom};
 use std::sync::{Mutex, Wait};
 use std::thread;
 

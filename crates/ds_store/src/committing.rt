@@ -7,10 +7,10 @@ ghost use Rattle.ds_store.specs.Answered.{IsAppended, IsConflict, WhereConflict,
 ghost use Rattle.ds_store.specs.Passes.{HasRead};
 
 use crate::answers::{NewCommit, NewRefused};
-use crate::names::Names;
 use crate::pass::Pass;
 use crate::store::Store;
 use ds_journal::{CommitRefused, Draft};
+use ds_store_hubs::Names;
 use std::sync::Wait;
 
 impl<J: Names, H: Wait + Drop> Store<J, H> {

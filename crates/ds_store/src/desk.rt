@@ -1,5 +1,5 @@
 //! What lies under the journal's lock.
-ghost use Rattle.std.specs.Prelude.{◌≡◌, ℕ, ◌+◌, ◌^◌, ◌<◌, ◌≤◌, ◌++◌, ◌∷◌, [], All, IsTrue, IsOk, IfOk, IfErr, OnErr, MatchBool, length};
+ghost use Rattle.std.specs.Prelude.{◌≡◌, ℕ, ◌+◌, ◌<◌, ◌≤◌, ◌∷◌, [], All, IsTrue, IfOk, IfErr, OnErr, length};
 ghost use mathlib.Core.List.{IsPrefix};
 ghost use Rattle.ds_base.specs.Limits.{greatest_id, first_drawn_id, most_commits};
 ghost use Rattle.ds_log.specs.Ids.{AreIssued};
@@ -8,17 +8,15 @@ ghost use Rattle.ds_store.specs.Answered.{HasDrawn, HasLooked, HasSeenNext, IsAp
 ghost use Rattle.ds_store.specs.Passes.{HasRead};
 
 use crate::answers::{NewCause, NewCommit, NewRefused};
-use crate::journal_state::JournalState;
-use crate::names::Names;
 use crate::pass::Pass;
 use ds_base::limits::MAX_ID;
 use ds_draw::{Seat, Word};
-use ds_hub::{HeldWriter, Itself, Tells, Writer};
+use ds_hub::{HeldWriter, Itself, Tells};
 use ds_journal::{Book, CommitCause, CommitRefused, Draft, IdsExhausted};
 use ds_log::Commit;
+use ds_store_hubs::{JournalState, Names, look_up_to, tell};
 use std::marker::PhantomData;
 use std::sync::Wait;
-use std::thread;
 
 /// The two words from which the passes draw.
 #[derive(Drop)]
@@ -216,41 +214,4 @@ impl<'a> Tells<WithId<'a>, Commit> for Renumbered {
     ghost use Rattle.ds_journal.specs.Drafts.{renumbered_commit};
 
     ghost told = { λ w. renumbered_commit w.commit.now w.id };
-}
-
-/// Tells one commit more to the readers of the journal. It says whether it did; it didn't for want of memory, and nothing is changed.
-pub(crate) fn tell<X, M: Tells<X, Commit>, R: Wait>(
-    rt: &R,
-    writer: &mut Writer<(), JournalState>,
-    about: &X,
-) -> bool
-    requires idle { writer.old.pending ≡ [] }
-    requires room { length writer.old.published < 2 ^ 62 }
-    ensures hub { writer.new.hub ≡ writer.old.hub }
-    ensures told { MatchBool result ((writer.new.published ≡ writer.old.published ++ M.told about.now ∷ []) × (writer.new.pending ≡ []))
-        ((writer.new.published ≡ writer.old.published) × (writer.new.pending ≡ [])) }
-{
-    if writer.add_as::<X, M>((), about).is_err() {
-        return false;
-    }
-    writer.take_in_parked(rt);
-    writer.publish(rt).unwrap();
-    true
-}
-
-/// Looks at a word until it isn't below a number, which the seat then knows.
-pub(crate) fn look_up_to<R: Wait>(rt: &R, word: &Word, seat: &mut Seat, least: u64) -> u64
-    requires { seat.old.word ≡ word.now.name }
-    ensures seat { seat.new ≡ record { word = seat.old.word; draws = seat.old.draws; counter = result } }
-    ensures risen { (seat.old.counter ≤ result) × (least ≤ result) }
-    ensures limit { result < 2 ^ 63 }
-{
-    for _ in rt.forever() {
-        let found = word.look(seat);
-        if least <= found {
-            return found;
-        }
-        thread::yield_now();
-    }
-    unreachable!()
 }

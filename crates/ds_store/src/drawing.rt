@@ -5,12 +5,12 @@ ghost use Rattle.ds_log.specs.Ids.{unissued_id};
 ghost use Rattle.ds_store.specs.Answered.{HasLooked, HasDrawn, HasSeenNext, AreAtLeast};
 ghost use Rattle.ds_store.specs.Passes.{HasRead};
 
-use crate::names::Names;
 use crate::pass::Pass;
 use crate::store::Store;
 use ds_base::Counts;
 use ds_base::limits::FIRST_DRAWN_ID;
 use ds_journal::{IdNotIssued, IdsExhausted};
+use ds_store_hubs::Names;
 use std::sync::Wait;
 
 impl<J: Names, H: Wait + Drop> Store<J, H> {

@@ -7,7 +7,7 @@
 //! of commits and the ids are drawn. Contracts see a pass as its lists: the journal's commits, and of each shard the entries.
 //!
 //! Of a value under a lock only its type is known, so the names of all hubs and words are ghost members of the trait `Names`, in
-//! which the types are generic. `open` makes all hubs and words; a function that is generic in `Names` makes the store of them by
+//! which the types are generic (`ds_store_hubs`). `open` makes all hubs and words; a function that is generic in `Names` makes the store of them by
 //! `make`, runs it, and closes it; its caller picks the names, at `Brand`.
 //!
 //! Queries (`searching` for those of all shards, `strong` for those of one group) are answered by `ds_engine`, which knows no lock: a pass
@@ -29,19 +29,14 @@
 
 mod answers;
 mod applying;
-mod arriving;
 mod closing;
 mod committing;
 mod desk;
 mod drawing;
-mod journal_state;
 mod making;
-mod names;
-mod opened;
 mod pass;
 mod reading;
 mod searching;
-mod seat_room;
 mod shard_desk;
 mod standing;
 mod states;
@@ -55,9 +50,7 @@ pub use answers::{
 };
 pub use closing::Closed;
 pub use ds_engine::states::Answer;
-pub use journal_state::JournalState;
+pub use ds_store_hubs::{JournalState, Names, Opened, open};
 pub use making::{Made, Passes, Tail, make};
-pub use names::Names;
-pub use opened::{Opened, open};
 pub use pass::Pass;
 pub use store::Store;

@@ -7,13 +7,11 @@ ghost use Rattle.ds_draw.specs.Draws.{numbers};
 ghost use Rattle.ds_hub.specs.Growing.{AreLonger};
 ghost use Rattle.ds_store.specs.Passes.{OwnSeen};
 
-use crate::desk::look_up_to;
-use crate::journal_state::JournalState;
-use crate::names::Names;
 use ds_draw::{Seat, Word};
 use ds_hub::{Reader, Slot, Writer};
 use ds_log::Entry;
 use ds_shard::ShardState;
+use ds_store_hubs::{JournalState, Names, draw_one, look_up_to, see_all, see_shard_in};
 use std::marker::{Model, PhantomData};
 use std::sync::Wait;
 
@@ -35,7 +33,7 @@ impl<J: Names> Model for Pass<J> {
     ghost use Rattle.std.specs.Prelude.{◌≡◌, ◌≤◌, length, map};
     ghost use Rattle.ds_base.specs.Limits.{first_drawn_id, most_shards};
     ghost use Rattle.ds_hub.specs.Holding.{hub_in, known_in};
-    ghost use Rattle.ds_store.specs.Origins.{origins};
+    ghost use Rattle.ds_store_hubs.specs.Origins.{origins};
     ghost use Rattle.ds_store.specs.Passes.{PassParts, OwnSeen};
 
     ghost Value = { PassParts };
@@ -178,44 +176,4 @@ impl<J: Names> Pass<J> {
         ids.draw_at(rt, &mut self.ids, self.next, count);
         self.next += count;
     }
-}
-
-/// Shows a reader of the journal all commits that are published.
-pub(crate) fn see_all<R: Wait>(
-    rt: &R,
-    writer: &mut Writer<(), JournalState>,
-    reader: &mut Reader<(), JournalState>,
-)
-    requires { reader.old.hub ≡ writer.old.hub }
-    ensures writer { writer.new ≡ writer.old }
-    ensures hub { reader.new.hub ≡ reader.old.hub }
-    ensures all { reader.new.known ≡ writer.old.published }
-    ensures grown { IsPrefix reader.old.known writer.old.published }
-{
-    writer.confirm(rt, reader);
-    reader.learn(writer.tell());
-}
-
-/// Draws one number, once the word comes to stand at it.
-fn draw_one<R: Wait>(rt: &R, word: &Word, seat: &mut Seat, number: u64)
-    requires word { seat.old.word ≡ word.now.name }
-    requires limit { number + 1 < 2 ^ 63 }
-    ensures { seat.new ≡ record { word = seat.old.word; draws = seat.old.draws ++ number ∷ []; counter = number + 1 } }
-{
-    word.draw_at(rt, seat, number, 1);
-}
-
-/// Shows a pass's reader of a shard all entries that are published. A view is left before.
-fn see_shard_in<R: Wait>(
-    rt: &R,
-    writer: &mut Writer<Entry, ShardState>,
-    slot: &mut Slot<Entry, ShardState>,
-)
-    requires { slot.old.hub ≡ writer.old.hub }
-    ensures writer { writer.new ≡ writer.old }
-    ensures slot { slot.new ≡ record slot.old { known = writer.old.published; shown = None } }
-    ensures grown { IsPrefix slot.old.known writer.old.published }
-{
-    writer.confirm_note(rt, &slot.tell());
-    slot.learn(writer.tell());
 }

@@ -13,7 +13,6 @@ ghost use Rattle.ds_store.specs.Passes.{HasRead};
 ghost use Rattle.ds_store.specs.Found.{IsFound};
 
 use crate::answers::{Expired, GetRefused, Got};
-use crate::names::Names;
 use crate::pass::Pass;
 use crate::states::entity_at::{entity_at, keeps_stamp};
 use crate::store::Store;
@@ -22,6 +21,7 @@ use ds_hub::Slot;
 use ds_io::Steps;
 use ds_log::{Entry, shard_of};
 use ds_shard::{Shard, ShardState, entries_are_kept};
+use ds_store_hubs::Names;
 use std::alloc::{AllocError, Global};
 use std::marker::Brand;
 use std::sync::Wait;

@@ -12,7 +12,6 @@ ghost use Rattle.ds_store.specs.Searched.{HasCounted};
 ghost use Rattle.ds_engine.specs.Searches.{look_ups, most_of, search_bound};
 ghost use Rattle.ds_engine.specs.Snapshots.{newest};
 
-use crate::names::Names;
 use crate::pass::Pass;
 use crate::store::Store;
 use ds_base::NoMemory;
@@ -25,6 +24,7 @@ use ds_log::Entry;
 use ds_planner::ScanPlan;
 use ds_query::{Normal, Window};
 use ds_shard::ShardState;
+use ds_store_hubs::Names;
 use std::alloc::Global;
 use std::sync::Wait;
 use std::sync::ledger::Ledger;

@@ -7,15 +7,13 @@ ghost use Rattle.ds_model.specs.Sessions.{list_of};
 ghost use Rattle.ds_store.specs.Passes.{HasRead};
 ghost use Rattle.ds_shard.specs.Shards.{empty, last_commit};
 
-use crate::arriving::{add_waiting, later_entries, take_in};
 use crate::desk::JournalDesk;
-use crate::journal_state::JournalState;
-use crate::names::Names;
 use crate::pass::Pass;
 use ds_base::NoMemory;
 use ds_hub::{HeldWriter, Reader};
 use ds_log::{Entry, ShardCommits};
 use ds_shard::ShardState;
+use ds_store_hubs::{JournalState, Names, add_waiting, later_entries, take_in};
 use std::alloc::Global;
 use std::collections::VecDeque;
 use std::marker::PhantomData;

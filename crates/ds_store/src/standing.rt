@@ -5,13 +5,12 @@ ghost use Rattle.ds_model.specs.Sessions.{count_of};
 ghost use Rattle.ds_store.specs.Passes.{HasRead, counts_of};
 ghost use Rattle.ds_store.specs.Standing.{StandsAt};
 
-use crate::journal_state::JournalState;
-use crate::names::Names;
 use crate::pass::Pass;
 use crate::shard_desk::ShardDesk;
 use crate::store::Store;
 use ds_base::NoMemory;
 use ds_hub::Reader;
+use ds_store_hubs::{JournalState, Names};
 use std::alloc::AllocError;
 use std::sync::Wait;
 

@@ -4,10 +4,9 @@ ghost use Rattle.std.specs.Sync.Mutex.{mutex_guard_value};
 ghost use Rattle.ds_base.specs.Limits.{most_shards};
 
 use crate::desk::{JournalDesk, Words};
-use crate::names::Names;
-use crate::seat_room::SeatRoom;
 use crate::shard_desk::ShardDesk;
 use ds_indexdef::Defs;
+use ds_store_hubs::{Names, SeatRoom};
 use std::alloc::Global;
 use std::marker::Model;
 use std::sync::{Condvar, Mutex, MutexGuard, Wait};

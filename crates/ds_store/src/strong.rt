@@ -14,7 +14,6 @@ ghost use Rattle.ds_store.specs.Passes.{HasRead};
 ghost use Rattle.ds_store.specs.Strong.{IsFoundInGroup, WhereGone, WhereMissing};
 
 use crate::answers::{Expired, GetRefused, StrongRefused};
-use crate::names::Names;
 use crate::pass::Pass;
 use crate::store::Store;
 use ds_base::{Key, NoMemory, Seen};
@@ -24,6 +23,7 @@ use ds_indexdef::Defs;
 use ds_io::Steps;
 use ds_planner::ScanPlan;
 use ds_query::{Branch, Normal, Window};
+use ds_store_hubs::Names;
 use std::alloc::Global;
 use std::sync::Wait;
 use std::sync::ledger::Ledger;

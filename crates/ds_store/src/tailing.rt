@@ -9,12 +9,12 @@ ghost use Rattle.ds_store.specs.Passes.{HasRead};
 use crate::answers::Since;
 use crate::desk::JournalDesk;
 use crate::making::Tail;
-use crate::names::Names;
 use crate::pass::Pass;
 use crate::store::Store;
 use ds_base::{NoMemory, TryCopy};
 use ds_draw::Word;
 use ds_log::{Commit, Commits};
+use ds_store_hubs::Names;
 use std::alloc::{AllocError, Global};
 use std::sync::Wait;
 

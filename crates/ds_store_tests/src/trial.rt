@@ -1,7 +1,7 @@
 //! How a trial gets a store, and how that ends.
 ghost use Rattle.std.specs.Prelude.{◌≡◌, ◌≤◌, length};
 ghost use Rattle.ds_base.specs.Limits.{most_shards};
-ghost use Rattle.ds_store.specs.Opening.{AreBegun, AreNamesOf};
+ghost use Rattle.ds_store_hubs.specs.Opening.{AreBegun, AreNamesOf};
 
 use crate::crowd::crowd;
 use crate::guestbook::guestbook;

@@ -2,7 +2,7 @@ use Rattle.std.proofs.Common.{◌≡◌, ◌∙◌, All, List, ap, arith, length
 use Rattle.std.proofs.lemmas.List.{length-replicate}
 use Rattle.std.proofs.lemmas.List.Elements.{All-replicate}
 use Rattle.ds_session.specs.Clients.{AreNew}
-use Rattle.ds_store.specs.Opening.{nothing_seen}
+use Rattle.ds_store.specs.Passes.{nothing_seen}
 use Rattle.ds_store.specs.Passes.{PassParts}
 use Rattle.ds_serve.proofs.Ends.{nothing_ran}
 use Rattle.ds_serve.proofs.running.run_made.Goals as goal

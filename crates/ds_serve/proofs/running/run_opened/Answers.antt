@@ -1,5 +1,5 @@
 use Rattle.std.proofs.Common.{◌∙◌, ap, length, replicate, sym}
-use Rattle.ds_store.specs.Opening.{nothing_seen}
+use Rattle.ds_store.specs.Passes.{nothing_seen}
 use Rattle.ds_serve.proofs.Ends.{nothing_ran}
 use Rattle.ds_serve.proofs.SameSetting.{same_run}
 use Rattle.ds_serve.proofs.running.run_opened.Goals as goal

@@ -2,7 +2,7 @@ use Rattle.std.proofs.Common.{◌≡◌, ◌+◌, ◌∙◌, List, [], ap, arith
 use Rattle.std.specs.Prelude.{All}
 use Rattle.std.proofs.lemmas.List.Elements.{All-rest}
 use Rattle.ds_model.specs.Sessions.{Session, first_session}
-use Rattle.ds_store.specs.Opening.{nothing_seen}
+use Rattle.ds_store.specs.Passes.{nothing_seen}
 use Rattle.ds_store.specs.Passes.{PassParts}
 use Rattle.ds_session.proofs.SeatLaws.{SeatedSoFar, first_mark, last_pass, one_seated, passes_left, passes_new}
 use Rattle.ds_session.proofs.clients.seated.Goals as goal

@@ -4,7 +4,7 @@ use Rattle.std.specs.Prelude.{All}
 use Rattle.std.specs.Vec.{vec_capacity}
 use Rattle.ds_base.specs.Limits.{greatest_client}
 use Rattle.ds_model.specs.Sessions.{first_session}
-use Rattle.ds_store.specs.Opening.{nothing_seen}
+use Rattle.ds_store.specs.Passes.{nothing_seen}
 use Rattle.ds_session.proofs.SeatLaws.{SeatedSoFar}
 use Rattle.ds_session.proofs.clients.seated.Given as goal
 

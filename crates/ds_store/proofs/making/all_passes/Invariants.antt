@@ -1,7 +1,7 @@
 use Rattle.std.proofs.Common.{◌≡◌, [], length, replicate, All}
 use Rattle.ds_base.specs.Limits.{first_drawn_id}
 use Rattle.ds_draw.specs.Draws.{SeatView, new_seat}
-use Rattle.ds_store.specs.Opening.{nothing_seen}
+use Rattle.ds_store.specs.Passes.{nothing_seen}
 use Rattle.ds_store.proofs.making.all_passes.Given as goal
 
 abbrev pub invariant-loop-pass : goal.invariant-loop-pass

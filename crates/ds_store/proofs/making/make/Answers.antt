@@ -6,7 +6,8 @@ use Rattle.ds_draw.specs.Draws.{SeatView, new_seat}
 use Rattle.ds_hub.specs.Line.{HubId}
 use Rattle.ds_log.specs.declared.Commit.{Commit}
 use Rattle.ds_shard.specs.Shards.{ShardParts}
-use Rattle.ds_store.specs.Opening.{OpenedParts, nothing_seen}
+use Rattle.ds_store_hubs.specs.Opening.{OpenedParts}
+use Rattle.ds_store.specs.Passes.{nothing_seen}
 use Rattle.ds_store.proofs.making.make.Goals as goal
 
 pub all_passes-requires-clause-readers : goal.all_passes-requires-clause-readers

@@ -8,7 +8,7 @@ use Rattle.ds_hub.specs.Holding.{hub_in, known_in}
 use Rattle.ds_hub.specs.Line.{HubId}
 use Rattle.ds_log.specs.declared.Entry.{Entry}
 use Rattle.ds_shard.specs.Shards.{ShardParts}
-use Rattle.ds_store.specs.Origins.{origin_of}
+use Rattle.ds_store_hubs.specs.Origins.{origin_of}
 use Rattle.ds_store.specs.Passes.{OwnSeen}
 use Rattle.ds_store.proofs.making.one_pass.Goals as goal
 

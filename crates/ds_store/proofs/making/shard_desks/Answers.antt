@@ -3,8 +3,8 @@ use Rattle.std.specs.Prelude.{Option}
 use Rattle.std.proofs.lemmas.List.{length-map}
 use Rattle.ds_hub.specs.Line.{HubId}
 use Rattle.ds_shard.specs.Shards.{ShardParts}
-use Rattle.ds_store.specs.Origins.{origin_of, origins}
-use Rattle.ds_store.proofs.ShardHubs.{origin-next}
+use Rattle.ds_store_hubs.specs.Origins.{origin_of, origins}
+use Rattle.ds_store_hubs.proofs.ShardHubs.{origin-next}
 use Rattle.ds_store.proofs.making.shard_desks.Goals as goal
 
 pub shard_desk-desk-requires-clause-hub : goal.shard_desk-desk-requires-clause-hub

@@ -1,5 +1,5 @@
 use Rattle.std.proofs.Common.{◌≡◌, ◌≤◌, [], length, drop, All}
-use Rattle.ds_store.specs.Origins.{origins}
+use Rattle.ds_store_hubs.specs.Origins.{origins}
 use Rattle.ds_store.proofs.making.shard_desks.Given as goal
 
 abbrev pub invariant-loop-shard : goal.invariant-loop-shard

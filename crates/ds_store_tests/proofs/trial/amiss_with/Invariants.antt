@@ -1,4 +1,4 @@
-use Rattle.ds_store.specs.Opening.{hubs_of}
+use Rattle.ds_store_hubs.specs.Opening.{hubs_of}
 use Rattle.ds_store_tests.proofs.trial.amiss_with.Given as goal
 
 -- the hubs and words that were just opened

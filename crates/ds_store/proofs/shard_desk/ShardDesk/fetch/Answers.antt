@@ -2,7 +2,7 @@ use Rattle.std.proofs.Common.{◌≡◌, ◌++◌, length, take, sym, ap, subst,
 use mathlib.Core.List.{IsPrefix}
 use Rattle.ds_log.specs.Logs.{shard_list}
 use Rattle.ds_log.specs.UpTo.{commits_of, last_number}
-use Rattle.ds_store.specs.Rising.{Rises}
+use Rattle.ds_store_hubs.specs.Rising.{Rises}
 use Rattle.ds_store.proofs.EntryOrder.{later_rise}
 use Rattle.ds_store.proofs.ShardLists.{begins_as}
 use Rattle.ds_store.proofs.shard_desk.ShardDesk.fetch.Goals as goal

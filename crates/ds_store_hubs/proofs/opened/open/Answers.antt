@@ -3,9 +3,9 @@ use Rattle.std.specs.Prelude.{Option}
 use Rattle.ds_hub.specs.Line.{HubId}
 use Rattle.ds_indexdef.specs.declared.IndexDef.{IndexDef}
 use Rattle.ds_shard.specs.Shards.{ShardParts}
-use Rattle.ds_store.specs.Origins.{origins}
-use Rattle.ds_store.proofs.ShardHubs.{begun-origins}
-use Rattle.ds_store.proofs.opened.open.Goals as goal
+use Rattle.ds_store_hubs.specs.Origins.{origins}
+use Rattle.ds_store_hubs.proofs.ShardHubs.{begun-origins}
+use Rattle.ds_store_hubs.proofs.opened.open.Goals as goal
 
 pub returns-clause-begun : goal.returns-clause-begun
 returns-clause-begun g c =

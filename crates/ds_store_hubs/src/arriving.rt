@@ -4,7 +4,7 @@ ghost use Rattle.std.specs.VecDeque.{deque_len, deque_capacity};
 ghost use Rattle.ds_base.specs.Limits.{most_shards};
 ghost use Rattle.ds_log.specs.Logs.{shard_list};
 ghost use Rattle.ds_log.specs.UpTo.{commits_of, last_number};
-ghost use Rattle.ds_store.specs.Rising.{Rises};
+ghost use Rattle.ds_store_hubs.specs.Rising.{Rises};
 
 use ds_base::NoMemory;
 use ds_hub::Writer;
@@ -17,7 +17,7 @@ use std::collections::VecDeque;
 const MOST_ENTRIES: u64 = 1 << 61;
 
 /// The entries that the commits behind the first `from` give a shard, in their order. A refusal is want of memory.
-pub(crate) fn later_entries(
+pub fn later_entries(
     alloc: Global,
     journal: &[Commit],
     from: usize,
@@ -47,11 +47,7 @@ fn put_all(entries: &mut Vec<Entry>, new: Entries) -> Result<(), NoMemory>
 }
 
 /// Puts entries behind those that wait, and the numbers of their commits, which never fall, behind the others. There is room for them.
-pub(crate) fn take_in(
-    waiting: &mut VecDeque<Entry>,
-    commits: &mut ShardCommits,
-    entries: Vec<Entry>,
-)
+pub fn take_in(waiting: &mut VecDeque<Entry>, commits: &mut ShardCommits, entries: Vec<Entry>)
     requires room { deque_len waiting.old + length entries.items ≤ deque_capacity waiting.old }
     requires spare { length entries.items ≤ commits.old.spare }
     requires rises { Rises (last_number commits.old.commits) entries.items }
@@ -65,7 +61,7 @@ pub(crate) fn take_in(
 }
 
 /// Adds so many of the entries that wait to what is pending, the first ones. A refusal is want of memory; it may then have added some.
-pub(crate) fn add_waiting(
+pub fn add_waiting(
     waiting: &mut VecDeque<Entry>,
     writer: &mut Writer<Entry, ShardState>,
     count: u64,

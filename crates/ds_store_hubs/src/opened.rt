@@ -3,7 +3,7 @@ ghost use Rattle.std.specs.Prelude.{◌≡◌, ◌+◌, ◌≤◌, ◌++◌, ◌
 ghost use Rattle.ds_base.specs.Limits.{first_drawn_id, most_shards};
 ghost use Rattle.ds_hub.specs.Holding.{hub_in};
 ghost use Rattle.ds_shard.specs.Shards.{empty};
-ghost use Rattle.ds_store.specs.Opening.{OpenedParts, AreBegun};
+ghost use Rattle.ds_store_hubs.specs.Opening.{OpenedParts, AreBegun};
 
 use crate::journal_state::JournalState;
 use ds_base::limits::FIRST_DRAWN_ID;
@@ -19,8 +19,8 @@ use std::sync::Wait;
 
 /// A shard's hub that was opened: its writer, and readers. Contracts see the hub, and the shard with which it begins.
 #[derive(Drop)]
-pub(crate) struct OpenedShard<H: Wait + Drop> {
-    pub(crate) writer: HeldWriter<Entry, ShardState, H>,
+pub struct OpenedShard<H: Wait + Drop> {
+    writer: HeldWriter<Entry, ShardState, H>,
     readers: Vec<Reader<Entry, ShardState>>,
 }
 
@@ -39,7 +39,7 @@ impl<H: Wait + Drop> Model for OpenedShard<H> {
 
 impl<H: Wait + Drop> OpenedShard<H> {
     /// A slot for a pass, with a reader that has seen nothing; `None` where no reader is left.
-    pub(crate) fn take_slot(&mut self) -> Option<Slot<Entry, ShardState>>
+    pub fn take_slot(&mut self) -> Option<Slot<Entry, ShardState>>
         ensures same { self.new ≡ self.old }
         ensures slot { MatchOption result (Unit {0}) (λ slot. (hub_in slot ≡ self.old) × (slot.known ≡ [])) }
     {
@@ -47,7 +47,7 @@ impl<H: Wait + Drop> OpenedShard<H> {
     }
 
     /// The writer, which has published nothing.
-    pub(crate) fn into_writer(self) -> HeldWriter<Entry, ShardState, H>
+    pub fn into_writer(self) -> HeldWriter<Entry, ShardState, H>
         ensures hub { (result.writer.hub, result.writer.start) ≡ self }
         ensures empty { (result.writer.published ≡ []) × (result.writer.pending ≡ []) }
     {
@@ -62,21 +62,29 @@ impl<H: Wait + Drop> OpenedShard<H> {
 /// All that a store is made of, before its names are picked. Contracts see what has a name, and for how many passes it was opened.
 #[derive(Drop)]
 pub struct Opened<H: Wait + Drop> {
-    pub(crate) journal: HeldWriter<(), JournalState, H>,
-    pub(crate) readers: Vec<Reader<(), JournalState>>,
-    pub(crate) shards: Vec<OpenedShard<H>>,
-    pub(crate) commits: Drawn,
-    pub(crate) ids: Drawn,
-    pub(crate) definitions: Defs,
-    pub(crate) window: u64,
-    pub(crate) passes: u32,
+    /// The writer of the journal's hub.
+    pub journal: HeldWriter<(), JournalState, H>,
+    /// Its readers: one for each pass and each shard.
+    pub readers: Vec<Reader<(), JournalState>>,
+    /// The shards' hubs, by number.
+    pub shards: Vec<OpenedShard<H>>,
+    /// The word from which the numbers of commits are drawn, with its seats.
+    pub commits: Drawn,
+    /// The word from which ids are drawn, with its seats.
+    pub ids: Drawn,
+    /// The definitions of composite indexes.
+    pub definitions: Defs,
+    /// How many stamps each shard keeps.
+    pub window: u64,
+    /// For how many passes it was opened.
+    pub passes: u32,
 }
 
 impl<H: Wait + Drop> Model for Opened<H> {
     ghost use Rattle.std.specs.Prelude.{◌≡◌, ◌+◌, ◌≤◌, [], All, length, replicate};
     ghost use Rattle.ds_base.specs.Limits.{first_drawn_id, most_shards};
     ghost use Rattle.ds_draw.specs.Draws.{new_seat};
-    ghost use Rattle.ds_store.specs.Opening.{OpenedParts};
+    ghost use Rattle.ds_store_hubs.specs.Opening.{OpenedParts};
 
     ghost Value = { OpenedParts };
 

@@ -1,5 +1,5 @@
 use Rattle.std.proofs.Common.{◌≡◌, ◌+◌, ◌++◌, length}
-use Rattle.ds_store.proofs.arriving.add_waiting.Given as goal
+use Rattle.ds_store_hubs.proofs.arriving.add_waiting.Given as goal
 
 -- what is published, is pending and waits is still the same list, and so many entries more are pending
 abbrev pub invariant-loop-done : goal.invariant-loop-done

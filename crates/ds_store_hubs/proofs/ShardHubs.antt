@@ -6,7 +6,7 @@ use Rattle.std.proofs.lemmas.List.Elements.{All-head, All-tail}
 use Rattle.ds_hub.specs.Line.{HubId}
 use Rattle.ds_indexdef.specs.declared.IndexDef.{IndexDef}
 use Rattle.ds_shard.specs.Shards.{ShardParts, empty}
-use Rattle.ds_store.specs.Origins.{origin_of, origins}
+use Rattle.ds_store_hubs.specs.Origins.{origin_of, origins}
 
 -- the hub of the next shard, where these are left
 pub origin-next : (definitions : List IndexDef) (window : ℕ) (hubs : List HubId) (n : ℕ) (x : HubId × Option ShardParts)

@@ -2,7 +2,7 @@ use Rattle.std.proofs.Common.{◌≡◌, length, All}
 use Rattle.std.specs.Prelude.{Option, Some}
 use Rattle.ds_hub.specs.Line.{HubId}
 use Rattle.ds_shard.specs.Shards.{ShardParts, empty}
-use Rattle.ds_store.proofs.opened.open_shards.Given as goal
+use Rattle.ds_store_hubs.proofs.opened.open_shards.Given as goal
 
 abbrev pub invariant-loop-shard : goal.invariant-loop-shard
 invariant-loop-shard g l = record {

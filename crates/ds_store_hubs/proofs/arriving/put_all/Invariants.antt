@@ -1,5 +1,5 @@
 use Rattle.std.proofs.Common.{◌≡◌, ◌++◌}
-use Rattle.ds_store.proofs.arriving.put_all.Given as goal
+use Rattle.ds_store_hubs.proofs.arriving.put_all.Given as goal
 
 -- with what is left all are put
 abbrev pub invariant-loop-entry : goal.invariant-loop-entry

@@ -1,5 +1,5 @@
 use Rattle.std.proofs.Common.{◌≡◌, ◌≤◌}
-use Rattle.ds_store.proofs.desk.look_up_to.Given as goal
+use Rattle.ds_store_hubs.proofs.showing.look_up_to.Given as goal
 
 abbrev pub invariant-loop : goal.invariant-loop
 invariant-loop g l =

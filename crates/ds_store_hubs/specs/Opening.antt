@@ -1,12 +1,10 @@
 -- What was opened before the names of a store are picked.
-use Rattle.std.specs.Prelude.{◌≡◌, ℕ, ◌+◌, List, [], map, replicate, length, Option, Some}
-use Rattle.ds_base.specs.Limits.{first_drawn_id}
+use Rattle.std.specs.Prelude.{◌≡◌, ℕ, List, map, Option}
 use Rattle.ds_draw.specs.Draws.{WordName}
 use Rattle.ds_hub.specs.Line.{HubId}
 use Rattle.ds_indexdef.specs.declared.IndexDef.{IndexDef}
 use Rattle.ds_shard.specs.Shards.{ShardParts}
-use Rattle.ds_store.specs.Origins.{origins}
-use Rattle.ds_store.specs.Passes.{PassParts}
+use Rattle.ds_store_hubs.specs.Origins.{origins}
 
 -- the journal's hub, those of the shards by number, each with the shard with which it begins, the two words, the definitions and the
 -- window, and for how many passes it was opened
@@ -35,8 +33,3 @@ pub record AreNamesOf (opened : OpenedParts) (journal : HubId) (shards : List Hu
   pub ids_is : ids ≡ opened.ids
   pub definitions_are : definitions ≡ opened.definitions
   pub window_is : window ≡ opened.window
-
--- a pass that has seen nothing, and done nothing
-abbrev pub nothing_seen : ℕ → PassParts
-nothing_seen shards =
-    record { journal = []; lists = replicate shards []; place = 0; next = first_drawn_id; commits = []; draws = [] }

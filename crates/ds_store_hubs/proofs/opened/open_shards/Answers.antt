@@ -3,7 +3,7 @@ use Rattle.std.specs.Prelude.{Option, Some}
 use Rattle.std.proofs.lemmas.List.Elements.{All-push}
 use Rattle.ds_hub.specs.Line.{HubId}
 use Rattle.ds_shard.specs.Shards.{ShardParts, empty}
-use Rattle.ds_store.proofs.opened.open_shards.Goals as goal
+use Rattle.ds_store_hubs.proofs.opened.open_shards.Goals as goal
 
 pub loop-shard-preserved : goal.loop-shard-preserved
 loop-shard-preserved g c =

@@ -1,8 +1,8 @@
 use Rattle.std.proofs.Common.{◌≡◌, ◌+◌, ◌≤◌, ◌++◌, length}
 use Rattle.std.specs.VecDeque.{deque_len, deque_capacity}
 use Rattle.ds_log.specs.UpTo.{commits_of, last_number}
-use Rattle.ds_store.specs.Rising.{Rises}
-use Rattle.ds_store.proofs.arriving.take_in.Given as goal
+use Rattle.ds_store_hubs.specs.Rising.{Rises}
+use Rattle.ds_store_hubs.proofs.arriving.take_in.Given as goal
 
 -- with what is left all are taken in, for which there is room
 abbrev pub invariant-loop-entry : goal.invariant-loop-entry
