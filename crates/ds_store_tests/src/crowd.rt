@@ -1,15 +1,15 @@
 //! Sixteen threads of random calls, with eight that apply.
 ghost use Rattle.std.specs.Prelude.{◌≤◌, ◌<◌};
 
-use crate::asking::{keys, query, query_wide, strong_query};
-use crate::calls::{apply, commit, draw, get, get_at, settle};
-use crate::dice::Dice;
 use crate::ids::commit_new;
-use crate::made::{alone, incomplete, key, touching};
-use crate::told::Told;
 use ds_base::NoMemory;
 use ds_io::NoGate;
 use ds_store::{Names, Pass, Store};
+use ds_store_trials::asking::{keys, query, query_wide, strong_query};
+use ds_store_trials::calls::{apply, commit, draw, get, get_at, settle};
+use ds_store_trials::dice::Dice;
+use ds_store_trials::made::{alone, incomplete, key, touching};
+use ds_store_trials::told::Told;
 use std::alloc::Global;
 use std::sync::atomic::{AtomicU64, Ordering};
 use std::sync::{Mutex, Wait};

@@ -2,13 +2,13 @@
 ghost use Rattle.std.specs.Prelude.{IfOk, IfSome};
 ghost use Rattle.ds_query.specs.Lawful.{IsLawfulNormal, SuitsSeveral};
 
-use crate::asking::strong_page;
 use crate::ids::commit_new;
-use crate::made::{greeting, guestbook_key};
-use crate::told::{FIRST_ID, Told};
 use ds_base::{Column, Columns, Ident, Item, Key, NoMemory, Seen, TextString};
 use ds_query::{Filters, Normal, Place, Query, Select, Window, normalize};
 use ds_store::{Answer, Names, Pass, Store};
+use ds_store_trials::asking::strong_page;
+use ds_store_trials::made::{greeting, guestbook_key};
+use ds_store_trials::told::{FIRST_ID, Told};
 use std::alloc::{AllocError, Global};
 use std::sync::Wait;
 

@@ -3,12 +3,12 @@ ghost use Rattle.std.specs.Prelude.{◌≡◌, ◌+◌, ℕ, [], IsTrue};
 ghost use Rattle.ds_journal.specs.Drafts.{is_one_put, renumbered_commit};
 ghost use Rattle.ds_log.specs.Ids.{AreIssued};
 
-use crate::calls::{commit, draw, number};
-use crate::made::{alone, incomplete};
-use crate::told::{FIRST_ID, Told};
 use ds_base::NoMemory;
 use ds_journal::Draft;
 use ds_store::{Names, Pass, Since, Store, Tail};
+use ds_store_trials::calls::{commit, draw, number};
+use ds_store_trials::made::{alone, incomplete};
+use ds_store_trials::told::{FIRST_ID, Told};
 use std::alloc::Global;
 use std::sync::Wait;
 

@@ -1,11 +1,11 @@
 //! Queries of the store with one thread, and one that searches two shards at once.
-use crate::asking::{finds, keys, query, query_wide, strong_query};
-use crate::calls::{commit, settle};
-use crate::made::{alone, key};
-use crate::told::Told;
 use ds_base::NoMemory;
 use ds_io::{Gate, NoGate};
 use ds_store::{Names, Pass, Store};
+use ds_store_trials::asking::{finds, keys, query, query_wide, strong_query};
+use ds_store_trials::calls::{commit, settle};
+use ds_store_trials::made::{alone, key};
+use ds_store_trials::told::Told;
 use std::alloc::Global;
 use std::sync::Wait;
 use std::sync::atomic::{AtomicU64, Ordering};

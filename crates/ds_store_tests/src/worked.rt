@@ -1,11 +1,13 @@
 //! The store with one thread: commits, reads of old and new places, applies, and what another caller meets.
 ghost use Rattle.std.specs.Prelude.{◌≡◌, length, IfOk};
 
-use crate::calls::{apply, commit, conflict, draw, expired, found, get, get_at, number, settle};
-use crate::made::{alone, key, touching};
-use crate::told::{FIRST_ID, Told};
 use ds_base::{Counts, NoMemory};
 use ds_store::{Names, Pass, Store};
+use ds_store_trials::calls::{
+    apply, commit, conflict, draw, expired, found, get, get_at, number, settle,
+};
+use ds_store_trials::made::{alone, key, touching};
+use ds_store_trials::told::{FIRST_ID, Told};
 use std::alloc::Global;
 use std::sync::Wait;
 

@@ -22,7 +22,7 @@ fn named_path(alloc: Global, name: &str) -> Result<Elems, NoMemory>
 }
 
 /// The key [T,name].
-pub(crate) fn key(alloc: Global, name: &str) -> Result<Key, NoMemory>
+pub fn key(alloc: Global, name: &str) -> Result<Key, NoMemory>
     ensures { IfOk result (λ key. first_unissued 0 key.elems ≡ None) }
 {
     let path = named_path(alloc, name)?;
@@ -63,7 +63,7 @@ fn one_put(alloc: Global, name: &str, number: i64) -> Result<Writes, NoMemory>
 }
 
 /// A put outside a transaction.
-pub(crate) fn alone(alloc: Global, name: &str, number: i64) -> Result<Draft, NoMemory>
+pub fn alone(alloc: Global, name: &str, number: i64) -> Result<Draft, NoMemory>
     ensures { IfOk result (λ draft. AreIssued 0 draft.writes) }
 {
     let writes = one_put(alloc, name, number)?;
@@ -71,12 +71,7 @@ pub(crate) fn alone(alloc: Global, name: &str, number: i64) -> Result<Draft, NoM
 }
 
 /// A put in a transaction that touched its group at this place.
-pub(crate) fn touching(
-    alloc: Global,
-    name: &str,
-    place: u64,
-    number: i64,
-) -> Result<Draft, NoMemory>
+pub fn touching(alloc: Global, name: &str, place: u64, number: i64) -> Result<Draft, NoMemory>
     ensures { IfOk result (λ draft. AreIssued 0 draft.writes) }
 {
     let group = key(alloc, name)?;
@@ -97,7 +92,7 @@ fn path_to_come(alloc: Global) -> Result<Elems, NoMemory>
 }
 
 /// A put of an entity whose id is yet to come.
-pub(crate) fn incomplete(alloc: Global) -> Result<Draft, NoMemory>
+pub fn incomplete(alloc: Global) -> Result<Draft, NoMemory>
     ensures untouched { IfOk result (λ draft. draft.touched ≡ []) }
     ensures one_put { IfOk result (λ draft. IsTrue (is_one_put draft.writes)) }
     ensures issued { IfOk result (λ draft. (id : ℕ) → AreIssued (id + 1) (renumbered_commit draft id).writes) }
@@ -130,13 +125,13 @@ fn greeting_path(alloc: Global) -> Result<Elems, NoMemory>
 }
 
 /// The key of the guestbook.
-pub(crate) fn guestbook_key(alloc: Global) -> Result<Key, NoMemory> {
+pub fn guestbook_key(alloc: Global) -> Result<Key, NoMemory> {
     let path = Elems::from(vec![in alloc; book(alloc)?]?);
     Key::new(alloc, path).map_err(|_| AllocError)
 }
 
 /// A put of a greeting of this date.
-pub(crate) fn greeting(alloc: Global, date: i64) -> Result<Draft, NoMemory>
+pub fn greeting(alloc: Global, date: i64) -> Result<Draft, NoMemory>
     ensures untouched { IfOk result (λ draft. draft.touched ≡ []) }
     ensures one_put { IfOk result (λ draft. IsTrue (is_one_put draft.writes)) }
     ensures issued { IfOk result (λ draft. (id : ℕ) → AreIssued (id + 1) (renumbered_commit draft id).writes) }
@@ -162,7 +157,7 @@ fn put_to_come(alloc: Global, path: Elems, properties: Properties) -> Result<Dra
 }
 
 /// The number of such an entity, 0 where there is none; `None` where it isn't one.
-pub(crate) fn number_of(entity: Option<&Entity>) -> Option<i64> {
+pub fn number_of(entity: Option<&Entity>) -> Option<i64> {
     match entity {
         Some(entity) => number_in(entity),
         None => Some(0),

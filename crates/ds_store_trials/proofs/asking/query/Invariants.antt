@@ -1,4 +1,4 @@
-use Rattle.ds_store_tests.proofs.asking.query.Given as goal
+use Rattle.ds_store_trials.proofs.asking.query.Given as goal
 
 -- the ledger that the blank becomes
 abbrev pub ghosts-counted : goal.ghosts-counted

@@ -1,4 +1,4 @@
-use Rattle.ds_store_tests.proofs.asking.strong_query.Given as goal
+use Rattle.ds_store_trials.proofs.asking.strong_page.Given as goal
 
 -- the ledger that the blank becomes
 abbrev pub ghosts-counted_strongly : goal.ghosts-counted_strongly

@@ -14,11 +14,7 @@ use std::sync::ledger::{Blank, Ledger};
 use std::thread::Threads;
 
 /// The normal form of the query for the keys of kind `T`, under an ancestor or anywhere, sorted by these properties.
-pub(crate) fn keys(
-    alloc: Global,
-    ancestor: Option<Key>,
-    orders: &[&str],
-) -> Result<Normal, NoMemory>
+pub fn keys(alloc: Global, ancestor: Option<Key>, orders: &[&str]) -> Result<Normal, NoMemory>
     ensures { IfOk result IsLawfulNormal }
 {
     let query = Query {
@@ -60,10 +56,10 @@ fn all() -> Window
 }
 
 /// Whether these entities were found, and no others; the counts of all shards together, or the place; and what is told beside that.
-pub(crate) type Asked = Option<(bool, u64, u64)>;
+pub type Asked = Option<(bool, u64, u64)>;
 
 /// The answer that finds just the entities with the names that were handed over.
-pub(crate) fn finds(seen: u64, beside: u64) -> Asked {
+pub fn finds(seen: u64, beside: u64) -> Asked {
     Some((true, seen, beside))
 }
 
@@ -110,7 +106,7 @@ fn is_named(key: &Key, name: &str) -> bool {
 }
 
 /// A query of all shards. There is no answer where an index is missing.
-pub(crate) fn query<J: Names, H: Wait + Drop>(
+pub fn query<J: Names, H: Wait + Drop>(
     store: &Store<J, H>,
     pass: &mut Pass<J>,
     normal: &Normal,
@@ -140,7 +136,7 @@ fn counted<J: Names, L: Ledger, H: Wait + Drop>(
 }
 
 /// The same by a search of all shards at once.
-pub(crate) fn query_wide<J: Names, R: Threads + Sync, H: Wait + Drop, G: Gate + Sync>(
+pub fn query_wide<J: Names, R: Threads + Sync, H: Wait + Drop, G: Gate + Sync>(
     rt: &R,
     store: &Store<J, H>,
     pass: &mut Pass<J>,
@@ -158,7 +154,7 @@ pub(crate) fn query_wide<J: Names, R: Threads + Sync, H: Wait + Drop, G: Gate + 
 
 /// What a query with an ancestor gives, or how many entries lie below the touch place, how many are applied, and the commit of the
 /// last of them.
-pub(crate) type AskedStrongly = (Asked, Option<(u64, u64, u64)>);
+pub type AskedStrongly = (Asked, Option<(u64, u64, u64)>);
 
 fn is_seen(at: Option<u64>, place: u64) -> bool
     ensures { IsTrue result → IfSome at (λ touched. touched ≤ place) }
@@ -171,7 +167,7 @@ fn is_seen(at: Option<u64>, place: u64) -> bool
 
 /// A query with an ancestor, inside a transaction at its touch place, or outside one. There is no answer where an index is missing, or
 /// that place is above the pass's.
-pub(crate) fn strong_query<J: Names, R: Wait, H: Wait + Drop>(
+pub fn strong_query<J: Names, R: Wait, H: Wait + Drop>(
     rt: &R,
     store: &Store<J, H>,
     pass: &mut Pass<J>,
@@ -192,7 +188,7 @@ pub(crate) fn strong_query<J: Names, R: Wait, H: Wait + Drop>(
 }
 
 /// One page of it.
-pub(crate) fn strong_page<J: Names, R: Wait, H: Wait + Drop>(
+pub fn strong_page<J: Names, R: Wait, H: Wait + Drop>(
     rt: &R,
     store: &Store<J, H>,
     pass: &mut Pass<J>,

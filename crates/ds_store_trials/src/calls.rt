@@ -12,15 +12,15 @@ use ds_store::{GetRefused, Got, Names, Pass, Store};
 use std::sync::Wait;
 
 /// A commit's number, or the group, the commit and the place of its conflict.
-pub(crate) type Committed = (Option<u64>, Option<(u32, u64, u64)>);
+pub type Committed = (Option<u64>, Option<(u32, u64, u64)>);
 
 /// The answer of a commit with this number.
-pub(crate) fn number(commit: u64) -> Committed {
+pub fn number(commit: u64) -> Committed {
     (Some(commit), None)
 }
 
 /// The answer of a commit that conflicts.
-pub(crate) fn conflict(group: u32, commit: u64, place: u64) -> Committed {
+pub fn conflict(group: u32, commit: u64, place: u64) -> Committed {
     (None, Some((group, commit, place)))
 }
 
@@ -31,7 +31,7 @@ fn are_places(touched: &[Touch], most: u64) -> bool
 }
 
 /// Commits the draft, and keeps its number. A draft that touched a place above the pass's has no answer.
-pub(crate) fn commit<J: Names, R: Wait, H: Wait + Drop>(
+pub fn commit<J: Names, R: Wait, H: Wait + Drop>(
     rt: &R,
     store: &Store<J, H>,
     pass: &mut Pass<J>,
@@ -61,15 +61,15 @@ fn refusal(refused: CommitRefused) -> Committed {
 
 /// The number of the entity, the place and how many entries lie below it; or how many entries lie below the touch place, how many are
 /// applied, and the commit of the last of them.
-pub(crate) type Read = (Option<(i64, u64, u64)>, Option<(u64, u64, u64)>);
+pub type Read = (Option<(i64, u64, u64)>, Option<(u64, u64, u64)>);
 
 /// The answer of a get: the entity's number, 0 where there is none, the place, and how many entries lie below it.
-pub(crate) fn found(number: i64, place: u64, entries: u64) -> Read {
+pub fn found(number: i64, place: u64, entries: u64) -> Read {
     (Some((number, place, entries)), None)
 }
 
 /// The answer of a get whose versions are gone.
-pub(crate) fn expired(snapshot: u64, applied: u64, commit: u64) -> Read {
+pub fn expired(snapshot: u64, applied: u64, commit: u64) -> Read {
     (None, Some((snapshot, applied, commit)))
 }
 
@@ -85,7 +85,7 @@ fn read(answer: Result<Got, GetRefused>) -> Read {
 }
 
 /// A get outside a transaction.
-pub(crate) fn get<J: Names, R: Wait, H: Wait + Drop>(
+pub fn get<J: Names, R: Wait, H: Wait + Drop>(
     rt: &R,
     store: &Store<J, H>,
     pass: &mut Pass<J>,
@@ -95,7 +95,7 @@ pub(crate) fn get<J: Names, R: Wait, H: Wait + Drop>(
 }
 
 /// A get in a transaction, at the touch place. There is no answer where that is above the pass's place.
-pub(crate) fn get_at<J: Names, R: Wait, H: Wait + Drop>(
+pub fn get_at<J: Names, R: Wait, H: Wait + Drop>(
     rt: &R,
     store: &Store<J, H>,
     pass: &mut Pass<J>,
@@ -109,7 +109,7 @@ pub(crate) fn get_at<J: Names, R: Wait, H: Wait + Drop>(
 }
 
 /// Whether an entry was applied, the shard's count, the place, and the commit of the last applied entry.
-pub(crate) fn apply<J: Names, R: Wait, H: Wait + Drop>(
+pub fn apply<J: Names, R: Wait, H: Wait + Drop>(
     rt: &R,
     store: &Store<J, H>,
     pass: &mut Pass<J>,
@@ -124,7 +124,7 @@ pub(crate) fn apply<J: Names, R: Wait, H: Wait + Drop>(
 }
 
 /// Settles, and keeps the counts: the place, the entries of all shards together, and the greatest commit of them.
-pub(crate) fn settle<J: Names, R: Wait, H: Wait + Drop>(
+pub fn settle<J: Names, R: Wait, H: Wait + Drop>(
     rt: &R,
     store: &Store<J, H>,
     pass: &mut Pass<J>,
@@ -150,7 +150,7 @@ fn sum(numbers: &[u64]) -> u64 {
 }
 
 /// Draws so many ids, keeps them, and gives the first; or the id counter, where so many aren't left.
-pub(crate) fn draw<J: Names, R: Wait, H: Wait + Drop>(
+pub fn draw<J: Names, R: Wait, H: Wait + Drop>(
     rt: &R,
     store: &Store<J, H>,
     pass: &mut Pass<J>,

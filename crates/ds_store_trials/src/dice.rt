@@ -3,17 +3,18 @@ ghost use Rattle.std.specs.Prelude.{◌<◌};
 
 /// A linear congruential generator, with the constants of Knuth's MMIX.
 #[derive(Drop)]
-pub(crate) struct Dice {
+pub struct Dice {
     state: u64,
 }
 
 impl Dice {
-    pub(crate) fn new(seed: u64) -> Dice {
+    /// The numbers of this seed.
+    pub fn new(seed: u64) -> Dice {
         Dice { state: seed }
     }
 
     /// A number below `sides`.
-    pub(crate) fn roll(&mut self, sides: u64) -> u64
+    pub fn roll(&mut self, sides: u64) -> u64
         requires { 0 < sides }
         ensures { result < sides }
     {

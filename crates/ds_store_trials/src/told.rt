@@ -7,21 +7,27 @@ use ds_store::Closed;
 use std::alloc::{AllocError, Global};
 
 /// The first id.
-pub(crate) const FIRST_ID: u64 = 1 << 52;
+pub const FIRST_ID: u64 = 1 << 52;
 
 /// What a trial was told: the commits that were acknowledged and the ids that were drawn, in any order, the greatest id counter and
 /// the greatest count of each shard. It keeps the first thing that was amiss, an empty text if nothing was.
 #[derive(Drop)]
-pub(crate) struct Told {
-    pub(crate) amiss: &'static str,
-    pub(crate) commits: Vec<u64>,
-    pub(crate) ids: Vec<u64>,
-    pub(crate) next: u64,
-    pub(crate) counts: Vec<u64>,
+pub struct Told {
+    /// The first thing that was amiss, or an empty text.
+    pub amiss: &'static str,
+    /// The numbers of commits.
+    pub commits: Vec<u64>,
+    /// The drawn ids.
+    pub ids: Vec<u64>,
+    /// The greatest id counter.
+    pub next: u64,
+    /// The greatest count of each shard.
+    pub counts: Vec<u64>,
 }
 
 impl Told {
-    pub(crate) fn new(alloc: Global) -> Told {
+    /// Nothing was told yet.
+    pub fn new(alloc: Global) -> Told {
         Told {
             amiss: "",
             commits: Vec::new(alloc),
@@ -32,31 +38,31 @@ impl Told {
     }
 
     /// Keeps what is amiss where this isn't met, unless something was amiss before.
-    pub(crate) fn expect(&mut self, met: bool, amiss: &'static str) {
+    pub fn expect(&mut self, met: bool, amiss: &'static str) {
         if !met && self.amiss.is_empty() {
             self.amiss = amiss;
         }
     }
 
     /// Keeps a commit that was acknowledged.
-    pub(crate) fn commit(&mut self, number: u64) {
+    pub fn commit(&mut self, number: u64) {
         let kept = self.commits.push(number).is_ok();
         self.expect(kept, "no memory");
     }
 
     /// Keeps an id that was drawn.
-    pub(crate) fn id(&mut self, id: u64) {
+    pub fn id(&mut self, id: u64) {
         let kept = self.ids.push(id).is_ok();
         self.expect(kept, "no memory");
     }
 
     /// Keeps an id counter that was shown.
-    pub(crate) fn next(&mut self, next: u64) {
+    pub fn next(&mut self, next: u64) {
         self.next = self.next.max(next);
     }
 
     /// Keeps what another was told.
-    pub(crate) fn join(&mut self, other: Told) {
+    pub fn join(&mut self, other: Told) {
         let Told {
             amiss,
             commits,
@@ -74,7 +80,7 @@ impl Told {
     }
 
     /// Keeps the greater of each two counts. It says whether there was memory.
-    pub(crate) fn counts(&mut self, counts: &[u64]) -> bool {
+    pub fn counts(&mut self, counts: &[u64]) -> bool {
         for (shard, count) in counts.iter().enumerate() {
             if !self.count(shard, *count) {
                 return false;
@@ -84,7 +90,7 @@ impl Told {
     }
 
     /// Keeps a count of a shard where it is greater. It says whether there was memory.
-    pub(crate) fn count(&mut self, shard: usize, count: u64) -> bool {
+    pub fn count(&mut self, shard: usize, count: u64) -> bool {
         raise(&mut self.counts, shard, count)
     }
 }
@@ -135,7 +141,7 @@ fn are_within(
 }
 
 /// What is amiss with a store of so many shards that was closed after all this was told; an empty text if nothing is.
-pub(crate) fn amiss(
+pub fn amiss(
     alloc: Global,
     shards: u32,
     told: Told,

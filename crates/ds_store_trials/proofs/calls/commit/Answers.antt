@@ -2,7 +2,7 @@ use Rattle.std.proofs.Common.{◌≤◌, ◌∙◌, ap, subst, arith}
 use Rattle.std.specs.List.{All}
 use Rattle.ds_log.specs.declared.Commit.{Commit}
 use Rattle.ds_log.specs.JournalLaws.{AreIssued-rises}
-use Rattle.ds_store_tests.proofs.calls.commit.Goals as goal
+use Rattle.ds_store_trials.proofs.calls.commit.Goals as goal
 
 pub commit-requires-2-clause-touched : goal.commit-requires-2-clause-touched
 commit-requires-2-clause-touched g c =
