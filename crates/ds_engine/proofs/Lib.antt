@@ -34,3 +34,4 @@ pub mod ShardResults
 pub mod SlotLaws
 pub mod UnitedFirsts
 pub mod UnitedResults
+pub mod OneShard

@@ -28,7 +28,7 @@ use Rattle.ds_model.proofs.RowOrder.{IsLongRow, full_row-total, full_row-same, s
 use Rattle.ds_engine.proofs.PartFirsts.{AreParts, firsts}
 use Rattle.ds_engine.proofs.ShardResults.{shards_page}
 use Rattle.ds_engine.proofs.UnitedResults.{given_page, given_rows}
-use Rattle.ds_engine.specs.Searches.{AreOfShards, IsResultOf, all_entities, item_in, names_of}
+use Rattle.ds_engine.specs.Searches.{AreOfShards, IsResultOf, all_entities, item_in, names_of, page_over}
 use Rattle.ds_engine.specs.Searches.{rows_of_shards, shard_among}
 use Rattle.ds_engine.proofs.InAnyOrder.{either_order}
 use Rattle.ds_engine.proofs.InShards.{items_in_shards}
@@ -102,7 +102,7 @@ only [] q one e = absurd (omega (arith, one))
 only (b ∷ []) q one e = ap (λ z. z ∷ []) (sym e)
 only (b ∷ c ∷ bs) q one e = absurd (omega (arith, one))
 
-alone : (n : Normal) (w : Window) (q : Branch) (views : List (List EntityParts)) → n.several ≡ false → n.branches ≡ q ∷ []
+pub alone : (n : Normal) (w : Window) (q : Branch) (views : List (List EntityParts)) → n.several ≡ false → n.branches ≡ q ∷ []
     → rows_of_shards n w views ≡ flat_map (given q w.start w.end (plus_limit w.offset w.limit)) views
 alone n w q views single one =
     (λ i. flat_map (λ es. flat_map (λ b. cond (single i) (map (extended n.merged b)
@@ -172,19 +172,24 @@ selected_alike n q P lawful first here = from n.branches lawful.alike first wher
       let of_b : All (AreAlike b) (b ∷ bs) = All-head (λ a. All (AreAlike a) (b ∷ bs)) b bs alike in
       each (b ∷ bs) (subst (λ a. All (AreAlike a) (b ∷ bs)) (sym is) of_b)
 
--- the page of what the shards give, and what is told of its rows by their shards, are what the query finds
-pub found_in_shards : (n : Normal) (w : Window) (q : Branch) (views : List (List EntityParts)) (names : List (List ℕ)) (given : List Row)
-    (page : RowPage) (results : List Item)
+-- the page of what the shards give is that over the entities of all
+pub page_of_shards : (n : Normal) (w : Window) (q : Branch) (views : List (List EntityParts)) (names : List (List ℕ)) (given : List Row)
+    (page : RowPage)
     → IsLawfulNormal n → SuitsSeveral n.several w → q ≡ get_or n.branches 0 q → names ≡ names_of n q
     → given ≡ map (placed n.merged) (rows_of_shards n w views)
     → page ≡ page_of_rows n.merged names w (map parts_of given)
-    → results ≡ map (item_in n.merged q.select views) (map parts_of page.rows)
-    → AreOfShards (length views) 0 views → IsResultOf n w (all_entities views) results page.next
-found_in_shards n w q views names given page results lawful suits first named all is items own =
-    let found : page ≡ with_places n.merged (result n w (all_entities views)) =
+    → AreOfShards (length views) 0 views → page ≡ page_over n w (all_entities views)
+page_of_shards n w q views names given page lawful suits first named all is own =
     is ∙ (λ i. page_of_rows n.merged (named i) w (map parts_of (all i)))
     ∙ ap (page_of_rows n.merged (names_of n q) w) (parts-placed n.merged (rows_of_shards n w views))
-    ∙ shards_page_is n w q views lawful suits first own in
+    ∙ shards_page_is n w q views lawful suits first own
+
+-- that page, and what is told of its rows by their shards, are what the query finds
+pub found_in_shards : (n : Normal) (w : Window) (q : Branch) (views : List (List EntityParts)) (page : RowPage) (results : List Item)
+    → IsLawfulNormal n → q ≡ get_or n.branches 0 q → page ≡ page_over n w (all_entities views)
+    → results ≡ map (item_in n.merged q.select views) (map parts_of page.rows)
+    → AreOfShards (length views) 0 views → IsResultOf n w (all_entities views) results page.next
+found_in_shards n w q views page results lawful first found items own =
     let told : results ≡ items_of n.merged q.select (all_entities views) (result n w (all_entities views)).rows =
     items ∙ ap (λ (p : RowPage). map (item_in n.merged q.select views) (map parts_of p.rows)) found
     ∙ ap (map (item_in n.merged q.select views)) (parts-placed n.merged (result n w (all_entities views)).rows)

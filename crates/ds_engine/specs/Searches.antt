@@ -15,7 +15,8 @@ use Rattle.ds_query.specs.declared.row.Place.{Place}
 use Rattle.ds_query.specs.Filters.{projected}
 use Rattle.ds_log.specs.Shards.{shard_of}
 use Rattle.ds_pages.specs.Extended.{extended}
-use Rattle.ds_pages.specs.Pages.{plus_limit}
+use Rattle.ds_pages.specs.Pages.{plus_limit, with_places}
+use Rattle.ds_pages.specs.declared.row_page.RowPage.{RowPage}
 use Rattle.ds_engine.specs.BoundSums.{bound_of_all}
 use Rattle.ds_model.specs.Bounds.{given}
 use Rattle.ds_model.specs.Results.{items_of, item_of, result}
@@ -28,6 +29,10 @@ use Rattle.ds_engine.specs.Snapshots.{SnapshotParts, asked_in}
 pub record IsResultOf (n : Normal) (w : Window) (entities : List EntityParts) (results : List Item) (next : Option Place) : Type 0 where
   pub told : All (λ q. results ≡ items_of n.merged q.select entities (result n w entities).rows) n.branches
   pub place : next ≡ (result n w entities).next
+
+-- the page of it: the rows with their places among the merged columns
+abbrev pub page_over : Normal → Window → List EntityParts → RowPage
+page_over n w entities = with_places n.merged (result n w entities)
 
 -- the ancestor of a query, which all its branches have
 abbrev pub ancestor_of : List Branch → Option KeyParts

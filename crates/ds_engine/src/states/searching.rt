@@ -1,22 +1,23 @@
 //! A query over shards.
-ghost use Rattle.std.specs.Prelude.{◌≡◌, ◌+◌, ◌≤◌, [], All, None, map, length, get_or, IfOk, OnErr};
+ghost use Rattle.std.specs.Prelude.{◌≡◌, ◌+◌, ◌≤◌, [], All, IsTrue, map, length, IfOk, false};
 ghost use Rattle.ds_base.specs.Limits.{most_shards};
 ghost use Rattle.ds_query.specs.Filters.{projected};
 ghost use Rattle.ds_query.specs.Lawful.{IsLawfulNormal, SuitsSeveral};
 ghost use Rattle.ds_pages.specs.Places.{IsPlaced, placed};
 ghost use Rattle.ds_engine.specs.Plans.{ArePlansFor};
-ghost use Rattle.ds_engine.specs.Searches.{AreOfShards, IsResultOf, all_entities, look_ups, most_of, names_of, rows_of_shards};
+ghost use Rattle.ds_engine.specs.Searches.{AreOfShards, IsResultOf, all_entities, look_ups, most_of, names_of, page_over, rows_of_shards};
 ghost use Rattle.ds_engine.specs.Searches.{search_bound};
 ghost use Rattle.ds_engine.specs.Snapshots.{entities_in};
 
 use crate::laws::bounds_add_up;
+use crate::states::cutting::cut;
 use crate::states::items::items;
 use crate::states::rows::put_shard_rows;
 use crate::states::snapshot::ShardSnapshot;
 use ds_base::{Names, NoMemory, Results};
 use ds_indexdef::Defs;
 use ds_io::Steps;
-use ds_pages::page_of_rows;
+use ds_pages::{RowPage, page_of_rows};
 use ds_planner::ScanPlan;
 use ds_query::{Branch, Normal, Place, Row, Select, Window};
 use std::alloc::Global;
@@ -86,10 +87,8 @@ pub(crate) fn page_of<L: Ledger>(
         → IfOk result (λ f. IsResultOf normal.now window.now (all_entities (map entities_in snapshots.now)) f.results f.next) }
     ensures steps { IfOk result (λ f. All (λ q. steps.new ≡ steps.old + look_ups q.select (length f.results)) normal.now.branches) }
 {
-    let none = Names::new(alloc);
+    let page = page_over(alloc, snapshots, normal, window, rows)?;
     let branch = &normal.branches.as_slice()[0];
-    let names = names_of(normal, branch, &none);
-    let page = page_of_rows(alloc, rows, &normal.merged, names, window)?;
     let results = items(
         alloc,
         snapshots,
@@ -102,6 +101,56 @@ pub(crate) fn page_of<L: Ledger>(
         results,
         next: page.next,
     })
+}
+
+/// The page of what the shards gave. Where one branch is asked of one shard, that gave its first results in their order, each once: no row
+/// is compared with another one then.
+fn page_over(
+    alloc: Global,
+    snapshots: &[ShardSnapshot<'_>],
+    normal: &Normal,
+    window: &Window,
+    rows: Vec<Row>,
+) -> Result<RowPage, NoMemory>
+    requires lawful { IsLawfulNormal normal.now }
+    requires placeless { SuitsSeveral normal.now.several window.now }
+    requires rows { rows.items ≡ map (placed normal.now.merged) (rows_of_shards normal.now window.now (map entities_in snapshots.now)) }
+    requires placed { All (IsPlaced normal.now.merged) rows.items }
+    ensures { AreOfShards (length (map entities_in snapshots.now)) 0 (map entities_in snapshots.now)
+        → IfOk result (λ page. page ≡ page_over normal.now window.now (all_entities (map entities_in snapshots.now))) }
+{
+    if is_alone(normal, snapshots) {
+        cut(alloc, rows, window)
+    } else {
+        page_of_all(alloc, snapshots, normal, window, rows)
+    }
+}
+
+/// Whether one branch is asked of one shard.
+fn is_alone(normal: &Normal, snapshots: &[ShardSnapshot<'_>]) -> bool
+    ensures { IsTrue result → (normal.now.several ≡ false) × (length snapshots.now ≡ 1) }
+{
+    !normal.several && snapshots.len() == 1
+}
+
+/// The page of rows in any order, of which several may be one result.
+fn page_of_all(
+    alloc: Global,
+    snapshots: &[ShardSnapshot<'_>],
+    normal: &Normal,
+    window: &Window,
+    rows: Vec<Row>,
+) -> Result<RowPage, NoMemory>
+    requires lawful { IsLawfulNormal normal.now }
+    requires placeless { SuitsSeveral normal.now.several window.now }
+    requires rows { rows.items ≡ map (placed normal.now.merged) (rows_of_shards normal.now window.now (map entities_in snapshots.now)) }
+    requires placed { All (IsPlaced normal.now.merged) rows.items }
+    ensures { AreOfShards (length (map entities_in snapshots.now)) 0 (map entities_in snapshots.now)
+        → IfOk result (λ page. page ≡ page_over normal.now window.now (all_entities (map entities_in snapshots.now))) }
+{
+    let none = Names::new(alloc);
+    let names = names_of(normal, &normal.branches.as_slice()[0], &none);
+    page_of_rows(alloc, rows, &normal.merged, names, window)
 }
 
 /// The names whose values tell two results of one key apart.

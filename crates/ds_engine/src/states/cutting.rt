@@ -1,0 +1,48 @@
+//! The page of one shard's first results.
+ghost use Rattle.std.specs.Prelude.{◌≡◌, drop, fold, Some, IfOk};
+ghost use Rattle.ds_query.specs.declared.row.Row.{Row};
+ghost use Rattle.ds_pages.specs.Pages.{last_of};
+
+use ds_base::{NoMemory, TryCopy};
+use ds_pages::RowPage;
+use ds_query::{Place, Row, RowList, Window};
+use std::alloc::Global;
+
+/// The page of rows that stand in their order, of each result one, as many as are skipped and taken: those that are left when the first
+/// are skipped, and the place of the last one. The rows are moved, and none is compared. A refusal is want of memory.
+pub(crate) fn cut(alloc: Global, rows: Vec<Row>, window: &Window) -> Result<RowPage, NoMemory>
+    ensures rows { IfOk result (λ m. m.rows ≡ drop window.now.offset rows.items) }
+    ensures next { IfOk result (λ m. m.next ≡ last_of window.now.start rows.items) }
+{
+    let next = next_place(alloc, rows.as_slice(), &window.start)?;
+    let rows = RowList::from(without(rows, window.offset as usize)?);
+    Ok(RowPage { rows, next })
+}
+
+/// The place of the last row, or else the start.
+fn next_place(alloc: Global, rows: &[Row], start: &Option<Place>) -> Result<Option<Place>, NoMemory>
+    ensures { IfOk result (λ next. next ≡ last_of start.now rows.now) }
+{
+    match rows.last() {
+        Some(row) => Ok(Some(row.place.copy(alloc)?)),
+        None => copied(alloc, start),
+    }
+}
+
+fn copied(alloc: Global, place: &Option<Place>) -> Result<Option<Place>, NoMemory>
+    ensures { IfOk result (λ c. c ≡ place.now) }
+{
+    match place {
+        Some(place) => Ok(Some(place.copy(alloc)?)),
+        None => Ok(None),
+    }
+}
+
+/// The rows without the first ones, so many.
+fn without(rows: Vec<Row>, skipped: usize) -> Result<Vec<Row>, NoMemory>
+    ensures { IfOk result (λ left. left.items ≡ drop skipped rows.items) }
+{
+    let mut rows = rows;
+    let most = skipped.min(rows.len());
+    Ok(rows.split_off(most)?)
+}
