@@ -9,11 +9,12 @@ use Rattle.ds_rounds.specs.Rounds.{NumberedLine}
 use Rattle.ds_model.specs.Sessions.{Session, raised_to}
 use Rattle.ds_protocol.specs.Watermarks.{HaveCounts}
 use Rattle.ds_store.specs.Passes.{HasRead}
-use Rattle.ds_session.specs.declared.asked.Asked.{Asked}
-use Rattle.ds_session.specs.AskedLines.{AreAsked, AreAskedFrom, MayBeAnswered}
+use Rattle.ds_asked.specs.declared.lines.Asked.{Asked}
+use Rattle.ds_asked.specs.AskedLines.{AreAsked, AreAskedFrom, MayBeAnswered}
 use Rattle.ds_session.specs.Clients.{AreAlike, EachOf, HasAnsweredOwn, IsReady, clients_of}
 use Rattle.ds_session.specs.Room.{most_no_memory}
-use Rattle.ds_session.specs.Runs.{AreWritten, HasMet, HasTaken, HaveAnswered, HaveMet, HaveTaken, lines_of_client, passes_of, seen_of}
+use Rattle.ds_session.specs.Runs.{AreWritten, HasMet, HasTaken, HaveAnswered, HaveMet, HaveTaken, passes_of, seen_of}
+use Rattle.ds_asked.specs.AskedLines.{lines_of_client}
 use Rattle.ds_session.specs.Sessions.{SessionParts}
 
 -- ---- a loop over a list, in place

@@ -1,6 +1,5 @@
 pub mod AloneLaws
 pub mod AnsweringLaws
-pub mod Asking
 pub mod ClientLaws
 pub mod ClosingLaws
 pub mod CountLaws

@@ -4,9 +4,9 @@ use Rattle.std.specs.Prelude.{All}
 use Rattle.std.proofs.lemmas.List.Elements.{All-head, All-tail, All-weaker}
 use Rattle.ds_indexdef.specs.declared.IndexDef.{IndexDef}
 use Rattle.ds_rounds.specs.Rounds.{NumberedLine}
-use Rattle.ds_session.specs.declared.asked.Asked.{Asked}
+use Rattle.ds_asked.specs.declared.lines.Asked.{Asked}
 use Rattle.ds_session.specs.Answering.{HasAnswered}
-use Rattle.ds_session.specs.AskedLines.{AreAsked, Asks, MayBeAnswered}
+use Rattle.ds_asked.specs.AskedLines.{AreAsked, Asks, MayBeAnswered}
 use Rattle.ds_session.specs.Clients.{HasAnsweredOwn, IsReady}
 use Rattle.ds_session.specs.Room.{most_no_memory}
 use Rattle.ds_session.specs.Sessions.{SessionParts}

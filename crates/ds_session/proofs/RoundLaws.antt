@@ -22,7 +22,8 @@ use Rattle.ds_model.specs.Worlds.{World, world_of}
 use Rattle.ds_store.specs.Ending.{Begins}
 use Rattle.ds_store.specs.Passes.{PassParts}
 use Rattle.ds_session.specs.Answering.{HasAnswered}
-use Rattle.ds_session.specs.Runs.{HasMet, HaveMet, HaveAnswered, HaveRun, HasRun, AllBegin, AreWritten, IsIdle, lines_of_client, seen_of}
+use Rattle.ds_session.specs.Runs.{HasMet, HaveMet, HaveAnswered, HaveRun, HasRun, AllBegin, AreWritten, IsIdle, seen_of}
+use Rattle.ds_asked.specs.AskedLines.{lines_of_client}
 use Rattle.ds_session.specs.Runs.{texts_of}
 use Rattle.ds_session.specs.Sessions.{SessionParts}
 use Rattle.ds_session.proofs.GrowthLaws.{begins_before, grown_by_reading}

@@ -12,8 +12,8 @@ use Rattle.ds_model.specs.Sessions.{Session}
 use Rattle.ds_protocol.specs.Watermarks.{HaveCounts, greatest_of, nothing_seen, raised_by}
 use Rattle.ds_protocol.proofs.Meetings.{greater-length}
 use Rattle.ds_store.specs.Passes.{PassParts}
-use Rattle.ds_session.specs.declared.asked.Asked.{Asked}
-use Rattle.ds_session.specs.AskedLines.{AreAskedBy, AreAskedFrom}
+use Rattle.ds_asked.specs.declared.lines.Asked.{Asked}
+use Rattle.ds_asked.specs.AskedLines.{AreAskedBy, AreAskedFrom}
 use Rattle.ds_session.specs.Clients.{AreAlike, EachOf, HasAnsweredOwn, IsReady, clients_of}
 use Rattle.ds_session.specs.Room.{most_no_memory}
 use Rattle.ds_session.specs.Runs.{AreWritten, HasTaken, HaveMet, HaveRun, passes_of, seen_of}

@@ -7,8 +7,8 @@ use Rattle.ds_request.specs.declared.call.Request.{Request}
 use Rattle.ds_request.specs.Lawful.{IsLawfulCall}
 use Rattle.ds_reply.specs.declared.reply.Body.{Body}
 use Rattle.ds_model.specs.Asked.{Search, has_shard, search_of}
-use Rattle.ds_session.specs.declared.asked.Asked.{Asked}
-use Rattle.ds_session.specs.AskedLines.{IsLawful, was_read, read_as}
+use Rattle.ds_asked.specs.declared.lines.Asked.{Asked}
+use Rattle.ds_asked.specs.AskedLines.{IsLawful, was_read, read_as}
 use Rattle.ds_session.specs.Replying.{request_of}
 use Rattle.ds_session.specs.Sessions.{SessionParts}
 use Rattle.ds_session.specs.Steps.{FoundWithin, GoneWithin, IsWithinSteps, SearchSteps}

@@ -22,9 +22,9 @@ use Rattle.ds_protocol.specs.Quiet.{IsQuiet}
 use Rattle.ds_protocol.specs.Saying.{no_memory_reply}
 use Rattle.ds_store.specs.Answered.{AreAtLeast}
 use Rattle.ds_store.specs.Passes.{PassParts, HasRead, counts_of}
-use Rattle.ds_session.specs.declared.asked.Asked.{Asked}
+use Rattle.ds_asked.specs.declared.lines.Asked.{Asked}
 use Rattle.ds_session.specs.Answering.{HasAnswered, HasSaid}
-use Rattle.ds_session.specs.AskedLines.{Asks, was_read}
+use Rattle.ds_asked.specs.AskedLines.{Asks, was_read}
 use Rattle.ds_session.specs.Replying.{HasReplied}
 use Rattle.ds_session.specs.Sessions.{IsWithin, SessionParts}
 use Rattle.ds_session.proofs.GrowthLaws.{grown_itself, read_itself}

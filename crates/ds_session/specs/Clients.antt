@@ -8,11 +8,11 @@ use Rattle.ds_rounds.specs.Rounds.{NumberedLine}
 use Rattle.ds_model.specs.Sessions.{first_sessions}
 use Rattle.ds_store.specs.Passes.{nothing_seen}
 use Rattle.ds_session.specs.Answering.{HasAnswered}
-use Rattle.ds_session.specs.AskedLines.{AreAsked, MayBeAnswered}
+use Rattle.ds_asked.specs.AskedLines.{AreAsked, MayBeAnswered}
 use Rattle.ds_session.specs.Room.{most_no_memory}
 use Rattle.ds_session.specs.Runs.{AreWritten, passes_of, seen_of, texts_of}
 use Rattle.ds_session.specs.Sessions.{SessionParts}
-use Rattle.ds_session.specs.declared.asked.Asked.{Asked}
+use Rattle.ds_asked.specs.declared.lines.Asked.{Asked}
 use Rattle.ds_session.specs.declared.output.Cut.{Cut}
 
 -- the clients' numbers

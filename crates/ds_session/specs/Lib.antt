@@ -1,5 +1,4 @@
 pub mod Answering
-pub mod AskedLines
 pub mod Clients
 pub mod Committing
 pub mod Refusing

@@ -1,5 +1,5 @@
 -- What rounds leave of all sessions.
-use Rattle.std.specs.Prelude.{◌≡◌, ℕ, ◌+◌, ◌<◌, ◌≤◌, List, [], ◌∷◌, ◌++◌, ◌==◌, Option, length, filter, map, flat_map, All, IsPermutation}
+use Rattle.std.specs.Prelude.{◌≡◌, ℕ, ◌+◌, ◌<◌, ◌≤◌, List, [], ◌∷◌, ◌++◌, Option, length, map, flat_map, All, IsPermutation}
 use Rattle.std.specs.Prelude.{⊤}
 use Rattle.ds_base.specs.Limits.{greatest_client}
 use Rattle.ds_indexdef.specs.declared.IndexDef.{IndexDef}
@@ -7,13 +7,14 @@ use Rattle.ds_log.specs.declared.Commit.{Commit}
 use Rattle.ds_reply.specs.declared.reply.Reply.{Reply}
 use Rattle.ds_reply.specs.Replies.{replies_text}
 use Rattle.ds_rounds.specs.Rounds.{NumberedLine}
-use Rattle.ds_model.specs.Asked.{asked, client_of}
+use Rattle.ds_model.specs.Asked.{asked}
 use Rattle.ds_model.specs.Legal.{RoundsSteps, acknowledged, accepted, printed_next, drawn_in, answered_lines}
 use Rattle.ds_model.specs.Sessions.{Session, first_sessions, raised_to}
 use Rattle.ds_model.specs.Worlds.{world_of}
 use Rattle.ds_protocol.specs.Watermarks.{raised_by}
 use Rattle.ds_store.specs.Ending.{Begins}
 use Rattle.ds_store.specs.Passes.{PassParts, HasRead}
+use Rattle.ds_asked.specs.AskedLines.{lines_of_client}
 use Rattle.ds_session.specs.Answering.{HasAnswered}
 use Rattle.ds_session.specs.Sessions.{SessionParts}
 
@@ -51,10 +52,6 @@ abbrev pub HaveTaken : Session → List SessionParts → List SessionParts → T
 HaveTaken greatest [] [] = ⊤
 HaveTaken greatest (s ∷ before) (t ∷ after) = HasTaken greatest s t × HaveTaken greatest before after
 HaveTaken greatest _ _ = ⊥
-
--- the lines of one client, in their order
-abbrev pub lines_of_client : ℕ → ℕ → List NumberedLine → List NumberedLine
-lines_of_client shards client = filter (λ line. client_of (asked shards) line.content == client)
 
 -- each client's lines of the round were answered, from this client on
 abbrev pub HaveAnswered : List IndexDef → ℕ → Option ℕ → List NumberedLine → ℕ → List SessionParts → List SessionParts → Type 0

@@ -13,8 +13,8 @@ ghost use Rattle.ds_session.specs.Runs.{AreWritten, HasTaken, HaveRun, seen_of};
 ghost use Rattle.ds_output.specs.Unsent.{AreEmpty};
 ghost use Rattle.ds_store.specs.Passes.{nothing_seen};
 
-use crate::asked::{Asked, asked_by_client};
 use crate::session::Session;
+use ds_asked::{Asked, asked_by_client};
 use ds_base::limits::MAX_CLIENT;
 use ds_base::{Counts, NoMemory, Sequence};
 use ds_indexdef::Defs;

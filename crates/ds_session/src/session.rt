@@ -7,14 +7,14 @@ ghost use Rattle.ds_model.specs.Sessions.{first_session};
 ghost use Rattle.ds_rounds.specs.Lines.{IsWithinLimit, handed};
 ghost use Rattle.ds_rounds.specs.Rounds.{NumberedLine};
 ghost use Rattle.ds_session.specs.Answering.{HasAnswered};
-ghost use Rattle.ds_session.specs.AskedLines.{Asks, MayBeAnswered, was_read};
+ghost use Rattle.ds_asked.specs.AskedLines.{Asks, MayBeAnswered, was_read};
 ghost use Rattle.ds_session.specs.Room.{most_no_memory};
 ghost use Rattle.ds_session.specs.Runs.{HasTaken};
 ghost use Rattle.ds_session.specs.Sessions.{IsWithin};
 ghost use Rattle.ds_session.specs.Steps.{IsWithinSteps};
 
-use crate::asked::{Asked, asked_line};
 use crate::state::State;
+use ds_asked::{Asked, asked_line};
 use ds_base::{Buffer, Counts, NoMemory};
 use ds_indexdef::Defs;
 use ds_io::Steps;

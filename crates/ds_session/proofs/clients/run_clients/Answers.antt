@@ -3,7 +3,7 @@ use Rattle.ds_base.specs.Limits.{greatest_client}
 use Rattle.ds_model.specs.Sessions.{Session}
 use Rattle.ds_protocol.specs.Watermarks.{greatest_of}
 use Rattle.ds_rounds.specs.Rounds.{lines_of_round}
-use Rattle.ds_session.specs.AskedLines.{AreAskedBy}
+use Rattle.ds_asked.specs.AskedLines.{AreAskedBy}
 use Rattle.ds_session.specs.Runs.{seen_of}
 use Rattle.ds_session.proofs.RunLaws.{alike_roomed, counts_roomed, counts_run, greatest_many, have_run, numbers_roomed, numbers_run}
 use Rattle.ds_session.proofs.RunLaws.{ready_met}

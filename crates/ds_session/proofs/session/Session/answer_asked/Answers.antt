@@ -1,6 +1,6 @@
 use Rattle.std.proofs.Common.{◌∙◌, ap, arith, length, sym}
 use Rattle.std.specs.Prelude.{Err}
-use Rattle.ds_session.specs.AskedLines.{was_read}
+use Rattle.ds_asked.specs.AskedLines.{was_read}
 use Rattle.ds_session.specs.Replying.{request_of}
 use Rattle.ds_session.specs.Sessions.{SessionParts}
 use Rattle.ds_session.proofs.RoomLaws.{longest_no_memory}

@@ -1,5 +1,5 @@
 -- A round's lines by client, and what each asks.
-use Rattle.std.specs.Prelude.{◌≡◌, ℕ, zero, suc, ◌+◌, ◌<◌, ◌≤◌, ◌^◌, List, [], ◌∷◌, ◌++◌, Ok, Err, Result, length, IsTrue, ⊤}
+use Rattle.std.specs.Prelude.{◌≡◌, ℕ, zero, suc, ◌+◌, ◌<◌, ◌≤◌, ◌^◌, List, [], ◌∷◌, ◌++◌, Ok, Err, Result, filter, length, ◌==◌, IsTrue, ⊤}
 use Rattle.ds_base.specs.Limits.{greatest_client}
 use Rattle.ds_reply.specs.declared.reply.Body.{Body}
 use Rattle.ds_request.specs.declared.call.Request.{Request}
@@ -7,8 +7,7 @@ use Rattle.ds_request.specs.Lawful.{IsLawfulCall}
 use Rattle.ds_rounds.specs.Rounds.{NumberedLine}
 use Rattle.ds_model.specs.Asked.{asked, client_of, has_shard}
 use Rattle.ds_protocol.specs.Quiet.{IsQuiet}
-use Rattle.ds_session.specs.Runs.{lines_of_client}
-use Rattle.ds_session.specs.declared.asked.Asked.{Asked}
+use Rattle.ds_asked.specs.declared.lines.Asked.{Asked}
 
 -- what was read from a line of this client: its request, or the client and what its reply says
 abbrev pub read_as : ℕ → Result Request Body → Result Request (ℕ × Body)
@@ -18,7 +17,7 @@ read_as client (Err b) = Err (client, b)
 abbrev pub was_read : Asked → Result Request (ℕ × Body)
 was_read a = read_as a.client a.request
 
--- a request of this client that a store of so many shards may be asked; or a refusal, which tells of no commit and of no id
+-- a request of this client that a core of so many shards may be asked; or a refusal, which tells of no commit and of no id
 abbrev pub IsLawful : ℕ → ℕ → Result Request Body → Type 0
 IsLawful shards client (Ok r) = (r.client ≡ client) × IsLawfulCall r.call × IsTrue (has_shard shards r.call)
 IsLawful shards client (Err b) = IsQuiet b
@@ -35,6 +34,10 @@ pub record Asks (shards : ℕ) (line : NumberedLine) (a : Asked) : Type 0 where
   pub read : asked shards line.content ≡ was_read a
   pub own : client_of (asked shards) line.content ≡ a.client
   pub answerable : MayBeAnswered shards a
+
+-- the lines of one client, in their order
+abbrev pub lines_of_client : ℕ → ℕ → List NumberedLine → List NumberedLine
+lines_of_client shards client = filter (λ line. client_of (asked shards) line.content == client)
 
 -- line by line what a client asks
 abbrev pub AreAsked : ℕ → ℕ → List NumberedLine → List Asked → Type 0
@@ -58,3 +61,9 @@ abbrev pub with_asked : List (List Asked) → ℕ → Asked → List (List Asked
 with_asked [] client a = []
 with_asked (own ∷ lists) zero a = (own ++ a ∷ []) ∷ lists
 with_asked (own ∷ lists) (suc client) a = own ∷ with_asked lists client a
+
+-- round by round
+abbrev pub AreAskedRounds : ℕ → List (List NumberedLine) → List (List (List Asked)) → Type 0
+AreAskedRounds shards [] [] = ⊤
+AreAskedRounds shards (lines ∷ rounds) (lists ∷ asked) = AreAskedBy shards lines lists × AreAskedRounds shards rounds asked
+AreAskedRounds shards _ _ = ⊥

@@ -4,7 +4,7 @@ ghost use Rattle.ds_base.specs.Limits.{greatest_client};
 ghost use Rattle.ds_rounds.specs.Lines.{IsWithinLimit, handed};
 ghost use Rattle.ds_rounds.specs.Rounds.{lines_of_round};
 ghost use Rattle.ds_rounds.specs.Reading.{IsRound};
-ghost use Rattle.ds_session.specs.AskedLines.{AreAskedBy, Asks, with_asked};
+ghost use Rattle.ds_asked.specs.AskedLines.{AreAskedBy, Asks, with_asked};
 
 use ds_base::Sequence;
 use ds_base::limits::MAX_CLIENT;
@@ -16,17 +16,18 @@ use std::alloc::{AllocError, Global};
 
 /// What a line asks, or what its reply says instead.
 #[derive(Drop)]
-pub(crate) struct Asked {
+pub struct Asked {
     /// Whose line it is.
     pub client: u32,
     /// The line's number, counted from 1 through the whole input.
     pub number: u64,
+    /// The request; or what the reply to a line says that asks nothing.
     pub request: Result<Request, Body>,
 }
 
 /// What the lines of a round ask, one list for each client from 0 on, each in the order of the lines. Every line is read once.
 /// A refusal is want of memory: whose line it was isn't known then.
-pub(crate) fn asked_by_client(
+pub fn asked_by_client(
     alloc: Global,
     shards: u32,
     round: &Round,
@@ -66,7 +67,7 @@ fn put(lists: &mut Vec<Sequence<Asked>>, asked: Asked) -> Result<(), AllocError>
 }
 
 /// What one line asks. A refusal is want of memory.
-pub(crate) fn asked_line(
+pub fn asked_line(
     alloc: Global,
     shards: u32,
     number: u64,
