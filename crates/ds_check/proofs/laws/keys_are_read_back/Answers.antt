@@ -1,8 +1,0 @@
-use Rattle.ds_reply.specs.Printing.{key_data}
-use Rattle.ds_check.proofs.CommitsBack.{text_back}
-use Rattle.ds_check.proofs.CommitsPlain.{key_plain}
-use Rattle.ds_check.proofs.KeysBack.{key_back}
-use Rattle.ds_check.proofs.laws.keys_are_read_back.Goals as goal
-
-pub returns : goal.returns
-returns c = λ k h. (text_back (key_data k) (key_plain k 125 h), key_back k h.rules)

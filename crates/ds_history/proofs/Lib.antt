@@ -1,0 +1,4 @@
+mod Noting
+mod Numbers
+mod Found
+pub mod StrongReads

@@ -1,0 +1,5 @@
+pub mod PlainReplies
+pub mod PlainResults
+mod Puts
+pub mod RepliesBack
+pub mod Splitting

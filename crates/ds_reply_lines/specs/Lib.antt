@@ -1,0 +1,2 @@
+pub mod LawfulResults
+pub mod ReplyLines

@@ -1,0 +1,5 @@
+pub mod Accepted
+mod Counting
+mod Joining
+mod RangeOrder
+pub mod ToldLaws
