@@ -1,0 +1,5 @@
+pub mod Committing
+pub mod Deciding
+pub mod Judging
+pub mod Verdicts
+pub mod Walks
