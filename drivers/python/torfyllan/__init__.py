@@ -20,7 +20,7 @@ reads them, `explain` says refusals as sentences, `journal` knows who wrote what
 from typing import TYPE_CHECKING
 
 from .client import Client
-from .errors import BlockEnded, IndexFileError, ServerFailed, TorfyllanError
+from .errors import BlockEnded, IndexFileError, NotLegal, ServerFailed, TorfyllanError
 from .refusals import (
     BadCursor,
     BadGql,
@@ -102,6 +102,7 @@ __all__ = [
     "Round",
     "SecondGroup",
     "Server",
+    "NotLegal",
     "ServerFailed",
     "shard_of",
     "Text",

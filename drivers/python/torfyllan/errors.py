@@ -10,6 +10,10 @@ class ServerFailed(TorfyllanError):
     """The server died, sent what is no reply, or sent nothing in time. It can't be used any more."""
 
 
+class NotLegal(TorfyllanError):
+    """The replies of a run aren't those of a legal one, or could not be audited; the text is the audit's, with the first wrong reply beside its line."""
+
+
 class BlockEnded(TorfyllanError):
     """An operation in a transaction's `with` block, behind the end of the transaction."""
 

@@ -8,6 +8,7 @@ from typing import Any, Collection, Deque, Dict, List, Optional, Sequence, Set, 
 from . import indexes as index_files
 from .client import Client
 from .consistency import Consistency
+from .auditing import Audit
 from .drawing import Drawing
 from .errors import ServerFailed, TorfyllanError
 from .journal import Journal, Session, Site, Write, calling_site
@@ -43,7 +44,8 @@ class Server:
     `consistency` is `"explicit"` (as just told), `"strong"` (each write is applied before its call returns), or a share from 0 to 1 of the writes
     that are applied so, drawn by `seed`. `many` names properties that are lists in each reply, as `"Task.tags"`, or `"tags"` of every kind.
     `log` is the name of a file, as `run.jsonl`, that keeps the talk (see `torfyllan.log.Log`). `draw` is the name of a file, as `run.html`: a page
-    that shows the run is written there when the server ends.
+    that shows the run is written there when the server ends. With `audit` the talk is kept, and held against the definitions when the server ends:
+    `stop`, and the end of a `with` block, raise `NotLegal` where a reply is none that a legal run could give.
 
     `program` is the program, or a list of it and its first words; else it is what the environment's TORFYLLAN names, or `run` of the repository that
     this package stands in, which builds the server the first time: `start_timeout` seconds are given to it, and `tell` is called with
@@ -65,6 +67,7 @@ class Server:
         many: Collection[Any] = (),
         log: Optional[str] = None,
         draw: Union[str, "os.PathLike[str]", None] = None,
+        audit: bool = False,
         program: Any = None,
         timeout: float = 60.0,
         start_timeout: float = 7200.0,
@@ -80,7 +83,10 @@ class Server:
         self._indexes = index_files.Given(indexes, auto_index)
         self._consistency = Consistency(consistency, seed)
         self._many_of_all = set(lists_of(many))
+        self._audit = Audit() if audit else None
         self._recorders: List[Recorder] = [*([Log(log)] if log is not None else []), *([Drawing(draw)] if draw is not None else [])]
+        if self._audit is not None:
+            self._recorders.append(self._audit)
         self._timeout = timeout
         self._start_timeout = start_timeout
         self._tell = tell or tell_on_stderr
@@ -181,13 +187,16 @@ class Server:
                 raise
 
     def stop(self) -> None:
-        """Ends the input, and waits for the server's end. A status that isn't 0 is a `ServerFailed`."""
+        """Ends the input, and waits for the server's end. A status that isn't 0 is a `ServerFailed`, and an audited run that isn't legal `NotLegal`."""
         if self._process is None or self._folder is None:
             return
         try:
             self._process.stop(self._timeout)
         finally:
             self._close()
+        if self._audit is not None and self._audit.fault is not None:
+            fault, self._audit.fault = self._audit.fault, None
+            raise fault
 
     def kill(self) -> None:
         """Ends the server at once."""

@@ -1,0 +1,4 @@
+mod AuditLaws
+mod Bounds
+mod WordsLaws
+mod WritingLaws
