@@ -1,4 +1,10 @@
 //! A journal as shards take it.
+ghost use Rattle.std.specs.Prelude.{◌≡◌, ℕ, ◌≤◌, List, All, IsTrue, length};
+ghost use Rattle.ds_base.specs.Limits.{most_writes};
+ghost use Rattle.ds_log.specs.Logs.{shard_list};
+ghost use Rattle.ds_log.specs.UpTo.{commits_of};
+ghost use Rattle.ds_log.specs.declared.Commit.{Commit};
+
 use crate::made::{deletes, is_named, touches};
 use ds_base::NoMemory;
 use ds_log::{Commit, Entry, Journal, ShardCommits, project, shard_entries};
@@ -75,5 +81,29 @@ fn counts_entries(alloc: Global) -> Result<bool, NoMemory> {
 #[test]
 fn entries_are_counted_by_their_commits(rt: HostRuntime) -> Result<(), Fail> {
     assert!(rt; counts_entries(rt.alloc())?);
+    Ok(())
+}
+
+/// Whether a shard has at most 500 entries for each commit of its journal; so it is, since no commit has more writes.
+fn are_few(entries: &ShardCommits, commits: u32) -> bool
+    ensures { (journal : List Commit) (shard shards : ℕ) → entries.now.commits ≡ commits_of (shard_list journal shard shards)
+        → length journal ≡ commits → All (λ c. length c.writes ≤ most_writes) journal → IsTrue result }
+{
+    entries.len() <= 500 * u64::from(commits)
+}
+
+/// Commits 1 and 3 of three gave the shard three entries.
+fn has_few_entries(alloc: Global) -> Result<bool, NoMemory> {
+    let mut entries = ShardCommits::new(alloc);
+    entries.make_room(3)?;
+    entries.push(1);
+    entries.push(3);
+    entries.push(3);
+    Ok(are_few(&entries, 3) && !are_few(&entries, 0))
+}
+
+#[test]
+fn a_shard_has_few_entries_for_each_commit(rt: HostRuntime) -> Result<(), Fail> {
+    assert!(rt; has_few_entries(rt.alloc())?);
     Ok(())
 }

@@ -1,8 +1,12 @@
 //! Queries and windows from text: `> 3; < 6; desc` asks for the property `v`, and `from 1; skip 2; take 3` for a part of the results.
+ghost use Rattle.std.specs.Prelude.{IfOk};
+ghost use Rattle.ds_query.specs.Lawful.{IsLawfulNormal};
+
 use crate::written::{numbers, put};
 use ds_base::{Column, Columns, NoMemory, TextString};
-use ds_query::{Filter, Filters, Op, Query, Select};
+use ds_query::{Filter, Filters, Normal, Op, Query, Select, normalize};
 use std::alloc::Global;
+use std::test::Fail;
 
 fn op_of(word: &str) -> Op {
     match word {
@@ -52,4 +56,18 @@ pub(crate) fn query(alloc: Global, text: &str) -> Result<Query, NoMemory> {
         select: Select::Keys,
         cursors: false,
     })
+}
+
+/// Its normal form.
+pub(crate) fn normal(alloc: Global, asked: &str) -> Result<Normal, Fail>
+    ensures { IfOk result IsLawfulNormal }
+{
+    let query = query(alloc, asked)?;
+    if !query.is_lawful() {
+        return Err(Fail::new("no lawful query"));
+    }
+    match normalize(alloc, &query) {
+        Ok(normal) => Ok(normal),
+        Err(_) => Err(Fail::new("no normal form")),
+    }
 }

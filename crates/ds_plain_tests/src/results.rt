@@ -10,7 +10,7 @@ use ds_query::{Branch, Normal, Place, Row, RowList, Window, normalize};
 use std::alloc::Global;
 use std::test::Fail;
 
-fn from(start: Option<Place>, offset: u32, limit: Option<u32>) -> Window {
+pub(crate) fn from(start: Option<Place>, offset: u32, limit: Option<u32>) -> Window {
     Window {
         start,
         end: None,
@@ -35,6 +35,13 @@ fn show_rows(rows: &[Row], onto: &mut String) -> Result<(), NoMemory> {
         show_key(&row.key, onto)?;
     }
     Ok(())
+}
+
+/// Whether these are the keys of the rows.
+pub(crate) fn are_keys(alloc: Global, rows: &[Row], keys: &str) -> Result<bool, NoMemory> {
+    let mut shown = String::new(alloc);
+    show_rows(rows, &mut shown)?;
+    Ok(shown.as_str() == keys)
 }
 
 /// The keys of the lists of the branches, united.

@@ -17,7 +17,7 @@ pub(crate) fn number(word: &str) -> Value {
     Value::Int(word.parse::<i64>().unwrap_or(0))
 }
 
-fn key(alloc: Global, name: &str) -> Result<Key, Fail> {
+pub(crate) fn key(alloc: Global, name: &str) -> Result<Key, Fail> {
     let kind = TextString::of(alloc, "T")?;
     let ident = Ident::Name(TextString::of(alloc, name)?);
     Ok(Key::new(alloc, Elems::from(vec![in alloc; Elem { kind, ident }]?))?)
