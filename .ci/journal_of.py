@@ -1,94 +1,126 @@
 #!/usr/bin/env python3
-"""journal_of.py INPUT REPLIES: the journal that the acknowledged commits of a run tell, one JSON line a commit."""
-import contextlib, json, re, sys
+"""The journal that the acknowledged commits of a run tell, as the text that the auditor reads: one JSON line a commit.
 
-def text(value):
-    return json.dumps(value, ensure_ascii=False, separators=(',', ':'))
+    .ci/journal_of.py INPUT REPLIES     prints it
 
-def key(k):
-    return k[1:] if k and k[0] == '' else k
-
-def value(v):
-    if isinstance(v, dict) and 'key' in v:
-        return {'key': key(v['key'])}
-    return v
-
-def values(v):
-    if isinstance(v, list):
-        vs = [value(x) for x in v]
-        return vs[0] if len(vs) == 1 else vs
-    return value(v)
-
-def entity(e, printed):
-    properties = {}
-    given = e.get('properties') or {}
-    for name in sorted(given, key=lambda n: n.encode()):
-        v = given[name]
-        if isinstance(v, dict) and 'unindexed' in v:
-            if v['unindexed'] != []:
-                properties[name] = {'unindexed': values(v['unindexed'])}
-        elif v != []:
-            properties[name] = values(v)
-    return {'key': printed, 'properties': properties}
-
-def root(k):
-    return k[:2] if isinstance(k[0], str) else k[:1]
+It needs no trust: the auditor's verdict is on the journal that it is handed, and one that isn't the run's makes no run legal that isn't.
+"""
+import contextlib
+import itertools
+import json
+import re
+import sys
 
 ANCESTOR = re.compile(r"\bANCESTOR\s+IS\s+(?:KEY\s*\(((?:'(?:[^']|'')*'|[^')])*)\)|:([A-Za-z0-9_$.]+))", re.IGNORECASE)
+CONFLICT, EXPIRED = 13, 23
+
+
+def text(value):
+    return json.dumps(value, ensure_ascii=False, separators=(",", ":"))
+
+
+def key(given):
+    """A key as replies have it: without an empty namespace."""
+    return given[1:] if given and given[0] == "" else given
+
+
+def value(given):
+    return {"key": key(given["key"])} if isinstance(given, dict) and "key" in given else given
+
+
+def values(given):
+    """A list of one value is that value."""
+    if not isinstance(given, list):
+        return value(given)
+    found = [value(it) for it in given]
+    return found[0] if len(found) == 1 else found
+
+
+def entity(given, printed):
+    """The entity of a put, as a get would show it under the key that the reply has."""
+    properties, told = {}, given.get("properties") or {}
+    for name in sorted(told, key=lambda it: it.encode()):
+        it = told[name]
+        if isinstance(it, dict) and "unindexed" in it:
+            if it["unindexed"] != []:
+                properties[name] = {"unindexed": values(it["unindexed"])}
+        elif it != []:
+            properties[name] = values(it)
+    return {"key": printed, "properties": properties}
+
+
+def root(path):
+    return path[:2] if isinstance(path[0], str) else path[:1]
+
 
 def ancestor_of(asked):
     """The ancestor of a query or a statement; None where there is none."""
-    if asked.get('op') != 'gql':
-        ancestor = asked.get('ancestor')
+    if asked.get("op") != "gql":
+        ancestor = asked.get("ancestor")
         return None if ancestor is None else key(ancestor)
-    found = ANCESTOR.search(asked['text'])
+    found = ANCESTOR.search(asked["text"])
     if found is None:
         return None
     if found[2] is not None:
-        bound = asked['args'][int(found[2]) - 1] if found[2].isdigit() else asked['names'][found[2]]
-        return key(bound['key'])
+        bound = asked["args"][int(found[2]) - 1] if found[2].isdigit() else asked["names"][found[2]]
+        return key(bound["key"])
     parts = [part[1:-1].replace("''", "'") if part[0] == "'" else int(part) for part in re.findall(r"'(?:[^']|'')*'|\d+", found[1])]
     return [list(pair) for pair in zip(parts[::2], parts[1::2])]
 
-def take(r, asked, commits, open_by):
-    """What one Ok reply tells."""
-    client, op = r['client'], r['ok']
-    txn = open_by.get(client)
-    def touch(k):
-        group = root(k)
-        if all(g != group for g, _ in txn['touched']):
-            txn['touched'].append([group, r['place']])
-    if op == 'begin':
-        open_by[client] = {'touched': [], 'writes': []}
-    elif op == 'rollback':
+
+def take(reply, asked, commits, open_by):
+    """Notes what a reply tells that isn't a refusal."""
+    client, op = reply["client"], reply["ok"]
+    transaction = open_by.get(client)
+
+    def touch(path):
+        group = root(path)
+        if all(touched != group for touched, _ in transaction["touched"]):
+            transaction["touched"].append([group, reply["place"]])
+
+    def note(touched, writes):
+        commits[reply["commit"]] = {"client": client, "commit": reply["commit"], "touched": touched, "writes": writes}
+
+    if op == "begin":
+        open_by[client] = {"touched": [], "writes": []}
+    elif op == "rollback":
         open_by.pop(client, None)
-    elif op in ('put', 'delete'):
-        write = {'put': entity(asked['entity'], r['key'])} if op == 'put' else {'delete': r['key']}
-        if 'commit' in r:
-            commits[r['commit']] = {'client': client, 'commit': r['commit'], 'touched': [], 'writes': [write]}
+    elif op in ("put", "delete"):
+        write = {"put": entity(asked["entity"], reply["key"])} if op == "put" else {"delete": reply["key"]}
+        if "commit" in reply:
+            note([], [write])
         else:
-            touch(r['key'])
-            txn['writes'].append(write)
-    elif op == 'get' and txn is not None:
-        touch(key(asked['key']))
-    elif op in ('query', 'gql') and txn is not None and 'place' in r:
+            touch(reply["key"])
+            transaction["writes"].append(write)
+    elif op == "get" and transaction is not None:
+        touch(key(asked["key"]))
+    elif op in ("query", "gql") and transaction is not None and "place" in reply:
         touch(ancestor_of(asked))
-    elif op == 'commit':
-        commits[r['commit']] = {'client': client, 'commit': r['commit'], 'touched': txn['touched'], 'writes': txn['writes']}
+    elif op == "commit":
+        note(transaction["touched"], transaction["writes"])
         open_by.pop(client)
 
-def main(input_name, replies_name):
-    lines = open(input_name, 'rb').read().split(b'\n')
-    commits, open_by = {}, {}
-    for reply in open(replies_name, 'rb').read().split(b'\n')[:-1]:
+
+def journal(lines, replies):
+    """The text of the journal, from the bytes of an input and of its replies."""
+    lines, commits, open_by = lines.split(b"\n"), {}, {}
+    for line in replies.split(b"\n")[:-1]:
         # Of a reply that can't be followed nothing is told: the verdict will tell of it, or of the first one that misses its commit.
         with contextlib.suppress(ValueError, KeyError, IndexError, TypeError, AttributeError):
-            r = json.loads(reply)
-            if r.get('error') in (13, 23):
-                open_by.pop(r['client'], None)
-            if 'ok' in r:
-                take(r, json.loads(lines[r['line'] - 1]), commits, open_by)
-    for n in sorted(commits):
-        sys.stdout.write(text(commits[n]) + '\n')
+            reply = json.loads(line)
+            if reply.get("error") in (CONFLICT, EXPIRED):
+                open_by.pop(reply["client"], None)
+            if "ok" in reply:
+                take(reply, json.loads(lines[reply["line"] - 1]), commits, open_by)
+    # Behind a number that no reply tells nothing stands, so that the verdict tells of the next one's reply.
+    numbers = itertools.takewhile(lambda number: number in commits, itertools.count(1))
+    return "".join(text(commits[number]) + "\n" for number in numbers).encode(errors="surrogatepass")
 
-main(*sys.argv[1:3])
+
+def main(input_name, replies_name):
+    with open(input_name, "rb") as lines, open(replies_name, "rb") as replies:
+        sys.stdout.buffer.write(journal(lines.read(), replies.read()))
+
+
+if __name__ == "__main__":
+    main(*sys.argv[1:3])

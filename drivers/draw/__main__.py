@@ -43,9 +43,10 @@ def content_of(name):
 
 
 def verdict_of(name):
-    """A verdict as {"verdict": text, "line": number or None, "expected": what the reply should have been as a text, or None}."""
-    text = content_of(name).decode("utf-8", "replace")
-    said = read_json(text) or {"verdict": text.strip()}
+    """A verdict as {"verdict": text, "line": number or None, "expected": what the reply should have been as a text, or None}. Of a text that isn't
+    JSON it is the first line: behind it ./run --audit prints the line and its reply."""
+    text = content_of(name).decode("utf-8", "replace").strip()
+    said = read_json(text) or {"verdict": text.partition("\n")[0]}
     found = re.fullmatch(r"(legal)|not legal(?:: (?:line ([0-9]{1,15})|count|numbers|ids))?", str(said.get("verdict")))
     if not found:
         print(f'{name}: the verdict is neither "legal" nor "not legal"', file=sys.stderr)

@@ -311,7 +311,8 @@ class Words(unittest.TestCase):
         with tempfile.TemporaryDirectory() as folder:
             file = pathlib.Path(folder, "verdict")
             expected = {"big": 9007199254740993}
-            for said, wanted in (("legal\n", ["legal", None, None]), ("not legal: line 4\n", ["not legal: line 4", 4, None]), ("not legal: count", ["not legal: count", None, None]), ('{"verdict":"legal"}', ["legal", None, None]),
+            for said, wanted in (("legal\n", ["legal", None, None]), ("not legal: line 4\n", ["not legal: line 4", 4, None]), ("not legal: count", ["not legal: count", None, None]),
+                                 ("not legal: line 4\nline  {}\nreply {}\n", ["not legal: line 4", 4, None]), ('{"verdict":"legal"}', ["legal", None, None]),
                                  (json.dumps({"verdict": "not legal", "line": 2, "expected": expected}), ["not legal", 2, '{"big": 9007199254740993}'])):
                 file.write_text(said, encoding="utf-8")
                 status, text, errors = self.draw(EXAMPLES / "stale.jsonl", EXAMPLES / "stale.expected", "--verdict", file)

@@ -25,7 +25,10 @@ class Audit(Recorder):
 
     def begin(self, words: Sequence[str], indexes: Optional[str]) -> None:
         if not PROGRAM.exists():
-            raise ServerFailed(f"{PROGRAM}, which audits a run, isn't there: take the package as it lies in the repository, or keep a log, and audit it there by ./run --audit")
+            raise ServerFailed(
+                f"{PROGRAM}, which audits a run, isn't there: take the package as it lies in the repository, or keep a log, and audit it there"
+                " by ./run --audit"
+            )
         self._words, self._indexes = list(words), indexes
         self._kept = [tempfile.TemporaryFile(), tempfile.TemporaryFile()]
         self._whole = True

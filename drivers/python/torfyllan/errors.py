@@ -11,7 +11,8 @@ class ServerFailed(TorfyllanError):
 
 
 class NotLegal(TorfyllanError):
-    """The replies of a run aren't those of a legal one, or could not be audited; the text is the audit's, with the first wrong reply beside its line."""
+    """The replies of a run aren't those of a legal one, or could not be audited. The text is the audit's, with the first wrong reply beside its
+    line."""
 
 
 class BlockEnded(TorfyllanError):

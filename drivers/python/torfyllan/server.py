@@ -6,9 +6,9 @@ import threading
 from typing import Any, Collection, Deque, Dict, List, Optional, Sequence, Set, Tuple, Type, Union
 
 from . import indexes as index_files
+from .auditing import Audit
 from .client import Client
 from .consistency import Consistency
-from .auditing import Audit
 from .drawing import Drawing
 from .errors import ServerFailed, TorfyllanError
 from .journal import Journal, Session, Site, Write, calling_site
