@@ -244,7 +244,8 @@ fn judge_new(
     requires ends { IsTrue (ends_in_id entity.key.elems) }
     requires unrefused { refusal_of turn.now.run.now.defs.now (seen_by session.old) (Call.Put entity.key true entity.properties) ≡ None }
     ensures decided { IfOk result (λ found. DecidesTurn turn.now
-        (λ said after. IsPut (world_in turn.now) turn.now.client (seen_by session.old) true entity said after) found (seen_by session.new)) }
+        (λ said after. IsPut (world_in turn.now) turn.now.client (seen_by session.old) true entity said after)
+        found (seen_by session.new)) }
     ensures kept { IfOk result (λ found. IsSession turn.now session.new) }
 {
     let asked = entity.key();

@@ -203,7 +203,8 @@ impl<'a> History<'a> {
     /// The entity that the commits of these numbers up to a place leave at a key.
     fn entity_by<'b>(&'b self, numbers: &ShardCommits, key: &Key, place: u64) -> Option<&'b Entity>
         ensures { option_copied result
-            ≡ fold (left_at key.now) None (writes_of (commits_at self.now.journal (take (count_up_to place numbers.now.commits) numbers.now.commits))) }
+            ≡ fold (left_at key.now) None (writes_of (commits_at self.now.journal
+            (take (count_up_to place numbers.now.commits) numbers.now.commits))) }
     {
         let mut found = None;
         for i in 0..numbers.up_to(place) {
@@ -247,7 +248,8 @@ impl<'a> History<'a> {
         place: u64,
     ) -> Result<EntityMap, NoMemory>
         ensures { IfOk result (λ v. v
-            ≡ sorted_by_key (after (writes_of (commits_at self.now.journal (take (count_up_to place numbers.now.commits) numbers.now.commits))))) }
+            ≡ sorted_by_key (after (writes_of (commits_at self.now.journal
+            (take (count_up_to place numbers.now.commits) numbers.now.commits))))) }
     {
         let mut view = EntityMap::new(alloc);
         for i in 0..numbers.up_to(place) {

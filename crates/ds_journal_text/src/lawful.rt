@@ -4,7 +4,8 @@ ghost use Rattle.std.specs.Prelude.{◌≤◌, All, length};
 ghost use Rattle.ds_base.specs.Bytes.{AreBytes};
 ghost use Rattle.ds_base.specs.Limits.{most_writes};
 ghost use Rattle.ds_bytes.specs.Lawful.{IsText, IsLawfulIdent, IsLawfulElem, IsLawfulKey};
-ghost use Rattle.ds_journal_text.specs.Lawful.{IsLawfulValue, IsLawfulProperty, IsLawfulEntity, IsLawfulWrite, IsLawfulTouch, IsLawfulCommit};
+ghost use Rattle.ds_journal_text.specs.Lawful.{IsLawfulValue, IsLawfulProperty, IsLawfulEntity};
+ghost use Rattle.ds_journal_text.specs.Lawful.{IsLawfulWrite, IsLawfulTouch, IsLawfulCommit};
 
 use ds_base::{ByteString, Elem, Entity, Ident, Key, Property, TextString, Value};
 use ds_log::{Commit, Touch, Write};

@@ -1,4 +1,5 @@
-//! From what is to be told to the output: replies put into a client's text, with the room for them taken before, and texts written to a sink.
+//! From what is to be told to the output: replies put into a client's text, with the room for them taken before, and texts written to
+//! a sink.
 //!
 //! `telling` puts a reply into a text, or that there was no memory, for which there is room; `written` and `searched` have what replies to
 //! writes and searches say; `writing` writes a text to a sink, and `unsent` hands out what a sink didn't take of all clients' texts. It

@@ -73,4 +73,5 @@ last_item (item d (item e ds)) = last_item (item e ds)
 -- the id in which the key in a member ends
 abbrev pub last_id_at : List ℕ → Data → Option ℕ
 last_id_at name d =
-    option_and_then as_u64 (option_and_then as_number (option_and_then (at 1) (option_and_then last_item (option_and_then as_array (get name d)))))
+    option_and_then as_u64 (option_and_then as_number (option_and_then (at 1)
+    (option_and_then last_item (option_and_then as_array (get name d)))))

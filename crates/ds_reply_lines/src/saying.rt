@@ -7,8 +7,8 @@ use ds_base::{Buffer, NoMemory};
 use ds_reply::{Body, Reply, write_reply};
 use std::alloc::Global;
 
-/// The body, where the line is the reply of this body to that client's line of this number; `None` exactly where it isn't. A refusal is want
-/// of memory.
+/// The body, where the line is the reply of this body to that client's line of this number; `None` exactly where it isn't. A refusal is
+/// want of memory.
 pub fn says(
     alloc: Global,
     client: u32,

@@ -7,8 +7,8 @@
 //! of commits and the ids are drawn. Contracts see a pass as its lists: the journal's commits, and of each shard the entries.
 //!
 //! Of a value under a lock only its type is known, so the names of all hubs and words are ghost members of the trait `Names`, in
-//! which the types are generic (`ds_store_hubs`). `open` makes all hubs and words; a function that is generic in `Names` makes the store of them by
-//! `make`, runs it, and closes it; its caller picks the names, at `Brand`.
+//! which the types are generic (`ds_store_hubs`). `open` makes all hubs and words; a function that is generic in `Names` makes the
+//! store of them by `make`, runs it, and closes it; its caller picks the names, at `Brand`.
 //!
 //! Queries (`searching` for those of all shards, `strong` for those of one group) are answered by `ds_engine`, which knows no lock: a pass
 //! enters its shards, which waits for nobody, and leaves them.

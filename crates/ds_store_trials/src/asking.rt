@@ -58,7 +58,7 @@ fn all() -> Window
 /// Whether these entities were found, and no others; the counts of all shards together, or the place; and what is told beside that.
 pub type Asked = Option<(bool, u64, u64)>;
 
-/// The answer that finds just the entities with the names that were handed over.
+/// The answer that finds just the entities with the names that were handed over. What it gives is compared by tests, so it has no clause.
 pub fn finds(seen: u64, beside: u64) -> Asked {
     Some((true, seen, beside))
 }
@@ -105,7 +105,7 @@ fn is_named(key: &Key, name: &str) -> bool {
     }
 }
 
-/// A query of all shards. There is no answer where an index is missing.
+/// A query of all shards. There is no answer where an index is missing. What it gives is compared by tests, so it has no clause.
 pub fn query<J: Names, H: Wait + Drop>(
     store: &Store<J, H>,
     pass: &mut Pass<J>,
@@ -135,7 +135,7 @@ fn counted<J: Names, L: Ledger, H: Wait + Drop>(
     store.query(pass, normal, &all(), &mut steps)
 }
 
-/// The same by a search of all shards at once.
+/// The same by a search of all shards at once. What it gives is compared by tests, so it has no clause.
 pub fn query_wide<J: Names, R: Threads + Sync, H: Wait + Drop, G: Gate + Sync>(
     rt: &R,
     store: &Store<J, H>,
@@ -166,7 +166,7 @@ fn is_seen(at: Option<u64>, place: u64) -> bool
 }
 
 /// A query with an ancestor, inside a transaction at its touch place, or outside one. There is no answer where an index is missing, or
-/// that place is above the pass's.
+/// that place is above the pass's. What it gives is compared by tests, so it has no clause.
 pub fn strong_query<J: Names, R: Wait, H: Wait + Drop>(
     rt: &R,
     store: &Store<J, H>,
@@ -187,7 +187,7 @@ pub fn strong_query<J: Names, R: Wait, H: Wait + Drop>(
     }
 }
 
-/// One page of it.
+/// One page of it. What it gives is compared by tests, so it has no clause.
 pub fn strong_page<J: Names, R: Wait, H: Wait + Drop>(
     rt: &R,
     store: &Store<J, H>,

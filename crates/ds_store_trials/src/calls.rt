@@ -14,12 +14,12 @@ use std::sync::Wait;
 /// A commit's number, or the group, the commit and the place of its conflict.
 pub type Committed = (Option<u64>, Option<(u32, u64, u64)>);
 
-/// The answer of a commit with this number.
+/// The answer of a commit with this number. What it gives is compared by tests, so it has no clause.
 pub fn number(commit: u64) -> Committed {
     (Some(commit), None)
 }
 
-/// The answer of a commit that conflicts.
+/// The answer of a commit that conflicts. What it gives is compared by tests, so it has no clause.
 pub fn conflict(group: u32, commit: u64, place: u64) -> Committed {
     (None, Some((group, commit, place)))
 }
@@ -31,6 +31,7 @@ fn are_places(touched: &[Touch], most: u64) -> bool
 }
 
 /// Commits the draft, and keeps its number. A draft that touched a place above the pass's has no answer.
+/// What it gives is compared by tests, so it has no clause.
 pub fn commit<J: Names, R: Wait, H: Wait + Drop>(
     rt: &R,
     store: &Store<J, H>,
@@ -64,11 +65,12 @@ fn refusal(refused: CommitRefused) -> Committed {
 pub type Read = (Option<(i64, u64, u64)>, Option<(u64, u64, u64)>);
 
 /// The answer of a get: the entity's number, 0 where there is none, the place, and how many entries lie below it.
+/// What it gives is compared by tests, so it has no clause.
 pub fn found(number: i64, place: u64, entries: u64) -> Read {
     (Some((number, place, entries)), None)
 }
 
-/// The answer of a get whose versions are gone.
+/// The answer of a get whose versions are gone. What it gives is compared by tests, so it has no clause.
 pub fn expired(snapshot: u64, applied: u64, commit: u64) -> Read {
     (None, Some((snapshot, applied, commit)))
 }
@@ -84,7 +86,7 @@ fn read(answer: Result<Got, GetRefused>) -> Read {
     }
 }
 
-/// A get outside a transaction.
+/// A get outside a transaction. What it gives is compared by tests, so it has no clause.
 pub fn get<J: Names, R: Wait, H: Wait + Drop>(
     rt: &R,
     store: &Store<J, H>,
@@ -95,6 +97,7 @@ pub fn get<J: Names, R: Wait, H: Wait + Drop>(
 }
 
 /// A get in a transaction, at the touch place. There is no answer where that is above the pass's place.
+/// What it gives is compared by tests, so it has no clause.
 pub fn get_at<J: Names, R: Wait, H: Wait + Drop>(
     rt: &R,
     store: &Store<J, H>,
@@ -109,6 +112,7 @@ pub fn get_at<J: Names, R: Wait, H: Wait + Drop>(
 }
 
 /// Whether an entry was applied, the shard's count, the place, and the commit of the last applied entry.
+/// What it gives is compared by tests, so it has no clause.
 pub fn apply<J: Names, R: Wait, H: Wait + Drop>(
     rt: &R,
     store: &Store<J, H>,
@@ -124,6 +128,7 @@ pub fn apply<J: Names, R: Wait, H: Wait + Drop>(
 }
 
 /// Settles, and keeps the counts: the place, the entries of all shards together, and the greatest commit of them.
+/// What it gives is compared by tests, so it has no clause.
 pub fn settle<J: Names, R: Wait, H: Wait + Drop>(
     rt: &R,
     store: &Store<J, H>,
@@ -150,6 +155,7 @@ fn sum(numbers: &[u64]) -> u64 {
 }
 
 /// Draws so many ids, keeps them, and gives the first; or the id counter, where so many aren't left.
+/// What it gives is compared by tests, so it has no clause.
 pub fn draw<J: Names, R: Wait, H: Wait + Drop>(
     rt: &R,
     store: &Store<J, H>,

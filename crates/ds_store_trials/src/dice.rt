@@ -8,7 +8,7 @@ pub struct Dice {
 }
 
 impl Dice {
-    /// The numbers of this seed.
+    /// The numbers of this seed. What it gives is compared by tests, so it has no clause.
     pub fn new(seed: u64) -> Dice {
         Dice { state: seed }
     }

@@ -124,7 +124,7 @@ fn greeting_path(alloc: Global) -> Result<Elems, NoMemory>
     Ok(Elems::from(vec![in alloc; book, greeting]?))
 }
 
-/// The key of the guestbook.
+/// The key of the guestbook. What it gives is compared by tests, so it has no clause.
 pub fn guestbook_key(alloc: Global) -> Result<Key, NoMemory> {
     let path = Elems::from(vec![in alloc; book(alloc)?]?);
     Key::new(alloc, path).map_err(|_| AllocError)
@@ -156,7 +156,7 @@ fn put_to_come(alloc: Global, path: Elems, properties: Properties) -> Result<Dra
     Draft::make(alloc, 0, Touches::new(alloc), writes)
 }
 
-/// The number of such an entity, 0 where there is none; `None` where it isn't one.
+/// The number of such an entity, 0 where there is none; `None` where it isn't one. What it gives is compared by tests, so it has no clause.
 pub fn number_of(entity: Option<&Entity>) -> Option<i64> {
     match entity {
         Some(entity) => number_in(entity),

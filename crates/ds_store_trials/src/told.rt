@@ -26,7 +26,7 @@ pub struct Told {
 }
 
 impl Told {
-    /// Nothing was told yet.
+    /// Nothing was told yet. What it gives is compared by tests, so it has no clause.
     pub fn new(alloc: Global) -> Told {
         Told {
             amiss: "",
@@ -37,31 +37,31 @@ impl Told {
         }
     }
 
-    /// Keeps what is amiss where this isn't met, unless something was amiss before.
+    /// Keeps what is amiss where this isn't met, unless something was amiss before. What is kept is compared by tests, so it has no clause.
     pub fn expect(&mut self, met: bool, amiss: &'static str) {
         if !met && self.amiss.is_empty() {
             self.amiss = amiss;
         }
     }
 
-    /// Keeps a commit that was acknowledged.
+    /// Keeps a commit that was acknowledged. What is kept is compared by tests, so it has no clause.
     pub fn commit(&mut self, number: u64) {
         let kept = self.commits.push(number).is_ok();
         self.expect(kept, "no memory");
     }
 
-    /// Keeps an id that was drawn.
+    /// Keeps an id that was drawn. What is kept is compared by tests, so it has no clause.
     pub fn id(&mut self, id: u64) {
         let kept = self.ids.push(id).is_ok();
         self.expect(kept, "no memory");
     }
 
-    /// Keeps an id counter that was shown.
+    /// Keeps an id counter that was shown. What is kept is compared by tests, so it has no clause.
     pub fn next(&mut self, next: u64) {
         self.next = self.next.max(next);
     }
 
-    /// Keeps what another was told.
+    /// Keeps what another was told. What is kept is compared by tests, so it has no clause.
     pub fn join(&mut self, other: Told) {
         let Told {
             amiss,
@@ -79,7 +79,7 @@ impl Told {
         self.expect(kept, "no memory");
     }
 
-    /// Keeps the greater of each two counts. It says whether there was memory.
+    /// Keeps the greater of each two counts. It says whether there was memory. What it gives is compared by tests, so it has no clause.
     pub fn counts(&mut self, counts: &[u64]) -> bool {
         for (shard, count) in counts.iter().enumerate() {
             if !self.count(shard, *count) {
@@ -90,6 +90,7 @@ impl Told {
     }
 
     /// Keeps a count of a shard where it is greater. It says whether there was memory.
+    /// What it gives is compared by tests, so it has no clause.
     pub fn count(&mut self, shard: usize, count: u64) -> bool {
         raise(&mut self.counts, shard, count)
     }
@@ -141,6 +142,7 @@ fn are_within(
 }
 
 /// What is amiss with a store of so many shards that was closed after all this was told; an empty text if nothing is.
+/// What it gives is compared by tests, so it has no clause.
 pub fn amiss(
     alloc: Global,
     shards: u32,
