@@ -120,11 +120,8 @@ impl Key {
         let namespace = self.namespace.copy(alloc)?;
         let elems = self.path.as_slice();
         let first = elems[0].copy(alloc)?;
-        let mut path = Elems::new(alloc);
-        match path.push(first) {
-            Ok(()) => Ok(Key { namespace, path }),
-            Err(_) => Err(AllocError),
-        }
+        let path = Elems::of_one(alloc, first)?;
+        Ok(Key { namespace, path })
     }
 
     /// Whether `of` lies under this key: one namespace, and this path begins that of `of`. Each key is its own ancestor.

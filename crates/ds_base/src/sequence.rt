@@ -86,6 +86,17 @@ impl<T> Sequence<T> {
     }
 }
 
+impl<T: Drop> Sequence<T> {
+    /// The list of one item, with room for it alone. A refusal is want of memory.
+    pub fn of_one(alloc: Global, item: T) -> Result<Self, AllocError>
+        ensures { IfOk result (λ list. list ≡ item ∷ []) }
+    {
+        let mut items = Vec::with_capacity(alloc, 1)?;
+        items.push(item)?;
+        Ok(Sequence { items })
+    }
+}
+
 impl<T> Sequence<T> {
     /// The items, moved out in their order.
     pub fn into_vec(self) -> Vec<T>

@@ -7,17 +7,14 @@ use ds_base::NoMemory;
 use ds_journal::Draft;
 use ds_log::{Touches, Write, Writes};
 use ds_txn::Txn;
-use std::alloc::{AllocError, Global};
+use std::alloc::Global;
 
 /// The commit of one write outside a transaction, which touched nothing. A refusal is want of memory.
 pub fn draft_of_write(alloc: Global, client: u32, write: Write) -> Result<Draft, NoMemory>
     ensures { IfOk result (λ d. d ≡ record { client = client; touched = []; writes = write ∷ [] }) }
 {
-    let mut writes = Writes::new(alloc);
-    match writes.push(write) {
-        Ok(()) => Draft::make(alloc, client, Touches::new(alloc), writes),
-        Err(_) => Err(AllocError),
-    }
+    let writes = Writes::of_one(alloc, write)?;
+    Draft::make(alloc, client, Touches::new(alloc), writes)
 }
 
 /// The commit that a transaction asks for: its touched groups and its writes. A refusal is want of memory.

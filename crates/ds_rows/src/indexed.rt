@@ -59,6 +59,27 @@ fn property_values(alloc: Global, property: &Property) -> Result<IndexValues, No
     if !property.indexed {
         return Ok(IndexValues::new(alloc));
     }
+    match property.values.as_slice() {
+        [only] => value_alone(alloc, only),
+        _ => distinct_values(alloc, property),
+    }
+}
+
+/// What an index holds of a property's only value, which most properties have: no set is made for it.
+fn value_alone(alloc: Global, value: &Value) -> Result<IndexValues, NoMemory>
+    ensures { IfOk result (λ values. values ≡ fold (insert_key index_value_cmp) [] (filter_map index_of (value.now ∷ []))) }
+{
+    let mut alone = Vec::with_capacity(alloc, 1)?;
+    if let Some(indexed) = value.index(alloc)? {
+        alone.push(indexed)?;
+    }
+    Ok(IndexValues::from(alone))
+}
+
+/// The values of a property that an index can hold, each once, ascending.
+fn distinct_values(alloc: Global, property: &Property) -> Result<IndexValues, NoMemory>
+    ensures { IfOk result (λ values. values ≡ fold (insert_key index_value_cmp) [] (filter_map index_of property.now.values)) }
+{
     let mut distinct = BTreeSet::new(alloc);
     for value in property.values.as_slice() {
         insert_indexed(alloc, value, &mut distinct)?;

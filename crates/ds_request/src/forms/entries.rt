@@ -35,7 +35,9 @@ pub(crate) fn read_entries<F: EntryForm>(
         (members_view members.entries)) result }
     ensures ascending { IfOk result (λ _. IsStrictlySortedBy string_cmp (keys_of members.entries)) }
 {
-    let mut items = Vec::new(alloc);
+    let Ok(mut items) = Vec::with_capacity(alloc, members.len()) else {
+        return Err(Refusal::NoMemory);
+    };
     for (name, value) in members {
         if let Some(item) = form.read(alloc, name, value)? {
             if let Err(_) = items.push(item) {

@@ -1,5 +1,5 @@
 //! Keys: elements, paths, and the completion of a path.
-ghost use Rattle.std.specs.Prelude.{◌≡◌, ◌++◌, [], IsTrue, length, IfOk};
+ghost use Rattle.std.specs.Prelude.{◌≡◌, ◌∷◌, ◌++◌, [], IsTrue, length, IfOk};
 ghost use Rattle.std.specs.Vec.Iter.{into_iter_items};
 ghost use Rattle.serde_json.specs.Data.{array, item, no_items};
 ghost use Rattle.serde_json.specs.View.{view, items_view};
@@ -12,7 +12,7 @@ use crate::forms::lists::{read_rest, take_two};
 use crate::refusal::Refusal;
 use ds_base::{Elem, Elems, Ident, Key, TextString};
 use serde_json::Value;
-use std::alloc::Global;
+use std::alloc::{AllocError, Global};
 use std::mem;
 use std::vec::IntoIter;
 
@@ -151,11 +151,19 @@ fn read_default(alloc: Global, first: Value, rest: IntoIter<Value>) -> Result<Ke
         (and_then (each_of elem_of (item (view first) (items_view (into_iter_items rest)))) (lawful_key [])) result }
 {
     let elem = ElemForm.read(alloc, first)?;
-    let mut path = Vec::new(alloc);
-    match path.push(elem) {
-        Ok(()) => read_path(alloc, TextString::new(alloc), path, rest),
+    match begun(alloc, elem, rest.len()) {
+        Ok(path) => read_path(alloc, TextString::new(alloc), path, rest),
         Err(_) => Err(Refusal::NoMemory),
     }
+}
+
+/// A path that begins with an element, with room for so many more. A refusal is want of memory.
+fn begun(alloc: Global, elem: Elem, more: usize) -> Result<Vec<Elem>, AllocError>
+    ensures { IfOk result (λ path. path.items ≡ elem ∷ []) }
+{
+    let mut path = Vec::with_capacity(alloc, more.saturating_add(1))?;
+    path.push(elem)?;
+    Ok(path)
 }
 
 /// Reads the elements that are left of a path whose first ones were read.

@@ -188,9 +188,8 @@ fn read_values(alloc: Global, indexed: bool, value: Json) -> Result<Values, Refu
 pub(crate) fn only(alloc: Global, value: Value) -> Result<Values, Refusal>
     ensures { Reads Refusal.NoMemory (Ok (value ∷ [])) result }
 {
-    let mut values = Values::new(alloc);
-    match values.push(value) {
-        Ok(()) => Ok(values),
+    match Values::of_one(alloc, value) {
+        Ok(values) => Ok(values),
         Err(_) => Err(Refusal::NoMemory),
     }
 }

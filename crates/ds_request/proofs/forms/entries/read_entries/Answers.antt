@@ -18,4 +18,4 @@ pub loop-name-preserved : goal.loop-name-preserved
 loop-name-preserved g c =
     let kept : c.loop-name.items.items ++ [] ≡ c.loop-name.items.items = append-nil c.loop-name.items.items in
     rw kept at (entry_read (g.F.EntryForm.reads c.args.form.now) _ c.loop-name.items.items c.loop-name.name-iterator c.in-Some.name c.in-Some.value c.next.new.self None c.loop-name.invariant c.in-Some.ensures.steps
-    (rw c.in_default.is at c.in_ok-item.ensures))
+    (rw c.in_default-2.is at c.in_ok-item.ensures))

@@ -4,7 +4,7 @@ use Rattle.std.specs.Prelude.{filter_map}
 use Rattle.std.specs.BTreeSet.{insert_key}
 use Rattle.ds_base.specs.IndexOrder.{index_value_cmp}
 use Rattle.ds_base.specs.Values.{index_of}
-use Rattle.ds_rows.proofs.indexed.property_values.Given as goal
+use Rattle.ds_rows.proofs.indexed.distinct_values.Given as goal
 
 abbrev pub invariant-loop-value : goal.invariant-loop-value
 invariant-loop-value l = l.distinct.keys ≡ fold (insert_key index_value_cmp) [] (filter_map index_of (take l.value-index l.property.values))

@@ -1,5 +1,5 @@
 use Rattle.ds_rows.proofs.Gathering.{gathered_step}
-use Rattle.ds_rows.proofs.indexed.property_values.Goals as goal
+use Rattle.ds_rows.proofs.indexed.distinct_values.Goals as goal
 
 pub loop-value-preserved : goal.loop-value-preserved
 loop-value-preserved c =
