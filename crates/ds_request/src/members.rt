@@ -34,7 +34,7 @@ pub fn take_member(members: &mut Members, name: &str) -> Option<Value>
 }
 
 /// What was found, where it isn't null.
-fn unless_null(found: Option<Value>) -> Option<Value>
+pub(crate) fn unless_null(found: Option<Value>) -> Option<Value>
     ensures { option_map view result ≡ unless_null (option_map view found) }
 {
     match found {

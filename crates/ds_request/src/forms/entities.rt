@@ -10,7 +10,7 @@ use crate::forms::Form;
 use crate::forms::entries::{EntryForm, read_entries};
 use crate::forms::keys::read_entity_key;
 use crate::forms::values::read_property_values;
-use crate::members::{Members, take_member};
+use crate::members::{Members, unless_null};
 use crate::refusal::Refusal;
 use ds_base::{Key, Properties, Property, TextString, Values, is_name, is_reserved};
 use serde_json::Value;
@@ -68,13 +68,13 @@ impl Form for EntityForm {
     }
 }
 
-fn read_entity(alloc: Global, mut members: Members) -> Result<Written, Refusal>
+fn read_entity(alloc: Global, members: Members) -> Result<Written, Refusal>
     ensures { Reads Refusal.NoMemory (entity_of (object (members_view members.entries))) result }
 {
-    let Some(key) = take_member(&mut members, "key") else {
+    let (key, properties) = key_and_properties(members);
+    let Some(key) = key else {
         return Err(Refusal::Request);
     };
-    let properties = take_member(&mut members, "properties");
     let (key, incomplete) = read_entity_key(alloc, key)?;
     let properties = read_properties(alloc, properties)?;
     Ok(Written {
@@ -82,6 +82,20 @@ fn read_entity(alloc: Global, mut members: Members) -> Result<Written, Refusal>
         incomplete,
         properties,
     })
+}
+
+/// The two members of an entity that are read; null counts as absent.
+fn key_and_properties(members: Members) -> (Option<Value>, Option<Value>) {
+    let mut key = None;
+    let mut properties = None;
+    for (name, value) in members {
+        match name.as_str() {
+            "key" => key = unless_null(Some(value)),
+            "properties" => properties = unless_null(Some(value)),
+            _ => {}
+        }
+    }
+    (key, properties)
 }
 
 /// Reads properties by name; none where the member is absent. An object of 2^32 properties or more, for which a line has no
