@@ -9,7 +9,7 @@ use Rattle.ds_log.specs.declared.Entry.{Entry}
 use Rattle.ds_request.specs.declared.call.Call.TheVariants as call
 use Rattle.ds_reply.specs.declared.reply.Body.{Body}
 use Rattle.ds_reply.specs.declared.reply.Body.TheVariants as body
-use Rattle.ds_reply.specs.Printing.{count_items}
+use Rattle.ds_reply.specs.Results.{count_items}
 use Rattle.ds_applied.specs.AppliedLists.{AreCounts}
 use Rattle.ds_model.specs.Answers.{ApplyAnswers, CallAnswers, CountsWithin, SettleAnswers}
 use Rattle.ds_model.specs.Groups.{IsSeenPlace}

@@ -20,7 +20,7 @@ use Rattle.ds_reply.specs.declared.reply.WriteAt.{WriteAt}
 use Rattle.ds_reply.specs.declared.reply.WriteAt.TheVariants as at
 use Rattle.ds_reply.specs.declared.reply.Body.{Body}
 use Rattle.ds_reply.specs.declared.reply.Body.TheVariants as body
-use Rattle.ds_reply.specs.Printing.{elem_items, ident_data, key_data, keyed_items}
+use Rattle.ds_json_printing.specs.Printing.{elem_items, ident_data, key_data, keyed_items}
 use Rattle.ds_reply.specs.Replies.{reply_data}
 use Rattle.ds_journal_text.proofs.PlainData.{ArePlain, IsPlain}
 use Rattle.ds_reply_lines.specs.ReplyLines.{IsSaid, last_id_at, last_item, number_at, told_by}

@@ -14,7 +14,7 @@ use Rattle.ds_request.specs.declared.refusal.Refusal.{Refusal}
 use Rattle.ds_request.specs.Reading.{and_then, read_as, each_of}
 use Rattle.ds_request.specs.Requests.{line_data}
 use Rattle.ds_rounds.specs.Lines.{lines_in}
-use Rattle.ds_reply.specs.Printing.{natural}
+use Rattle.ds_json_printing.specs.Printing.{natural}
 use Rattle.ds_journal_text.specs.Lawful.{IsLawfulTouch, IsLawfulWrite, IsLawfulCommit}
 use Rattle.ds_rounds.specs.Drafts.{IsUnbroken}
 use Rattle.ds_rounds.proofs.LineLaws.{lines_in-newline, lines_in-nothing, lines_in-last, position-newline, position-no_newline}

@@ -13,7 +13,7 @@ use Rattle.std.proofs.lemmas.List.{get_or-set_other, length-set, length-map}
 use Rattle.std.proofs.lemmas.List.Edits.{get_or-insert_at, get_or-insert_below, get_or-insert_above, length-insert}
 use Rattle.std.proofs.lemmas.Map.Lookups.{exact_bytes}
 use Rattle.serde_json.specs.Data.{Data, null, Members, no_members, member, put}
-use Rattle.ds_reply.specs.Objects.{Named, named, put_each, by_name}
+use Rattle.ds_json_printing.specs.Objects.{Named, named, put_each, by_name}
 use Rattle.ds_reply.specs.Orders.{members_at, name_at, IsBefore, OrdersByName}
 
 abbrev pub C : List ℕ → List ℕ → Ordering

@@ -9,8 +9,9 @@ use Rattle.json.specs.Print.{quoted}
 use Rattle.serde_json.specs.Data.{Data, null, Members, no_members, member, put}
 use Rattle.serde_json.specs.Written.{compact_text, comma_if, members_text}
 use Rattle.ds_base.specs.declared.index_value.IndexValue.{IndexValue}
-use Rattle.ds_reply.specs.Objects.{Named, named, put_each, by_name}
-use Rattle.ds_reply.specs.Printing.{projected, index_value_data}
+use Rattle.ds_json_printing.specs.Objects.{Named, named, put_each, by_name}
+use Rattle.ds_json_printing.specs.Printing.{index_value_data}
+use Rattle.ds_reply.specs.Results.{projected}
 use Rattle.ds_reply.specs.MemberNames.{name_text}
 use Rattle.ds_reply.specs.Shown.{member_named}
 use Rattle.ds_reply.specs.declared.member.Member.{Member}

@@ -11,7 +11,7 @@ use Rattle.std.specs.Cmp.Lexicographic.{slice_cmp, nat_list_cmp_total}
 use Rattle.serde_json.specs.Data.{Data, Members, no_members, member, put}
 use Rattle.ds_base.specs.declared.index_value.IndexValue.{IndexValue}
 use Rattle.ds_base.specs.declared.index_value.IndexValue.TheVariants as index
-use Rattle.ds_reply.specs.Printing.{index_value_data}
+use Rattle.ds_json_printing.specs.Printing.{index_value_data}
 use Rattle.ds_reply.specs.Projections.{projected_members, before, is_past, past, IsNextPlace}
 
 abbrev C : List ℕ → List ℕ → Ordering

@@ -2,7 +2,7 @@
 use Rattle.std.proofs.Common.{◌≡◌, List, ◌∷◌, [], Option, Some, None, sym, ap, ◌∙◌}
 use Rattle.std.specs.Prelude.{MatchOption, unwrap_or}
 use Rattle.ds_reply.specs.declared.reply.Body.{Body}
-use Rattle.ds_reply.specs.Objects.{Named}
+use Rattle.ds_json_printing.specs.Objects.{Named}
 use Rattle.ds_reply.specs.Refusals.{refusal_members}
 use Rattle.ds_reply.specs.Replies.{body_members}
 

@@ -1,12 +1,9 @@
 -- in the order in which they are best read
 pub mod Replies
 pub mod Refusals
-pub mod Printing
-pub mod Objects
+pub mod Results
 pub mod Names
 pub mod MemberNames
 pub mod Shown
 pub mod Orders
 pub mod Projections
-pub mod Outputs
-pub mod OutputLaws

@@ -10,7 +10,7 @@ use Rattle.ds_reply.specs.declared.order.Rank.{Rank}
 use Rattle.ds_reply.specs.declared.order.Rank.TheVariants as rank
 use Rattle.ds_reply.specs.declared.projection.Order.{Order}
 use Rattle.ds_reply.specs.declared.projection.Order.TheVariants as order
-use Rattle.ds_reply.specs.Objects.{Named, named, by_name}
+use Rattle.ds_json_printing.specs.Objects.{Named, named, by_name}
 
 -- a member's text
 abbrev pub member_text : Named → List ℕ

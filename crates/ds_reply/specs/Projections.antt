@@ -4,8 +4,9 @@ use Rattle.std.specs.Ordering.{is_lt, nat_cmp}
 use Rattle.std.specs.Cmp.Lexicographic.{slice_cmp}
 use Rattle.ds_base.specs.declared.index_value.IndexValue.{IndexValue}
 use Rattle.ds_base.specs.declared.index_value.IndexValue.TheVariants as index
-use Rattle.ds_reply.specs.Printing.{projected, index_value_data}
-use Rattle.ds_reply.specs.Objects.{put_each}
+use Rattle.ds_json_printing.specs.Printing.{index_value_data}
+use Rattle.ds_reply.specs.Results.{projected}
+use Rattle.ds_json_printing.specs.Objects.{put_each}
 use Rattle.serde_json.specs.Data.{Members, no_members, member}
 
 -- the members with a projection's values put among them

@@ -5,9 +5,10 @@ use Rattle.ds_query.specs.declared.field.Field.{Field}
 use Rattle.ds_query.specs.Fields.{field_name}
 use Rattle.ds_reply.specs.declared.reply.Body.{Body}
 use Rattle.ds_reply.specs.declared.reply.Body.TheVariants as body
-use Rattle.ds_reply.specs.Objects.{Named, named}
+use Rattle.ds_json_printing.specs.Objects.{Named, named}
 use Rattle.ds_reply.specs.Names.{reason_name}
-use Rattle.ds_reply.specs.Printing.{natural, key_data, optional_key_data, constraint_data, index_def_data}
+use Rattle.ds_json_printing.specs.Printing.{natural, key_data, optional_key_data}
+use Rattle.ds_reply.specs.Results.{constraint_data, index_def_data}
 
 -- a refusal tells its number, more, and its name
 abbrev pub refused : ℕ → List ℕ → List Named → List Named

@@ -5,8 +5,9 @@ use Rattle.ds_reply.specs.declared.member.Shown.{Shown}
 use Rattle.ds_reply.specs.declared.member.Shown.TheVariants as shown
 use Rattle.ds_reply.specs.declared.member.Member.{Member}
 use Rattle.ds_reply.specs.MemberNames.{name_text}
-use Rattle.ds_reply.specs.Objects.{Named, named}
-use Rattle.ds_reply.specs.Printing.{natural, key_data, entity_data, result_items, count_items, constraint_data, index_def_data}
+use Rattle.ds_json_printing.specs.Objects.{Named, named}
+use Rattle.ds_json_printing.specs.Printing.{natural, key_data, entity_data}
+use Rattle.ds_reply.specs.Results.{result_items, count_items, constraint_data, index_def_data}
 
 abbrev pub shown_data : Shown → Data
 shown_data shown.Null = null

@@ -6,7 +6,7 @@ ghost use Rattle.json.specs.Print.{quoted};
 ghost use Rattle.serde_json.specs.Written.{comma_if};
 ghost use Rattle.ds_reply.specs.MemberNames.{name_text, name_rank};
 
-use crate::output::Output;
+use ds_json_printing::Output;
 use std::cmp::Ordering;
 
 /// The name of a member of a reply. They are in byte order of their texts.

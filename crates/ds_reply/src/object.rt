@@ -1,18 +1,17 @@
 //! Objects, their members by name.
 ghost use Rattle.std.specs.Prelude.{◌≤◌, ◌<◌, ℕ, map, length, false, slice_index, ◌++◌};
 ghost use Rattle.serde_json.specs.Written.{compact_text, comma_if, members_text};
-ghost use Rattle.ds_reply.specs.Objects.{object_of};
+ghost use Rattle.ds_json_printing.specs.Objects.{object_of};
 ghost use Rattle.ds_reply.specs.Orders.{members_at, member_text};
 ghost use Rattle.ds_reply.specs.Shown.{shown_data, member_named};
 
-use crate::keys::write_key;
 use crate::member::{Member, Shown};
 use crate::member_name::write_name;
 use crate::order::places_by_name;
-use crate::output::Output;
 use crate::results::{write_constraint, write_counts, write_index_def, write_results};
-use crate::text::{write_boolean, write_natural, write_string};
-use crate::values::write_entity;
+use ds_json_printing::{
+    Output, write_boolean, write_entity, write_key, write_natural, write_string,
+};
 
 /// Puts the object of these members, by name in byte order, whatever the order in which they are given.
 pub(crate) fn write_object<O: Output>(members: &[Member], out: &mut O)

@@ -1,16 +1,15 @@
 //! The values of a projection, by name.
 ghost use Rattle.std.specs.Prelude.{◌≡◌, ◌<◌, ◌≤◌, ◌⊎◌, ℕ, [], length, false, true, slice_index, slice_index_or};
 ghost use Rattle.serde_json.specs.Written.{members_text};
-ghost use Rattle.ds_reply.specs.Objects.{named, by_name};
-ghost use Rattle.ds_reply.specs.Printing.{projected, index_value_data};
+ghost use Rattle.ds_json_printing.specs.Objects.{named, by_name};
+ghost use Rattle.ds_json_printing.specs.Printing.{index_value_data};
+ghost use Rattle.ds_reply.specs.Results.{projected};
 ghost use Rattle.ds_reply.specs.Orders.{IsOrder, NamesAscend, OrdersByName, member_text};
 ghost use Rattle.ds_reply.specs.Projections.{before, is_past, IsNextPlace};
 
 use crate::order::{HasName, MOST_PLACES, Places, places_by_name};
-use crate::output::Output;
-use crate::text::{write_comma, write_text};
-use crate::values::write_index_value;
 use ds_base::{IndexValue, TextString};
+use ds_json_printing::{Output, write_comma, write_index_value, write_text};
 use std::cmp::Ordering;
 
 /// In which order the values of a projection are written.

@@ -1,17 +1,17 @@
 //! A query's results, and the lists of counts and columns, as JSON.
 ghost use Rattle.std.specs.Prelude.{false};
 ghost use Rattle.serde_json.specs.Written.{compact_text, items_text};
-ghost use Rattle.ds_reply.specs.Printing.{count_items, column_data, column_items, index_def_data, constraint_data, result_data};
-ghost use Rattle.ds_reply.specs.Printing.{result_items};
+ghost use Rattle.ds_reply.specs.Results.{count_items, column_data, column_items, index_def_data, constraint_data, result_data};
+ghost use Rattle.ds_reply.specs.Results.{result_items};
 ghost use Rattle.ds_reply.specs.Orders.{IsOrder};
 
-use crate::keys::write_key;
-use crate::output::Output;
 use crate::projection::{Order, order_of, write_projected};
-use crate::text::{write_boolean, write_comma, write_natural, write_text};
-use crate::values::{write_index_value, write_optional_entity};
 use ds_base::{Column, IndexValue, Item, TextString};
 use ds_indexdef::IndexDef;
+use ds_json_printing::{
+    Output, write_boolean, write_comma, write_index_value, write_key, write_natural,
+    write_optional_entity, write_text,
+};
 use ds_query::{Constraint, Select};
 
 /// Puts the results and the closing bracket.

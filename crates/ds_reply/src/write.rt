@@ -1,14 +1,14 @@
 //! From a reply to its line.
 ghost use Rattle.std.specs.Prelude.{◌≡◌, ◌≤◌, ◌+◌, ◌-◌, ◌^◌, ◌++◌, length, min, false, IsOk, OnOk, OnErr};
 ghost use Rattle.ds_reply.specs.Replies.{reply_text};
-ghost use Rattle.ds_reply.specs.Outputs.{WritesText};
+ghost use Rattle.ds_json_printing.specs.Outputs.{WritesText};
 
 use crate::bodies::members_of;
 use crate::object::write_object;
-use crate::output::{Count, Growing, Output};
 use crate::reply::Reply;
 use core::mem::replace_with;
 use ds_base::{Buffer, NoMemory};
+use ds_json_printing::{Count, Growing, Output};
 use std::alloc::AllocError;
 
 /// How many bytes the reply's line has, or 2^64 - 1 where they are more. It takes no memory.

@@ -12,7 +12,7 @@ use Rattle.ds_bytes.specs.Lawful.{IsLawfulKey}
 use Rattle.ds_query.specs.declared.query.Select.{Select}
 use Rattle.ds_reply.specs.declared.reply.Body.TheVariants as body
 use Rattle.ds_reply.specs.declared.reply.WriteAt.TheVariants as at
-use Rattle.ds_reply.specs.Printing.{count_items}
+use Rattle.ds_reply.specs.Results.{count_items}
 use Rattle.ds_reply.specs.Replies.{reply_data}
 use Rattle.ds_journal_text.specs.Lawful.{IsLawfulEntity}
 use Rattle.ds_journal_text.proofs.CommitsPlain.{entity_plain, key_plain}

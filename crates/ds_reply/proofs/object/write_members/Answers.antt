@@ -2,7 +2,7 @@ use Rattle.std.proofs.Common.{◌++◌, List, ℕ, ◌+◌, true, drop, ◌∙�
 use Rattle.std.proofs.lemmas.List.{get_or-map}
 use Rattle.serde_json.specs.Data.{null}
 use Rattle.serde_json.specs.Written.{comma_if, members_text}
-use Rattle.ds_reply.specs.Objects.{Named, named}
+use Rattle.ds_json_printing.specs.Objects.{Named, named}
 use Rattle.ds_reply.specs.Orders.{members_at, member_text}
 use Rattle.ds_reply.specs.Shown.{member_named}
 use Rattle.ds_reply.proofs.OrderLemmas.{at_place}

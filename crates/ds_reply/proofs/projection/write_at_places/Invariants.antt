@@ -1,8 +1,8 @@
 -- What is written from here on for the places that are left makes the whole text.
 use Rattle.std.proofs.Common.{drop, false}
 use Rattle.serde_json.specs.Written.{members_text}
-use Rattle.ds_reply.specs.Objects.{by_name}
-use Rattle.ds_reply.specs.Printing.{projected}
+use Rattle.ds_json_printing.specs.Objects.{by_name}
+use Rattle.ds_reply.specs.Results.{projected}
 use Rattle.ds_reply.specs.Orders.{members_at}
 use Rattle.ds_reply.proofs.projection.write_at_places.Given as goal
 

@@ -3,8 +3,8 @@ use Rattle.serde_json.specs.Data.{Members, no_members}
 use Rattle.serde_json.specs.Written.{members_text}
 use Rattle.ds_base.specs.declared.index_value.IndexValue.{IndexValue}
 use Rattle.ds_base.specs.declared.index_value.IndexValue.TheVariants as index
-use Rattle.ds_reply.specs.Objects.{Named, named}
-use Rattle.ds_reply.specs.Printing.{index_value_data}
+use Rattle.ds_json_printing.specs.Objects.{Named, named}
+use Rattle.ds_json_printing.specs.Printing.{index_value_data}
 use Rattle.ds_reply.specs.Orders.{member_text}
 use Rattle.ds_reply.specs.Projections.{projected_members, past}
 use Rattle.std.proofs.lemmas.List.{get_or_default}

@@ -1,8 +1,8 @@
 use Rattle.std.proofs.Common.{◌∷◌, [], List, ℕ, arith, sym, subst, false}
 use Rattle.serde_json.specs.Data.{Members}
 use Rattle.serde_json.specs.Written.{members_text}
-use Rattle.ds_reply.specs.Objects.{Named}
-use Rattle.ds_reply.specs.Printing.{projected}
+use Rattle.ds_json_printing.specs.Objects.{Named}
+use Rattle.ds_reply.specs.Results.{projected}
 use Rattle.ds_reply.specs.Orders.{member_text}
 use Rattle.ds_reply.proofs.Projecting.{in_turn-more, in_turn-end, projected-read, projected-in_turn, projected-length}
 use Rattle.ds_reply.proofs.projection.write_in_turn.Goals as goal

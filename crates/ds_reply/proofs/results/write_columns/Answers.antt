@@ -1,6 +1,6 @@
 use Rattle.std.proofs.Common.{refl}
-use Rattle.ds_reply.specs.Printing.{column_items, column_data}
-use Rattle.ds_reply.proofs.Chains.{items-more}
+use Rattle.ds_reply.specs.Results.{column_items, column_data}
+use Rattle.ds_json_printing.proofs.Chains.{items-more}
 use Rattle.ds_reply.proofs.results.write_columns.Goals as goal
 
 pub loop-column-preserved : goal.loop-column-preserved

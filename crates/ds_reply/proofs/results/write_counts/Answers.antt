@@ -1,6 +1,7 @@
 use Rattle.std.proofs.Common.{refl}
-use Rattle.ds_reply.specs.Printing.{count_items, natural}
-use Rattle.ds_reply.proofs.Chains.{items-more}
+use Rattle.ds_json_printing.specs.Printing.{natural}
+use Rattle.ds_reply.specs.Results.{count_items}
+use Rattle.ds_json_printing.proofs.Chains.{items-more}
 use Rattle.ds_reply.proofs.results.write_counts.Goals as goal
 
 pub loop-count-preserved : goal.loop-count-preserved

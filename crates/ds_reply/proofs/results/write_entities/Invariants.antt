@@ -2,7 +2,7 @@
 use Rattle.std.proofs.Common.{drop, false}
 use Rattle.serde_json.specs.Written.{items_text}
 use Rattle.ds_query.specs.declared.query.Select.TheVariants as select
-use Rattle.ds_reply.specs.Printing.{result_items}
+use Rattle.ds_reply.specs.Results.{result_items}
 use Rattle.ds_reply.proofs.results.write_entities.Given as goal
 
 abbrev pub invariant-loop-result : goal.invariant-loop-result

@@ -1,7 +1,7 @@
 use Rattle.std.proofs.Common.{refl}
 use Rattle.ds_query.specs.declared.query.Select.TheVariants as select
-use Rattle.ds_reply.specs.Printing.{result_items, result_data}
-use Rattle.ds_reply.proofs.Chains.{items-more}
+use Rattle.ds_reply.specs.Results.{result_items, result_data}
+use Rattle.ds_json_printing.proofs.Chains.{items-more}
 use Rattle.ds_reply.proofs.results.write_projections.Goals as goal
 
 pub loop-result-preserved : goal.loop-result-preserved

@@ -1,7 +1,7 @@
 use Rattle.std.proofs.Common.{◌∷◌, ◌++◌, [], List, map, ap, ◌∙◌, subst}
 use Rattle.serde_json.specs.Written.{compact_text}
 use Rattle.ds_reply.specs.declared.member.Member.{Member}
-use Rattle.ds_reply.specs.Objects.{Named, object_of}
+use Rattle.ds_json_printing.specs.Objects.{Named, object_of}
 use Rattle.ds_reply.specs.Shown.{member_named}
 use Rattle.ds_reply.proofs.write.write_line.Goals as goal
 

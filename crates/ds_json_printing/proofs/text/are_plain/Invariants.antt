@@ -1,0 +1,7 @@
+-- The bytes so far stand for themselves, where none was found that doesn't.
+use Rattle.std.proofs.Common.{◌≡◌, true, take}
+use Rattle.json.specs.Print.{escape}
+use Rattle.ds_json_printing.proofs.text.are_plain.Given as goal
+
+abbrev pub invariant-loop-byte : goal.invariant-loop-byte
+invariant-loop-byte l = l.plain ≡ true → escape (take l.byte-index l.bytes) ≡ take l.byte-index l.bytes

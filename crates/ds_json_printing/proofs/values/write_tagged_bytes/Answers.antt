@@ -1,0 +1,9 @@
+use Rattle.json.specs.Print.{escape_byte}
+use Rattle.ds_json_printing.proofs.values.write_tagged_bytes.Goals as goal
+
+pub returns : goal.returns
+unfolding escape_byte
+returns g c =
+    let j = g.met.O.Output.joined in
+    let mid = rw c.bytes.ensures at c.write_base64.ensures in
+    j _ _ _ _ _ c.put.ensures (j _ _ _ _ _ mid c.put-2.ensures)

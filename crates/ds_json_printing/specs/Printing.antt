@@ -1,0 +1,100 @@
+-- Keys, values, entities and index values as JSON.
+use Rattle.std.specs.Prelude.{ℕ, ℤ, List, [], ◌∷◌, Bool, true, false, Option, Some, None, cond, codes}
+use Rattle.std.specs.Str.{is_utf8}
+use Rattle.serde_json.specs.Data.{Data, unsigned, null, boolean, number, string, array, object, Items, no_items, item, Members, no_members}
+use Rattle.serde_json.specs.Data.{member}
+use Rattle.serde_json.specs.Find.{of_integer}
+use Rattle.base64.specs.Engines.{standard}
+use Rattle.base64.specs.GeneralPurpose.{encode_of}
+use Rattle.ds_base.specs.declared.key.Ident.{Ident}
+use Rattle.ds_base.specs.declared.key.Ident.TheVariants.{Id, Name}
+use Rattle.ds_base.specs.declared.key.Elem.{Elem}
+use Rattle.ds_base.specs.declared.value.Value.{Value}
+use Rattle.ds_base.specs.declared.value.Value.TheVariants as value
+use Rattle.ds_base.specs.declared.index_value.IndexValue.{IndexValue}
+use Rattle.ds_base.specs.declared.index_value.IndexValue.TheVariants as index
+use Rattle.ds_base.specs.declared.entity.Property.{Property}
+use Rattle.ds_base.specs.Keys.{KeyParts}
+use Rattle.ds_base.specs.Entities.{EntityParts}
+use Rattle.ds_json_printing.specs.Objects.{named, object_of}
+
+abbrev pub natural : ℕ → Data
+natural n = number (unsigned n)
+
+abbrev pub integer : ℤ → Data
+integer z = number (of_integer z)
+
+-- an object of one member
+abbrev pub tagged : List ℕ → Data → Data
+tagged name d = object_of (named name d ∷ [])
+
+abbrev pub ident_data : Ident → Data
+ident_data (Id n) = natural n
+ident_data (Name s) = string s
+
+abbrev pub elem_data : Elem → Data
+elem_data e = array (item (string e.kind) (item (ident_data e.ident) no_items))
+
+abbrev pub elem_items : List Elem → Items
+elem_items [] = no_items
+elem_items (e ∷ es) = item (elem_data e) (elem_items es)
+
+-- a key shows its namespace exactly where that isn't the default
+abbrev pub keyed_items : List ℕ → List Elem → Items
+keyed_items [] es = elem_items es
+keyed_items (b ∷ bs) es = item (string (b ∷ bs)) (elem_items es)
+
+abbrev pub key_data : KeyParts → Data
+key_data k = array (keyed_items k.namespace k.elems)
+
+abbrev pub base64_data : List ℕ → Data
+base64_data s = string (encode_of standard s)
+
+abbrev pub value_data : Value → Data
+value_data value.Null = null
+value_data (value.Int n) = integer n
+value_data (value.Date n) = tagged (codes "date") (integer n)
+value_data (value.Rating n) = tagged (codes "rating") (natural n)
+value_data (value.Bool b) = boolean b
+value_data (value.Bytes s) = tagged (codes "bytes") (base64_data s)
+value_data (value.Str s) = string s
+value_data (value.Text s) = tagged (codes "text") (string s)
+value_data (value.Blob s) = tagged (codes "blob") (base64_data s)
+value_data (value.Key k) = tagged (codes "key") (key_data k)
+
+abbrev pub value_items : List Value → Items
+value_items [] = no_items
+value_items (v ∷ vs) = item (value_data v) (value_items vs)
+
+-- one value as itself, several as an array
+abbrev pub values_data : List Value → Data
+values_data (v ∷ []) = value_data v
+values_data vs = array (value_items vs)
+
+abbrev pub property_data : Property → Data
+property_data p = cond p.indexed (values_data p.values) (tagged (codes "unindexed") (values_data p.values))
+
+-- an entity's properties stand by name already
+abbrev pub property_members : List Property → Members
+property_members [] = no_members
+property_members (p ∷ ps) = member p.name (property_data p) (property_members ps)
+
+abbrev pub entity_data : EntityParts → Data
+entity_data e = object_of (named (codes "key") (key_data e.key) ∷ named (codes "properties") (object (property_members e.properties)) ∷ [])
+
+-- an index value shows a byte sequence as a text where it is UTF-8
+abbrev pub index_value_data : IndexValue → Data
+index_value_data index.Null = null
+index_value_data (index.Num n) = integer n
+index_value_data (index.Bool b) = boolean b
+index_value_data (index.Bytes s) = cond (is_utf8 s) (string s) (tagged (codes "bytes") (base64_data s))
+index_value_data (index.Key k) = tagged (codes "key") (key_data k)
+
+-- null, where there is none
+abbrev pub optional_entity_data : Option EntityParts → Data
+optional_entity_data None = null
+optional_entity_data (Some e) = entity_data e
+
+abbrev pub optional_key_data : Option KeyParts → Data
+optional_key_data None = null
+optional_key_data (Some k) = key_data k

@@ -1,5 +1,0 @@
-use Rattle.ds_reply.proofs.Escapes.{is_plain-escape}
-use Rattle.ds_reply.proofs.text.is_plain.Goals as goal
-
-pub returns : goal.returns
-returns c = is_plain-escape c.args.byte

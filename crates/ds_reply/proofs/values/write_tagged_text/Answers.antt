@@ -1,8 +1,0 @@
-use Rattle.json.specs.Print.{escape_byte}
-use Rattle.ds_reply.proofs.values.write_tagged_text.Goals as goal
-
-pub returns : goal.returns
-unfolding escape_byte
-returns g c =
-    let j = g.met.O.Output.joined in
-    j _ _ _ _ _ c.put.ensures (j _ _ _ _ _ c.write_text.ensures c.put-2.ensures)
