@@ -10,8 +10,8 @@ use Rattle.ds_log.specs.declared.Commit.{Commit}
 use Rattle.ds_log.specs.declared.Touch.{Touch}
 use Rattle.ds_log.specs.declared.Write.{Write}
 use Rattle.ds_log.specs.declared.Write.TheVariants.{Put, Delete}
-use Rattle.ds_request.specs.declared.refusal.Refusal.{Refusal}
-use Rattle.ds_request.specs.Reading.{and_then, read_as, each_of}
+use Rattle.ds_json_reading.specs.declared.refusal.Refusal.{Refusal}
+use Rattle.ds_json_reading.specs.Reading.{and_then, read_as, each_of}
 use Rattle.ds_request.specs.Requests.{line_data}
 use Rattle.ds_rounds.specs.Lines.{lines_in}
 use Rattle.ds_json_printing.specs.Printing.{natural}

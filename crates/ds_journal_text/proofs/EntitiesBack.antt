@@ -10,11 +10,11 @@ use Rattle.ds_base.specs.Entities.{EntityParts, entity_refusal, entity_size, ref
 use Rattle.ds_base.specs.Keys.{KeyParts, is_writable}
 use Rattle.ds_base.specs.declared.entity.Property.{Property}
 use Rattle.ds_base.specs.declared.value.Value.{Value}
-use Rattle.ds_request.specs.declared.refusal.Refusal.{Refusal}
-use Rattle.ds_request.specs.declared.refusal.Refusal.TheVariants as refusal
-use Rattle.ds_request.specs.Reading.{and_then, read_as, each_member_of}
+use Rattle.ds_json_reading.specs.declared.refusal.Refusal.{Refusal}
+use Rattle.ds_json_reading.specs.declared.refusal.Refusal.TheVariants as refusal
+use Rattle.ds_json_reading.specs.Reading.{and_then, read_as, each_member_of}
 use Rattle.ds_request.specs.Entities.{PutParts, property_with, property_of, entity_of}
-use Rattle.ds_request.specs.Values.{property_values_of}
+use Rattle.ds_json_reading.specs.Values.{property_values_of}
 use Rattle.ds_json_printing.specs.Printing.{property_data, property_members, entity_data}
 use Rattle.ds_journal_text.specs.Lawful.{IsLawfulProperty, IsLawfulEntity}
 use Rattle.ds_journal_text.proofs.KeysBack.{entity_key_back}

@@ -4,7 +4,7 @@ use Rattle.serde_json.specs.Data.{array, object}
 use Rattle.serde_json.specs.View.{items_view, members_view}
 use Rattle.serde_json.specs.declared.value.Value.{Value}
 use Rattle.serde_json.proofs.Views.{Entry}
-use Rattle.ds_request.specs.declared.refusal.Refusal.TheVariants as refusal
+use Rattle.ds_json_reading.specs.declared.refusal.Refusal.TheVariants as refusal
 use Rattle.ds_journal_text.specs.Reading.{touch_of, write_of}
 
 pub touch_of-not_two : (vs : List Value) → (length vs ≡ 2 → ⊥) → touch_of (array (items_view vs)) ≡ Err refusal.Request

@@ -10,10 +10,10 @@ use Rattle.ds_base.specs.Limits.{greatest_id, most_elements}
 use Rattle.ds_base.specs.declared.key.Ident.{Ident}
 use Rattle.ds_base.specs.declared.key.Ident.TheVariants.{Id, Name}
 use Rattle.ds_base.specs.declared.key.Elem.{Elem}
-use Rattle.ds_request.specs.declared.refusal.Refusal.{Refusal}
-use Rattle.ds_request.specs.declared.refusal.Refusal.TheVariants as refusal
-use Rattle.ds_request.specs.Reading.{and_then, read_as, each_of}
-use Rattle.ds_request.specs.Keys.{ident_of, elem_of, key_of, lawful_key, writable_key_of, completed, is_incomplete, entity_key_of}
+use Rattle.ds_json_reading.specs.declared.refusal.Refusal.{Refusal}
+use Rattle.ds_json_reading.specs.declared.refusal.Refusal.TheVariants as refusal
+use Rattle.ds_json_reading.specs.Reading.{and_then, read_as, each_of}
+use Rattle.ds_json_reading.specs.Keys.{ident_of, elem_of, key_of, lawful_key, writable_key_of, completed, is_incomplete, entity_key_of}
 use Rattle.ds_json_printing.specs.Printing.{ident_data, elem_data, elem_items, keyed_items, key_data}
 
 ident_back : (i : Ident) → is_ident i ≡ true → ident_of (ident_data i) ≡ Ok i

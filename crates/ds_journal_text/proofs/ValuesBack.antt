@@ -17,10 +17,10 @@ use Rattle.ds_base.specs.Entities.{is_faulty_value}
 use Rattle.ds_base.specs.Limits.{greatest_rating}
 use Rattle.ds_base.specs.declared.value.Value.{Value}
 use Rattle.ds_base.specs.declared.value.Value.TheVariants as value
-use Rattle.ds_request.specs.declared.refusal.Refusal.{Refusal}
-use Rattle.ds_request.specs.declared.refusal.Refusal.TheVariants as refusal
-use Rattle.ds_request.specs.Reading.{and_then, read_as, each_of, integer_of, up_to}
-use Rattle.ds_request.specs.Values.{base64_of, value_of, property_value_of, values_of, property_values_of}
+use Rattle.ds_json_reading.specs.declared.refusal.Refusal.{Refusal}
+use Rattle.ds_json_reading.specs.declared.refusal.Refusal.TheVariants as refusal
+use Rattle.ds_json_reading.specs.Reading.{and_then, read_as, each_of, integer_of, up_to}
+use Rattle.ds_json_reading.specs.Values.{base64_of, value_of, property_value_of, values_of, property_values_of}
 use Rattle.ds_json_printing.specs.Printing.{integer, natural, base64_data, value_data, value_items, values_data, tagged}
 use Rattle.ds_journal_text.specs.Lawful.{IsLawfulValue}
 use Rattle.ds_journal_text.proofs.KeysBack.{key_back}

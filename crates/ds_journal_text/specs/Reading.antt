@@ -10,12 +10,12 @@ use Rattle.ds_log.specs.declared.Commit.{Commit}
 use Rattle.ds_log.specs.declared.Touch.{Touch}
 use Rattle.ds_log.specs.declared.Write.{Write}
 use Rattle.ds_log.specs.declared.Write.TheVariants.{Put, Delete}
-use Rattle.ds_request.specs.declared.refusal.Refusal.{Refusal}
-use Rattle.ds_request.specs.declared.refusal.Refusal.TheVariants as refusal
-use Rattle.ds_request.specs.Reading.{and_then, read_as, member_of, required}
-use Rattle.ds_request.specs.Keys.{key_of}
+use Rattle.ds_json_reading.specs.declared.refusal.Refusal.{Refusal}
+use Rattle.ds_json_reading.specs.declared.refusal.Refusal.TheVariants as refusal
+use Rattle.ds_json_reading.specs.Reading.{and_then, read_as, member_of, required}
+use Rattle.ds_json_reading.specs.Keys.{key_of}
 use Rattle.ds_request.specs.Entities.{PutParts, entity_of}
-use Rattle.ds_request.specs.Forms.{list_of}
+use Rattle.ds_json_reading.specs.Reading.{list_of}
 
 -- an unsigned number of 64 bits
 abbrev pub number_of : Data → Result ℕ Refusal

@@ -6,7 +6,7 @@ use Rattle.ds_base.specs.Keys.{KeyParts}
 use Rattle.ds_bytes.specs.Lawful.{IsLawfulKey}
 use Rattle.ds_json_printing.specs.Printing.{entity_data, key_data}
 use Rattle.ds_request.specs.Entities.{entity_of}
-use Rattle.ds_request.specs.Keys.{key_of}
+use Rattle.ds_json_reading.specs.Keys.{key_of}
 use Rattle.ds_request.specs.Requests.{line_data}
 use Rattle.ds_journal_text.specs.Lawful.{IsLawfulEntity}
 

@@ -5,18 +5,18 @@ ghost use Rattle.serde_json.specs.View.{view, items_view, members_view};
 ghost use Rattle.ds_base.specs.Entities.{entity_refusal};
 ghost use Rattle.ds_log.specs.declared.Write.TheVariants.{Put};
 ghost use Rattle.ds_request.specs.Entities.{ArePut, entity_of};
-ghost use Rattle.ds_request.specs.Forms.{list_of};
-ghost use Rattle.ds_request.specs.Reading.{Reads, and_then, required};
+ghost use Rattle.ds_json_reading.specs.Reading.{list_of};
+ghost use Rattle.ds_json_reading.specs.Reading.{Reads, and_then, required};
 ghost use Rattle.ds_journal_text.specs.Reading.{client_of, number_of, touch_of, unless_refused, put_of, tagged_write_of, write_of};
 ghost use Rattle.ds_journal_text.specs.Reading.{commit_parts_of};
 ghost use Rattle.ds_journal_text.specs.Reading.{commit_of};
 
 use ds_base::{Entity, EntityRefused, Key, Properties};
-use ds_log::{Commit, Touch, Touches, Write, Writes};
-use ds_request::{
-    Call, EntityForm, Form, KeyForm, ListForm, Members, Refusal, Written, take_member, take_only,
-    take_two,
+use ds_json_reading::{
+    Form, KeyForm, ListForm, Members, Refusal, take_member, take_only, take_two,
 };
+use ds_log::{Commit, Touch, Touches, Write, Writes};
+use ds_request::{Call, EntityForm, Written};
 use serde_json::Value;
 use std::alloc::Global;
 

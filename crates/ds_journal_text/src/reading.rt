@@ -13,8 +13,8 @@ use crate::lawful::commit_is_lawful;
 use crate::writing::commit_line;
 use ds_base::NoMemory;
 use ds_base::limits::MAX_WRITES;
+use ds_json_reading::{Form, Refusal};
 use ds_log::{Commit, Journal};
-use ds_request::{Form, Refusal};
 use serde_json::Value;
 use std::alloc::{AllocError, Global};
 

@@ -1,12 +1,13 @@
--- What arrays of the wrong length and arrays that aren't empty are read as.
-use Rattle.std.proofs.Common.{◌≡◌, ◌<◌, List, [], ◌∷◌, length, Result, Err, refl, arith}
+-- What arrays of the wrong length are read as.
+use Rattle.std.proofs.Common.{◌≡◌, ◌<◌, List, [], ◌∷◌, length, Result, Err, refl}
 use Rattle.serde_json.specs.Data.{Data, array}
 use Rattle.serde_json.specs.View.{items_view}
 use Rattle.serde_json.specs.declared.value.Value.{Value}
-use Rattle.ds_request.specs.declared.refusal.Refusal.{Refusal}
-use Rattle.ds_request.specs.declared.refusal.Refusal.TheVariants as refusal
-use Rattle.ds_request.specs.Reading.{each_of}
-use Rattle.ds_request.specs.Forms.{filter_of, order_of, some_of}
+use Rattle.ds_json_reading.specs.declared.refusal.Refusal.{Refusal}
+use Rattle.ds_json_reading.specs.declared.refusal.Refusal.TheVariants as refusal
+use Rattle.ds_json_reading.specs.Reading.{each_of}
+use Rattle.ds_request.specs.Forms.{filter_of, order_of}
+use Rattle.ds_json_reading.specs.Reading.{some_of}
 
 -- only an array of three can be a filter
 pub filter_of-not_three : (vs : List Value) → (length vs ≡ 3 → ⊥) → filter_of (array (items_view vs)) ≡ Err refusal.Request
@@ -22,8 +23,3 @@ order_of-not_two [] other = refl
 order_of-not_two (p ∷ []) other = refl
 order_of-not_two (p ∷ o ∷ []) other = absurd (other refl)
 order_of-not_two (p ∷ o ∷ e ∷ vs) other = refl
-
--- an array that isn't empty is read item by item
-pub some_of-some : {A : Type 0} (form : Data → Result A Refusal) (vs : List Value) → 0 < length vs → some_of form (array (items_view vs)) ≡ each_of form (items_view vs)
-some_of-some form [] some = absurd (omega arith)
-some_of-some form (v ∷ vs) some = refl

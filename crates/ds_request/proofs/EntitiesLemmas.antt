@@ -14,10 +14,10 @@ use Rattle.ds_base.specs.declared.value.Value.{Value}
 use Rattle.ds_base.specs.declared.entity.Property.{Property}
 use Rattle.ds_base.specs.Keys.{is_name, is_reserved}
 use Rattle.ds_base.specs.Entities.{names_ascend}
-use Rattle.ds_request.specs.declared.refusal.Refusal.{Refusal}
-use Rattle.ds_request.specs.declared.refusal.Refusal.TheVariants as refusal
-use Rattle.ds_request.specs.Reading.{and_then, read_as, each_member_of}
-use Rattle.ds_request.specs.Values.{property_values_of}
+use Rattle.ds_json_reading.specs.declared.refusal.Refusal.{Refusal}
+use Rattle.ds_json_reading.specs.declared.refusal.Refusal.TheVariants as refusal
+use Rattle.ds_json_reading.specs.Reading.{and_then, read_as, each_member_of}
+use Rattle.ds_json_reading.specs.Values.{property_values_of}
 use Rattle.ds_request.specs.Entities.{property_with, property_of}
 
 -- a name that is below the first property's

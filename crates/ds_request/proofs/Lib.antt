@@ -1,12 +1,5 @@
 pub mod ArraysLemmas
-pub mod CompletedKeys
 pub mod ClientLemmas
-pub mod Each
 pub mod EntitiesLemmas
-pub mod EntriesLemmas
-pub mod KeysLemmas
-pub mod MembersLemmas
-pub mod ReadsLemmas
 pub mod SeveralLemmas
-pub mod ValuesLemmas
 pub mod LawfulLemmas

@@ -5,9 +5,10 @@ use Rattle.std.specs.Str.{bytes_eq}
 use Rattle.std.proofs.lemmas.Bool.{or_parts, and_parts}
 use Rattle.serde_json.specs.Data.{Members}
 use Rattle.ds_query.specs.declared.field.Field.{Field}
-use Rattle.ds_request.specs.Reading.{Reads, and_then}
+use Rattle.ds_json_reading.specs.Reading.{Reads, and_then}
 use Rattle.ds_query.specs.Fields.{field_name}
-use Rattle.ds_request.specs.Members.{is_apart, AgreeOn, AgreeBut}
+use Rattle.ds_request.specs.Members.{is_apart, AgreeOn}
+use Rattle.ds_json_reading.specs.Reading.{AgreeBut}
 
 -- where a member of another name is taken out, the others are still what was asked
 pub agree_after : (f : Field) (fs : List Field) (asked old new : Members) → list_any (λ g. bytes_eq (field_name f) (field_name g)) fs ≡ false

@@ -5,11 +5,11 @@ use Rattle.ds_base.specs.declared.value.Value.{Value}
 use Rattle.ds_base.specs.declared.entity.Property.{Property}
 use Rattle.ds_base.specs.Keys.{KeyParts, ends_in_id, is_name, is_reserved}
 use Rattle.ds_base.specs.Entities.{names_ascend}
-use Rattle.ds_request.specs.declared.refusal.Refusal.{Refusal}
-use Rattle.ds_request.specs.declared.refusal.Refusal.TheVariants as refusal
-use Rattle.ds_request.specs.Reading.{and_then, read_as, each_member_of, member_of, required, defaulted}
-use Rattle.ds_request.specs.Keys.{entity_key_of}
-use Rattle.ds_request.specs.Values.{property_values_of}
+use Rattle.ds_json_reading.specs.declared.refusal.Refusal.{Refusal}
+use Rattle.ds_json_reading.specs.declared.refusal.Refusal.TheVariants as refusal
+use Rattle.ds_json_reading.specs.Reading.{and_then, read_as, each_member_of, member_of, required, defaulted}
+use Rattle.ds_json_reading.specs.Keys.{entity_key_of}
+use Rattle.ds_json_reading.specs.Values.{property_values_of}
 
 -- no value is no property
 abbrev pub property_with : List ℕ → Bool × List Value → Option Property

@@ -13,10 +13,10 @@ use Rattle.ds_query.specs.declared.query.Op.TheVariants as op
 use Rattle.ds_query.specs.declared.query.Filter.{Filter}
 use Rattle.ds_query.specs.declared.query.Select.{Select}
 use Rattle.ds_query.specs.declared.query.Select.TheVariants as select
-use Rattle.ds_request.specs.declared.refusal.Refusal.{Refusal}
-use Rattle.ds_request.specs.declared.refusal.Refusal.TheVariants as refusal
-use Rattle.ds_request.specs.Reading.{and_then, read_as, each_of, each_member_of, from, up_to}
-use Rattle.ds_request.specs.Values.{value_of}
+use Rattle.ds_json_reading.specs.declared.refusal.Refusal.{Refusal}
+use Rattle.ds_json_reading.specs.declared.refusal.Refusal.TheVariants as refusal
+use Rattle.ds_json_reading.specs.Reading.{and_then, read_as, each_of, each_member_of, from, up_to}
+use Rattle.ds_json_reading.specs.Values.{value_of}
 
 -- ---- texts, truth values and numbers
 
@@ -48,18 +48,6 @@ count_of d = ok_or (from 1 d) refusal.Request
 -- a shard's number; whether there is such a shard isn't asked here
 abbrev pub shard_of : Data → Result ℕ Refusal
 shard_of d = ok_or (from 0 d) refusal.Request
-
--- ---- arrays
-
--- an array, each of whose items has one form
-abbrev pub list_of : {A : Type 0} → (Data → Result A Refusal) → Data → Result (List A) Refusal
-list_of form (array ds) = each_of form ds
-list_of form _ = Err refusal.Request
-
--- the same with at least one item
-abbrev pub some_of : {A : Type 0} → (Data → Result A Refusal) → Data → Result (List A) Refusal
-some_of form (array (item d ds)) = each_of form (item d ds)
-some_of form _ = Err refusal.Request
 
 -- ---- filters
 

@@ -3,7 +3,7 @@ use Rattle.std.specs.Prelude.{◌≡◌, ℕ, List, [], ◌∷◌, Bool, true, f
 use Rattle.std.specs.List.{list_any}
 use Rattle.serde_json.specs.Data.{Members}
 use Rattle.ds_query.specs.declared.field.Field.{Field}
-use Rattle.ds_request.specs.Reading.{member_of}
+use Rattle.ds_json_reading.specs.Reading.{member_of}
 use Rattle.ds_query.specs.Fields.{field_name}
 
 -- no two of the members have one name
@@ -15,7 +15,3 @@ is_apart (f ∷ fs) = not (list_any (λ g. bytes_eq (field_name f) (field_name g
 abbrev pub AgreeOn : List Field → Members → Members → Type 0
 AgreeOn [] ms ns = ⊤
 AgreeOn (f ∷ fs) ms ns = (member_of (field_name f) ms ≡ member_of (field_name f) ns) × AgreeOn fs ms ns
-
--- two objects have the same members of all names but one
-abbrev pub AgreeBut : List ℕ → Members → Members → Type 0
-AgreeBut name ms ns = (other : List ℕ) → bytes_eq name other ≡ false → member_of other ms ≡ member_of other ns

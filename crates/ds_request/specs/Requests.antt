@@ -15,13 +15,14 @@ use Rattle.ds_request.specs.declared.call.RequestRefused.{RequestRefused}
 use Rattle.ds_request.specs.declared.call.RequestRefused.TheVariants as refused
 use Rattle.ds_request.specs.declared.operation.Operation.{Operation}
 use Rattle.ds_request.specs.declared.operation.Operation.TheVariants as operation
-use Rattle.ds_request.specs.declared.refusal.Refusal.{Refusal}
-use Rattle.ds_request.specs.declared.refusal.Refusal.TheVariants as refusal
-use Rattle.ds_request.specs.Reading.{and_then, read_as, member_of, required, optional, defaulted}
-use Rattle.ds_request.specs.Keys.{key_of, writable_key_of}
-use Rattle.ds_request.specs.Values.{value_of}
+use Rattle.ds_json_reading.specs.declared.refusal.Refusal.{Refusal}
+use Rattle.ds_json_reading.specs.declared.refusal.Refusal.TheVariants as refusal
+use Rattle.ds_json_reading.specs.Reading.{and_then, read_as, member_of, required, optional, defaulted}
+use Rattle.ds_json_reading.specs.Keys.{key_of, writable_key_of}
+use Rattle.ds_json_reading.specs.Values.{value_of}
 use Rattle.ds_request.specs.Entities.{entity_of}
-use Rattle.ds_request.specs.Forms.{text_of, name_of, namespace_of, flag_of, client_of, results_of, count_of, shard_of, list_of}
+use Rattle.ds_request.specs.Forms.{text_of, name_of, namespace_of, flag_of, client_of, results_of, count_of, shard_of}
+use Rattle.ds_json_reading.specs.Reading.{list_of}
 use Rattle.ds_request.specs.Forms.{filter_of, order_of, select_of, named_values_of}
 
 -- ---- a member

@@ -2,15 +2,13 @@
 ghost use Rattle.std.specs.Prelude.{◌≡◌, ◌≤◌, length, option_map, IfOk, MatchResult, Some};
 ghost use Rattle.serde_json.specs.View.{view, members_view};
 ghost use Rattle.ds_query.specs.Fields.{field_name};
-ghost use Rattle.ds_request.specs.Reading.{Reads, defaulted, required, member_of};
+ghost use Rattle.ds_json_reading.specs.Reading.{Reads, defaulted, required, member_of};
 ghost use Rattle.ds_request.specs.Forms.{client_of};
 ghost use Rattle.ds_request.specs.Lawful.{IsLawfulCall};
 ghost use Rattle.ds_request.specs.Requests.{operation_of, call_of, object_request_of, data_request_of, line_data, request_of, client_told};
 
 use crate::call::{Call, Request, RequestRefused};
-use crate::forms::scalars::up_to;
 use crate::members::told::told_at;
-use crate::members::{Members, member};
 use crate::operation::{Operation, operation_of};
 use crate::operations::allocate_ids::read_allocate_ids;
 use crate::operations::apply::read_apply;
@@ -20,8 +18,8 @@ use crate::operations::get::read_get;
 use crate::operations::gql::read_gql;
 use crate::operations::put::read_put;
 use crate::operations::query::read_query;
-use crate::refusal::Refusal;
 use ds_base::limits::{MAX_CLIENT, MAX_LINE_BYTES};
+use ds_json_reading::{Members, Refusal, member, up_to};
 use ds_query::Field;
 use serde_json::Value;
 use std::alloc::{AllocError, Global};

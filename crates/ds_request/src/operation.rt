@@ -3,7 +3,7 @@ ghost use Rattle.std.specs.Prelude.{◌≡◌};
 ghost use Rattle.serde_json.specs.View.{view};
 ghost use Rattle.ds_request.specs.Requests.{operation_of};
 
-use crate::refusal::Refusal;
+use ds_json_reading::Refusal;
 use serde_json::Value;
 
 /// What the member `op` of a line names.

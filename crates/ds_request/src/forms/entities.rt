@@ -2,17 +2,15 @@
 ghost use Rattle.std.specs.Prelude.{◌≡◌, [], IfOk, option_map};
 ghost use Rattle.serde_json.specs.Data.{object};
 ghost use Rattle.serde_json.specs.View.{view, members_view};
-ghost use Rattle.ds_request.specs.Reading.{Reads, defaulted};
+ghost use Rattle.ds_json_reading.specs.Reading.{Reads, defaulted};
 ghost use Rattle.ds_request.specs.Entities.{property_with, property_of, properties_of, entity_of, ArePut};
 
 use crate::call::Call;
-use crate::forms::Form;
-use crate::forms::entries::{EntryForm, read_entries};
-use crate::forms::keys::read_entity_key;
-use crate::forms::values::read_property_values;
-use crate::members::{Members, unless_null};
-use crate::refusal::Refusal;
 use ds_base::{Key, Properties, Property, TextString, Values, is_name, is_reserved};
+use ds_json_reading::{
+    EntryForm, Form, Members, Refusal, read_entity_key, read_entries, read_property_values,
+    unless_null,
+};
 use serde_json::Value;
 use std::alloc::Global;
 use std::marker::Model;

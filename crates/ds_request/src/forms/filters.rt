@@ -2,16 +2,13 @@
 ghost use Rattle.std.specs.Prelude.{◌≡◌, [], ◌∷◌};
 ghost use Rattle.serde_json.specs.Data.{array};
 ghost use Rattle.serde_json.specs.View.{view, items_view};
-ghost use Rattle.ds_request.specs.Reading.{Reads, read_as};
-ghost use Rattle.ds_request.specs.Values.{value_of};
+ghost use Rattle.ds_json_reading.specs.Reading.{Reads, read_as};
+ghost use Rattle.ds_json_reading.specs.Values.{value_of};
 ghost use Rattle.ds_request.specs.Forms.{op_of, operands_of, filter_of};
 
-use crate::forms::Form;
-use crate::forms::lists::{read_some, take_three};
 use crate::forms::scalars::NameForm;
-use crate::forms::values::{ValueForm, only};
-use crate::refusal::Refusal;
 use ds_base::Values;
+use ds_json_reading::{Form, Refusal, ValueForm, only, read_some, take_three};
 use ds_query::{Filter, Op};
 use serde_json::Value;
 use std::alloc::Global;

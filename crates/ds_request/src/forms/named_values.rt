@@ -1,11 +1,8 @@
 //! The arguments of a statement by their names.
 ghost use Rattle.ds_request.specs.Forms.{named_value_of, named_values_of};
 
-use crate::forms::Form;
-use crate::forms::entries::{EntryForm, read_entries};
-use crate::forms::values::ValueForm;
-use crate::refusal::Refusal;
 use ds_base::{NamedValue, NamedValues, TextString};
+use ds_json_reading::{EntryForm, Form, Refusal, ValueForm, read_entries};
 use serde_json::Value;
 use std::alloc::Global;
 

@@ -2,14 +2,12 @@
 ghost use Rattle.std.specs.Prelude.{◌≡◌, [], ◌∷◌};
 ghost use Rattle.serde_json.specs.Data.{array};
 ghost use Rattle.serde_json.specs.View.{view, items_view};
-ghost use Rattle.ds_request.specs.Reading.{Reads};
+ghost use Rattle.ds_json_reading.specs.Reading.{Reads};
 ghost use Rattle.ds_request.specs.Forms.{direction_of, order_of};
 
-use crate::forms::Form;
-use crate::forms::lists::take_two;
 use crate::forms::scalars::NameForm;
-use crate::refusal::Refusal;
 use ds_base::Column;
+use ds_json_reading::{Form, Refusal, take_two};
 use serde_json::Value;
 use std::alloc::Global;
 

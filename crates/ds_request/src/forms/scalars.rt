@@ -1,39 +1,13 @@
 //! Texts, truth values and numbers.
 ghost use Rattle.std.specs.Prelude.{◌≡◌};
 ghost use Rattle.serde_json.specs.View.{view};
-ghost use Rattle.ds_request.specs.Reading.{natural_of, up_to};
 ghost use Rattle.ds_request.specs.Forms.{text_of, name_of, namespace_of, flag_of, results_of, count_of, shard_of};
 
-use crate::forms::Form;
-use crate::refusal::Refusal;
 use ds_base::limits::MAX_RESULTS;
 use ds_base::{TextString, is_namespace};
+use ds_json_reading::{Form, Refusal, natural, up_to};
 use serde_json::Value;
 use std::alloc::Global;
-
-/// The integer from 0 on that stands here. `1.0` and `-0` are no integers.
-pub(crate) fn natural(value: &Value) -> Option<u64>
-    ensures { result ≡ natural_of (view value.now) }
-{
-    let number = value.as_i64()?;
-    if number >= 0 {
-        Some(number as u64)
-    } else {
-        None
-    }
-}
-
-/// The integer from 0 up to `greatest` that stands here.
-pub(crate) fn up_to(greatest: u32, value: &Value) -> Option<u32>
-    ensures { result ≡ up_to greatest (view value.now) }
-{
-    let number = natural(value)?;
-    if number <= u64::from(greatest) {
-        Some(number as u32)
-    } else {
-        None
-    }
-}
 
 /// Any text.
 #[derive(Drop)]

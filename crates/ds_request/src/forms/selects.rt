@@ -3,10 +3,8 @@ ghost use Rattle.std.specs.Prelude.{◌≡◌};
 ghost use Rattle.serde_json.specs.Data.{string};
 ghost use Rattle.ds_request.specs.Forms.{select_of};
 
-use crate::forms::Form;
-use crate::forms::lists::read_some;
 use crate::forms::scalars::NameForm;
-use crate::refusal::Refusal;
+use ds_json_reading::{Form, Refusal, read_some};
 use ds_query::Select;
 use serde_json::Value;
 use std::alloc::Global;

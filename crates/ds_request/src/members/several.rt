@@ -5,13 +5,13 @@ ghost use Rattle.serde_json.specs.View.{members_view};
 ghost use Rattle.ds_query.specs.declared.field.Field.{Field};
 ghost use Rattle.ds_request.specs.declared.call.Call.{Call};
 ghost use Rattle.ds_request.specs.declared.call.RequestRefused.{RequestRefused};
-ghost use Rattle.ds_request.specs.Reading.{Reads, and_then, read_as};
+ghost use Rattle.ds_json_reading.specs.Reading.{Reads, and_then, read_as};
 ghost use Rattle.ds_request.specs.Requests.{member_read};
 ghost use Rattle.ds_request.specs.Members.{is_apart, AgreeOn};
 
 use crate::call::RequestRefused;
-use crate::members::Members;
 use crate::members::one::{ReadMember, read_member};
+use ds_json_reading::Members;
 use std::alloc::Global;
 
 /// How members are read in their order: a table of members, written as pairs of a member and those that follow it.

@@ -3,7 +3,7 @@ ghost use Rattle.std.specs.Prelude.{◌≡◌};
 ghost use Rattle.ds_request.specs.Requests.{told_at};
 
 use crate::call::RequestRefused;
-use crate::refusal::Refusal;
+use ds_json_reading::Refusal;
 use ds_query::Field;
 
 /// What was read of a member, or what is wrong with it, told with the client and the member.

@@ -1,12 +1,12 @@
 //! The beginning of a transaction: whether it may touch several entity groups.
 ghost use Rattle.serde_json.specs.View.{members_view};
-ghost use Rattle.ds_request.specs.Reading.{Reads};
+ghost use Rattle.ds_json_reading.specs.Reading.{Reads};
 ghost use Rattle.ds_request.specs.Requests.{begin_call_of};
 
 use crate::call::{Call, RequestRefused};
 use crate::forms::scalars::FlagForm;
-use crate::members::Members;
 use crate::members::one::{Defaulted, read_member};
+use ds_json_reading::Members;
 use ds_query::Field;
 use std::alloc::Global;
 

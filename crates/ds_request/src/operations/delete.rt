@@ -1,12 +1,11 @@
 //! A delete: the key, of which nothing is reserved.
 ghost use Rattle.serde_json.specs.View.{members_view};
-ghost use Rattle.ds_request.specs.Reading.{Reads};
+ghost use Rattle.ds_json_reading.specs.Reading.{Reads};
 ghost use Rattle.ds_request.specs.Requests.{delete_call_of};
 
 use crate::call::{Call, RequestRefused};
-use crate::forms::keys::WritableKeyForm;
-use crate::members::Members;
 use crate::members::one::{Required, read_member};
+use ds_json_reading::{Members, WritableKeyForm};
 use ds_query::Field;
 use std::alloc::Global;
 

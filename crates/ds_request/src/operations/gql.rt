@@ -1,17 +1,15 @@
 //! A statement of the query language: its members in the order in which they are looked at.
 ghost use Rattle.serde_json.specs.View.{members_view};
-ghost use Rattle.ds_request.specs.Reading.{Reads};
+ghost use Rattle.ds_json_reading.specs.Reading.{Reads};
 ghost use Rattle.ds_request.specs.Requests.{gql_call_of};
 
 use crate::call::{Call, RequestRefused};
-use crate::forms::lists::ListForm;
 use crate::forms::named_values::NamedValuesForm;
 use crate::forms::scalars::{FlagForm, NamespaceForm, TextForm};
-use crate::forms::values::ValueForm;
-use crate::members::Members;
 use crate::members::one::{Defaulted, Optional, Required};
 use crate::members::several::ReadMembers;
 use ds_base::{NamedValues, TextString, Values};
+use ds_json_reading::{ListForm, Members, ValueForm};
 use ds_query::Field;
 use std::alloc::Global;
 

@@ -1,14 +1,14 @@
 //! A put: the entity.
 ghost use Rattle.std.specs.Prelude.{IfOk};
 ghost use Rattle.serde_json.specs.View.{members_view};
-ghost use Rattle.ds_request.specs.Reading.{Reads};
+ghost use Rattle.ds_json_reading.specs.Reading.{Reads};
 ghost use Rattle.ds_request.specs.Lawful.{IsLawfulCall};
 ghost use Rattle.ds_request.specs.Requests.{put_call_of};
 
 use crate::call::{Call, RequestRefused};
 use crate::forms::entities::EntityForm;
-use crate::members::Members;
 use crate::members::one::{Required, read_member};
+use ds_json_reading::Members;
 use ds_query::Field;
 use std::alloc::Global;
 

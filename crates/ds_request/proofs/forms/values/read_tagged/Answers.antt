@@ -1,6 +1,0 @@
-use Rattle.std.proofs.Common.{◌≡◌, true, false}
-use Rattle.ds_request.proofs.ValuesLemmas.{value_of-not_one}
-use Rattle.ds_request.proofs.forms.values.read_tagged.Goals as goal
-
-pub returns-in-None : goal.returns-in-None
-returns-in-None c = λ known. value_of-not_one c.args.members.entries (λ h. let k : false ≡ true = c.in-None.ensures.one.1 h in cc)
