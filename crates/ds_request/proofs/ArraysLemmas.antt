@@ -1,13 +1,10 @@
 -- What arrays of the wrong length are read as.
-use Rattle.std.proofs.Common.{◌≡◌, ◌<◌, List, [], ◌∷◌, length, Result, Err, refl}
-use Rattle.serde_json.specs.Data.{Data, array}
+use Rattle.std.proofs.Common.{◌≡◌, List, [], ◌∷◌, length, Err, refl}
+use Rattle.serde_json.specs.Data.{array}
 use Rattle.serde_json.specs.View.{items_view}
 use Rattle.serde_json.specs.declared.value.Value.{Value}
-use Rattle.ds_json_reading.specs.declared.refusal.Refusal.{Refusal}
 use Rattle.ds_json_reading.specs.declared.refusal.Refusal.TheVariants as refusal
-use Rattle.ds_json_reading.specs.Reading.{each_of}
 use Rattle.ds_request.specs.Forms.{filter_of, order_of}
-use Rattle.ds_json_reading.specs.Reading.{some_of}
 
 -- only an array of three can be a filter
 pub filter_of-not_three : (vs : List Value) → (length vs ≡ 3 → ⊥) → filter_of (array (items_view vs)) ≡ Err refusal.Request

@@ -2,8 +2,7 @@
 ghost use Rattle.std.specs.Prelude.{◌≡◌, [], ◌∷◌};
 ghost use Rattle.serde_json.specs.Data.{array};
 ghost use Rattle.serde_json.specs.View.{view, items_view};
-ghost use Rattle.ds_json_reading.specs.Reading.{Reads, read_as};
-ghost use Rattle.ds_json_reading.specs.Values.{value_of};
+ghost use Rattle.ds_json_reading.specs.Reading.{Reads};
 ghost use Rattle.ds_request.specs.Forms.{op_of, operands_of, filter_of};
 
 use crate::forms::scalars::NameForm;

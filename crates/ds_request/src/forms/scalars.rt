@@ -1,6 +1,4 @@
 //! Texts, truth values and numbers.
-ghost use Rattle.std.specs.Prelude.{◌≡◌};
-ghost use Rattle.serde_json.specs.View.{view};
 ghost use Rattle.ds_request.specs.Forms.{text_of, name_of, namespace_of, flag_of, results_of, count_of, shard_of};
 
 use ds_base::limits::MAX_RESULTS;
