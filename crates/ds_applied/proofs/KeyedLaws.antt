@@ -11,12 +11,12 @@ use Rattle.std.specs.List.Sorted.{IsStrictlySortedBy}
 use Rattle.ds_base.specs.Keys.{KeyParts}
 use Rattle.ds_base.specs.KeyOrder.{key_cmp}
 use Rattle.ds_base.specs.KeyOrderLaws.{key_cmp-same}
-use Rattle.ds_base.specs.Entities.{EntityParts}
+use Rattle.ds_entity.specs.Entities.{EntityParts}
 use Rattle.ds_log.specs.declared.Write.{Write}
 use Rattle.ds_log.specs.declared.Write.TheVariants.{Put, Delete}
 use Rattle.ds_log.specs.After.{apply_write}
 use Rattle.ds_applied.specs.ByKey.{keyed, entities_in}
-use Rattle.ds_base.specs.EntityOrder.{sorted_by_key}
+use Rattle.ds_entity.specs.EntityOrder.{sorted_by_key}
 use Rattle.ds_applied.proofs.Sorted.{put-keyed, delete-keyed}
 
 pub entities-keyed : (es : List EntityParts) → entities_in (map keyed es) ≡ es

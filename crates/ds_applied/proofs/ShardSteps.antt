@@ -3,13 +3,13 @@ use Rattle.std.proofs.Common.{◌≡◌, ℕ, zero, suc, ◌+◌, ◌<◌, ◌�
 use Rattle.std.proofs.Common.{append_assoc, append-nil, arith}
 use Rattle.std.proofs.lemmas.List.{take_more, take_all, take-append-le}
 use Rattle.std.proofs.lemmas.List.Sums.{fold-append}
-use Rattle.ds_base.specs.Entities.{EntityParts}
+use Rattle.ds_entity.specs.Entities.{EntityParts}
 use Rattle.ds_log.specs.declared.Entry.{Entry}
 use Rattle.ds_log.specs.declared.Write.{Write}
 use Rattle.ds_log.specs.After.{after, apply_write}
 use Rattle.ds_log.specs.Logs.{entry_writes}
 use Rattle.ds_applied.specs.AppliedLists.{IsShard, writes_at}
-use Rattle.ds_base.specs.EntityOrder.{sorted_by_key}
+use Rattle.ds_entity.specs.EntityOrder.{sorted_by_key}
 
 -- ---- the entry at a place
 

@@ -12,12 +12,12 @@ use Rattle.std.specs.List.{AllByRecursion}
 use Rattle.ds_base.specs.Keys.{KeyParts}
 use Rattle.ds_base.specs.KeyOrder.{key_cmp, same_key}
 use Rattle.ds_base.specs.KeyOrderLaws.{key_cmp-total, key_cmp-same}
-use Rattle.ds_base.specs.Entities.{EntityParts}
+use Rattle.ds_entity.specs.Entities.{EntityParts}
 use Rattle.ds_base.specs.Sorting.{insert_by}
 use Rattle.ds_base.specs.SortingLaws.{NoneBefore, insert_by-front, sorted_by-filter, sorted_by-push}
 use Rattle.ds_log.specs.declared.Write.TheVariants.{Put, Delete}
 use Rattle.ds_log.specs.After.{apply_write, without}
-use Rattle.ds_base.specs.EntityOrder.{entity_cmp, sorted_by_key}
+use Rattle.ds_entity.specs.EntityOrder.{entity_cmp, sorted_by_key}
 use Rattle.ds_applied.specs.ByKey.{keyed}
 
 -- every entity of the list comes after k

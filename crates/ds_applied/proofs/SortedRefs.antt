@@ -9,7 +9,7 @@ use Rattle.std.proofs.lemmas.List.Elements.{All-nil, All-cons, All-head, All-tai
 use Rattle.std.proofs.lemmas.List.Sorted.{IsPermutation-map, IsPermutation-trans, IsPermutation-sym, All-permutation}
 use Rattle.ds_base.specs.KeyOrder.{key_cmp}
 use Rattle.ds_base.specs.KeyOrderLaws.{key_cmp-total, key_cmp-same}
-use Rattle.ds_base.specs.Entities.{EntityParts}
+use Rattle.ds_entity.specs.Entities.{EntityParts}
 use Rattle.ds_base.specs.SortingLaws.{NoneBefore, Ascends, Ascends-from_IsSorted, IsSorted-from_Ascends, Ascends-sorted_by}
 use Rattle.ds_base.specs.SortingLaws.{IsPermutation-sorted_by, same_sorted}
 use Rattle.ds_model.specs.Results.{entity_of}

@@ -2,7 +2,7 @@
 use Rattle.std.proofs.Common.{◌≡◌, ℕ, zero, suc, ◌+◌, ◌<◌, ◌≤◌, List, [], ◌∷◌, ◌++◌, length, take, get_or, refl, ap, sym, ◌∙◌}
 use Rattle.std.proofs.Common.{append_assoc, append-nil, subst, arith}
 use Rattle.std.proofs.lemmas.List.{take_more, take_all, length-map}
-use Rattle.ds_base.specs.Entities.{EntityParts}
+use Rattle.ds_entity.specs.Entities.{EntityParts}
 use Rattle.ds_log.specs.declared.Entry.{Entry}
 use Rattle.ds_model.specs.Sessions.{list_of}
 use Rattle.ds_applied.specs.AppliedLists.{AppliedParts, AppliedShard, entries_of, applied_of, AreCounts, left_by, shard_views}

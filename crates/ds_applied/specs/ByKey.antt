@@ -1,7 +1,7 @@
 -- Entities in the order of their keys, each found by its key.
 use Rattle.std.specs.Prelude.{List, [], ◌∷◌, ◌++◌, map}
 use Rattle.ds_base.specs.Keys.{KeyParts}
-use Rattle.ds_base.specs.Entities.{EntityParts}
+use Rattle.ds_entity.specs.Entities.{EntityParts}
 pub use Rattle.ds_model.specs.ByKey.{entity_cmp, sorted_by_key, keyed, NoneAt, KeysDiffer}
 
 -- the entities of a map's entries

@@ -1,6 +1,6 @@
 -- The entities that a read sees, wherever they lie.
 use Rattle.std.specs.Prelude.{List}
-use Rattle.ds_base.specs.Entities.{EntityParts}
+use Rattle.ds_entity.specs.Entities.{EntityParts}
 use Rattle.ds_applied.specs.declared.visible.Source.{Source}
 use Rattle.ds_applied.specs.declared.visible.Source.TheVariants.{Kept, Rebuilt}
 

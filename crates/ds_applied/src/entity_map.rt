@@ -3,14 +3,15 @@ ghost use Rattle.std.specs.Prelude.{◌≡◌, ◌++◌, List, [], fold, length,
 ghost use Rattle.std.specs.BTreeMap.{insert_entry, IsOrdered, is_at};
 ghost use Rattle.std.specs.Map.{remove_entry};
 ghost use Rattle.std.specs.Option.{option_copied};
-ghost use Rattle.ds_base.specs.Entities.{EntityParts};
+ghost use Rattle.ds_entity.specs.Entities.{EntityParts};
 ghost use Rattle.ds_base.specs.KeyOrder.{key_cmp};
 ghost use Rattle.ds_log.specs.After.{after, apply_write};
 ghost use Rattle.ds_log.specs.Logs.{entry_writes};
 ghost use Rattle.ds_model.specs.Results.{entity_of};
-ghost use Rattle.ds_base.specs.EntityOrder.{sorted_by_key};
+ghost use Rattle.ds_entity.specs.EntityOrder.{sorted_by_key};
 
-use ds_base::{Entity, Key, NoMemory, TryCopy};
+use ds_base::{Key, NoMemory, TryCopy};
+use ds_entity::Entity;
 use ds_log::{Entry, Write};
 use std::alloc::Global;
 use std::collections::BTreeMap;
@@ -24,7 +25,7 @@ pub struct EntityMap {
 
 impl Model for EntityMap {
     ghost use Rattle.std.specs.Prelude.{◌≡◌, List, map};
-    ghost use Rattle.ds_base.specs.Entities.{EntityParts};
+    ghost use Rattle.ds_entity.specs.Entities.{EntityParts};
     ghost use Rattle.ds_applied.specs.ByKey.{entities_in, keyed};
 
     ghost Value = { List EntityParts };

@@ -1,15 +1,16 @@
 //! Entities that a read sees.
 ghost use Rattle.std.specs.Prelude.{◌≡◌, ◌≤◌, ◌++◌, List, [], length, map, IfOk, OnOk};
 ghost use Rattle.std.specs.Option.{option_copied};
-ghost use Rattle.ds_base.specs.Entities.{EntityParts};
+ghost use Rattle.ds_entity.specs.Entities.{EntityParts};
 ghost use Rattle.ds_log.specs.declared.Entry.{Entry};
 ghost use Rattle.ds_model.specs.Results.{entity_of};
 ghost use Rattle.ds_applied.specs.ByKey.{joined, KeysDiffer};
-ghost use Rattle.ds_base.specs.EntityOrder.{sorted_by_key};
+ghost use Rattle.ds_entity.specs.EntityOrder.{sorted_by_key};
 ghost use Rattle.ds_applied.specs.AppliedLists.{left_by};
 
 use crate::entity_map::EntityMap;
-use ds_base::{Entity, Key, NoMemory};
+use ds_base::{Key, NoMemory};
+use ds_entity::Entity;
 use ds_log::Entry;
 use std::alloc::Global;
 use std::marker::Model;
@@ -29,7 +30,7 @@ pub struct Visible<'a> {
 
 impl<'a> Model for Visible<'a> {
     ghost use Rattle.std.specs.Prelude.{List};
-    ghost use Rattle.ds_base.specs.Entities.{EntityParts};
+    ghost use Rattle.ds_entity.specs.Entities.{EntityParts};
 
     ghost Value = { List EntityParts };
 
@@ -92,7 +93,7 @@ pub struct AllVisible<'a> {
 
 impl<'a> Model for AllVisible<'a> {
     ghost use Rattle.std.specs.Prelude.{List};
-    ghost use Rattle.ds_base.specs.Entities.{EntityParts};
+    ghost use Rattle.ds_entity.specs.Entities.{EntityParts};
     ghost use Rattle.ds_applied.specs.ByKey.{joined};
 
     ghost Value = { List EntityParts };

@@ -11,8 +11,6 @@ use Rattle.ds_base.specs.declared.key.Elem.{Elem}
 use Rattle.ds_base.specs.Limits.{greatest_id, most_elements}
 use Rattle.ds_base.specs.Keys.{KeyParts, is_key, is_path, is_namespace, is_elem, is_ident, is_name, is_reserved_elem, is_writable}
 use Rattle.ds_base.specs.Keys.{ends_in_id, with_last_id, renumbered}
-use Rattle.ds_base.specs.Entities.{elem_size, entity_size, entity_refusal, IsEntity, property_size, refusal_by, is_faulty_property}
-use Rattle.ds_base.specs.declared.entity.Property.{Property}
 
 pub length-with_last_id : (es : List Elem) (id : ℕ) → length (with_last_id es id) ≡ length es
 length-with_last_id [] id = refl
@@ -31,15 +29,6 @@ all_elems-with_last_id (e ∷ []) id low high all =
 all_elems-with_last_id (e ∷ f ∷ es) id low high all =
     let parts = and_parts (is_elem e) (list_all is_elem (f ∷ es)) all in
     and_from (is_elem e) (list_all is_elem (with_last_id (f ∷ es) id)) parts.0 (all_elems-with_last_id (f ∷ es) id low high parts.1)
-
-pub sizes-with_last_id : (es : List Elem) (id : ℕ) → ends_in_id es ≡ true → sum_by elem_size (with_last_id es id) ≡ sum_by elem_size es
-sizes-with_last_id [] id ends = refl
-sizes-with_last_id (e ∷ []) id ends = last e.ident refl ends where
-  last : (i : Ident) → e.ident ≡ i → ends_in_id (e ∷ []) ≡ true → sum_by elem_size (with_last_id (e ∷ []) id) ≡ sum_by elem_size (e ∷ [])
-  last (Id n) is ends = rw is
-  last (Name x) is ends = cc
-sizes-with_last_id (e ∷ f ∷ es) id ends =
-    sum_by-cons elem_size e (with_last_id (f ∷ es) id) ∙ ap (λ n. elem_size e + n) (sizes-with_last_id (f ∷ es) id ends) ∙ sym (sum_by-cons elem_size e (f ∷ es))
 
 pub reserved-with_last_id : (es : List Elem) (id : ℕ) → ends_in_id es ≡ true → list_any is_reserved_elem (with_last_id es id) ≡ list_any is_reserved_elem es
 reserved-with_last_id [] id ends = refl
@@ -69,16 +58,3 @@ is_key-renumbered k id low high lawful =
     (and_from (nat_le 1 (length (with_last_id k.elems id)) && nat_le (length (with_last_id k.elems id)) most_elements) (list_all is_elem (with_last_id k.elems id))
     (rw length-with_last_id path.0)
     (all_elems-with_last_id k.elems id low high path.1))
-
-pub entity_refusal-renumbered : (k : KeyParts) (ps : List Property) (id : ℕ) → ends_in_id k.elems ≡ true → entity_refusal (renumbered k id) ps ≡ entity_refusal k ps
-entity_refusal-renumbered k ps id ends =
-    ap (λ writable. refusal_by writable (position is_faulty_property ps) (entity_size (renumbered k id) ps)) (ap not (reserved-with_last_id k.elems id ends))
-    ∙ ap (λ size. refusal_by (is_writable k) (position is_faulty_property ps) (length k.namespace + size + sum_by property_size ps)) (sizes-with_last_id k.elems id ends)
-
-pub IsEntity-renumbered : (k : KeyParts) (ps : List Property) (id : ℕ) → ends_in_id k.elems ≡ true → 1 ≤ id → id ≤ greatest_id → IsEntity k ps → IsEntity (renumbered k id) ps
-IsEntity-renumbered k ps id ends low high kept = record {
-  lawful_key = is_key-renumbered k id low high kept.lawful_key;
-  not_refused = entity_refusal-renumbered k ps id ends ∙ kept.not_refused;
-  ascending = kept.ascending;
-  few = kept.few;
-}

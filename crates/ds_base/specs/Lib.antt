@@ -2,8 +2,6 @@ pub mod Buffers
 pub mod Bytes
 pub mod ColumnLaws
 pub mod Columns
-pub mod Entities
-pub mod EntityOrder
 pub mod IndexOrder
 pub mod IndexOrderLaws
 pub mod KeyColumn

@@ -1,5 +1,6 @@
--- What of a value an index holds.
-use Rattle.std.specs.Prelude.{Option, Some, None, pos}
+-- What of a value an index holds, and which values no entity may have.
+use Rattle.std.specs.Prelude.{Option, Some, None, pos, Bool, false, ◌&&◌, nat_lt, length}
+use Rattle.ds_base.specs.Limits.{greatest_rating, most_name_bytes}
 use Rattle.ds_base.specs.declared.value.Value.{Value}
 use Rattle.ds_base.specs.declared.value.Value.TheVariants as value
 use Rattle.ds_base.specs.declared.index_value.IndexValue.{IndexValue}
@@ -18,3 +19,10 @@ index_of (value.Str s) = Some (index.Bytes s)
 index_of (value.Text s) = None
 index_of (value.Blob s) = None
 index_of (value.Key k) = Some (index.Key k)
+
+-- a rating above 100, or an indexed string or byte string of more than 1,500 bytes
+abbrev pub is_faulty_value : Bool → Value → Bool
+is_faulty_value indexed (value.Rating n) = nat_lt greatest_rating n
+is_faulty_value indexed (value.Bytes s) = indexed && nat_lt most_name_bytes (length s)
+is_faulty_value indexed (value.Str s) = indexed && nat_lt most_name_bytes (length s)
+is_faulty_value indexed _ = false

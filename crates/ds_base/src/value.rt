@@ -37,8 +37,7 @@ pub enum Value {
 pub type Values = Sequence<Value>;
 
 impl Value {
-    ghost use Rattle.ds_base.specs.Values.{index_of};
-    ghost use Rattle.ds_base.specs.Entities.{is_faulty_value};
+    ghost use Rattle.ds_base.specs.Values.{index_of, is_faulty_value};
 
     /// The value as an index holds it: integers, dates and ratings as numbers, strings and byte strings as byte
     /// sequences; `None` exactly for long text and blobs.

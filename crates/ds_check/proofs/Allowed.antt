@@ -4,7 +4,7 @@ use Rattle.std.proofs.Common.{Option, Some, None, Bool, true, false, cond}
 use Rattle.std.specs.Prelude.{nat_le}
 use Rattle.ds_base.specs.declared.key.Elem.{Elem}
 use Rattle.ds_base.specs.declared.key.Ident.TheVariants.{Id}
-use Rattle.ds_base.specs.Entities.{EntityParts, entity_refusal}
+use Rattle.ds_entity.specs.Entities.{EntityParts, entity_refusal}
 use Rattle.ds_base.specs.Keys.{KeyParts, renumbered, root_of, with_last_id}
 use Rattle.ds_base.specs.Limits.{most_groups}
 use Rattle.ds_indexdef.specs.declared.IndexDef.{IndexDef}

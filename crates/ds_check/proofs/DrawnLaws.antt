@@ -6,11 +6,11 @@ use Rattle.std.specs.List.{range_with_len, AllByRecursion}
 use Rattle.std.proofs.lemmas.List.Elements.{All-nil, All-cons}
 use Rattle.ds_base.specs.Keys.{KeyParts, with_last_id}
 use Rattle.ds_base.specs.Limits.{greatest_id}
-use Rattle.ds_base.specs.declared.entity.EntityRefused.{EntityRefused}
-use Rattle.ds_base.specs.declared.entity.EntityRefused.TheVariants as entity
-use Rattle.ds_base.specs.declared.entity.Property.{Property}
+use Rattle.ds_entity.specs.declared.entity.EntityRefused.{EntityRefused}
+use Rattle.ds_entity.specs.declared.entity.EntityRefused.TheVariants as entity
+use Rattle.ds_entity.specs.declared.entity.Property.{Property}
 use Rattle.ds_base.specs.declared.key.Elem.{Elem}
-use Rattle.ds_base.specs.Entities.{entity_refusal}
+use Rattle.ds_entity.specs.Entities.{entity_refusal}
 use Rattle.ds_log.specs.Touches.{touch_place}
 use Rattle.ds_request.specs.declared.call.Call.{Call}
 use Rattle.ds_request.specs.declared.call.Call.TheVariants as call

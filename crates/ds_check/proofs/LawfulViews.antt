@@ -3,7 +3,7 @@ use Rattle.std.proofs.Common.{ℕ, zero, suc, ◌+◌, ◌==◌, List, [], ◌�
 use Rattle.std.specs.Prelude.{All, not}
 use Rattle.std.specs.List.{AllByRecursion, range_with_len}
 use Rattle.std.proofs.lemmas.List.Elements.{All-head, All-tail, recursion_from_All}
-use Rattle.ds_base.specs.Entities.{EntityParts}
+use Rattle.ds_entity.specs.Entities.{EntityParts}
 use Rattle.ds_base.specs.Keys.{KeyParts}
 use Rattle.ds_base.specs.KeyOrder.{same_key}
 use Rattle.ds_log.specs.declared.Commit.{Commit}

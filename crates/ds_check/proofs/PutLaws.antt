@@ -3,7 +3,7 @@ use Rattle.std.proofs.Common.{◌≡◌, ℕ, zero, suc, ◌-◌, ◌^◌, ◌<�
 use Rattle.std.proofs.Common.{Option, Some, None, Bool, true, false}
 use Rattle.std.specs.Prelude.{codes, nat_eq, slice_get}
 use Rattle.std.proofs.lemmas.Option.{slice_get_within}
-use Rattle.ds_base.specs.Entities.{EntityParts}
+use Rattle.ds_entity.specs.Entities.{EntityParts}
 use Rattle.ds_base.specs.Keys.{KeyParts, ends_in_id, renumbered, root_of}
 use Rattle.ds_base.specs.Limits.{greatest_id}
 use Rattle.ds_bytes.specs.Lawful.{IsLawfulKey}

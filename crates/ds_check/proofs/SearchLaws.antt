@@ -3,11 +3,11 @@ use Rattle.std.proofs.Common.{◌≡◌, ℕ, ◌≤◌, Bool, true, false, List
 use Rattle.std.proofs.Common.{◌⊎◌, inl, inr, Option, Some, None, take}
 use Rattle.std.specs.Prelude.{All, codes, is_some}
 use Rattle.std.specs.List.{AllByRecursion}
-use Rattle.ds_base.specs.declared.results.Item.{Item}
-use Rattle.ds_base.specs.declared.results.Seen.{Seen}
-use Rattle.ds_base.specs.declared.results.Seen.TheVariants as seen
-use Rattle.ds_base.specs.Entities.{EntityParts}
-use Rattle.ds_base.specs.EntityOrder.{sorted_by_key}
+use Rattle.ds_entity.specs.declared.results.Item.{Item}
+use Rattle.ds_entity.specs.declared.results.Seen.{Seen}
+use Rattle.ds_entity.specs.declared.results.Seen.TheVariants as seen
+use Rattle.ds_entity.specs.Entities.{EntityParts}
+use Rattle.ds_entity.specs.EntityOrder.{sorted_by_key}
 use Rattle.ds_base.specs.Keys.{KeyParts, root_of}
 use Rattle.ds_query.specs.declared.branch.Normal.{Normal}
 use Rattle.ds_query.specs.declared.branch.Window.{Window}

@@ -1,7 +1,7 @@
 -- What writes and commits are told, in the parts in which replies to them are judged.
 use Rattle.std.specs.Prelude.{◌≡◌, ℕ, ◌≤◌, Bool, [], ◌∷◌, length, Option, Some, None, ⊤}
 use Rattle.std.specs.Option.{option_map}
-use Rattle.ds_base.specs.Entities.{EntityParts}
+use Rattle.ds_entity.specs.Entities.{EntityParts}
 use Rattle.ds_base.specs.Keys.{KeyParts}
 use Rattle.ds_base.specs.Limits.{most_groups, most_writes}
 use Rattle.ds_log.specs.declared.Commit.{Commit}

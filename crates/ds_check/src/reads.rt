@@ -2,7 +2,7 @@
 ghost use Rattle.std.specs.Prelude.{◌≡◌, ◌≤◌, ◌+◌, ◌↔◌, All, Some, None, codes, is_some, length, map, take, IfOk, IsTrue, OnOk};
 ghost use Rattle.std.specs.Option.{option_map};
 ghost use Rattle.ds_base.specs.Keys.{root_of};
-ghost use Rattle.ds_base.specs.EntityOrder.{sorted_by_key};
+ghost use Rattle.ds_entity.specs.EntityOrder.{sorted_by_key};
 ghost use Rattle.ds_bytes.specs.Lawful.{IsLawfulKey};
 ghost use Rattle.ds_query.specs.Lawful.{IsLawfulNormal};
 ghost use Rattle.ds_log.specs.After.{after};
@@ -27,7 +27,8 @@ use crate::lawful::{asks_are_lawful, select_is_lawful};
 use crate::sessions::Session;
 use crate::turn::Turn;
 use crate::writes::tells_error;
-use ds_base::{Entity, Key, NoMemory, Seen, TryCopy, copy_of};
+use ds_base::{Key, NoMemory, TryCopy, copy_of};
+use ds_entity::{Entity, Seen};
 use ds_journal_text::key_is_lawful;
 use ds_plain::answer_of;
 use ds_protocol::{Ready, Search, finish, group_of, prepare};

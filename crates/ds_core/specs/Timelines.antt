@@ -1,7 +1,7 @@
 -- When things happen in a run over single events: what each step changes, and on which steps the numbers of a reply stand.
 use Rattle.std.specs.Prelude.{◌≡◌, ◌⊎◌, ℕ, ◌+◌, ◌<◌, Bool, true, false, cond, nat_lt, List, [], ◌∷◌, ◌++◌, Option, Some, None, length, ⊤}
-use Rattle.ds_base.specs.declared.results.Seen.{Seen}
-use Rattle.ds_base.specs.declared.results.Seen.TheVariants as seen
+use Rattle.ds_entity.specs.declared.results.Seen.{Seen}
+use Rattle.ds_entity.specs.declared.results.Seen.TheVariants as seen
 use Rattle.ds_log.specs.declared.Commit.{Commit}
 use Rattle.ds_log.specs.Logs.{shard_list}
 use Rattle.ds_reply.specs.declared.reply.Body.{Body}

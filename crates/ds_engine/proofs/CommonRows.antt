@@ -13,7 +13,7 @@ use Rattle.ds_base.specs.declared.column.Column.{Column}
 use Rattle.ds_base.specs.Keys.{KeyParts}
 use Rattle.ds_base.specs.KeyOrder.{bytes_cmp, same_key}
 use Rattle.ds_base.specs.KeyOrderLaws.{same_key-decides}
-use Rattle.ds_base.specs.Entities.{EntityParts}
+use Rattle.ds_entity.specs.Entities.{EntityParts}
 use Rattle.ds_base.specs.Sorting.{sorted_by}
 use Rattle.ds_base.specs.SortingLaws.{IsSorted-sorted_by, IsPermutation-sorted_by}
 use Rattle.ds_bytes.specs.Rows.{RowParts, IsRow}

@@ -5,8 +5,8 @@ use Rattle.std.specs.Prelude.{All, nat_lt, if◌then◌else◌}
 use Rattle.std.proofs.lemmas.Bool.{ltb-false}
 use Rattle.std.proofs.lemmas.List.{length-map}
 use Rattle.std.proofs.lemmas.List.Elements.{All-head, All-tail, All-nil, All-cons}
-use Rattle.ds_base.specs.declared.results.Item.{Item}
-use Rattle.ds_base.specs.Entities.{EntityParts}
+use Rattle.ds_entity.specs.declared.results.Item.{Item}
+use Rattle.ds_entity.specs.Entities.{EntityParts}
 use Rattle.ds_indexdef.specs.declared.IndexDef.{IndexDef}
 use Rattle.ds_query.specs.declared.query.Select.{Select}
 use Rattle.ds_query.specs.declared.branch.Branch.{Branch}

@@ -8,7 +8,7 @@ use Rattle.std.proofs.lemmas.List.Folds.{find-append}
 use Rattle.ds_base.specs.declared.column.Column.{Column}
 use Rattle.ds_base.specs.Keys.{KeyParts}
 use Rattle.ds_base.specs.KeyOrder.{same_key}
-use Rattle.ds_base.specs.Entities.{EntityParts}
+use Rattle.ds_entity.specs.Entities.{EntityParts}
 use Rattle.ds_bytes.specs.Rows.{RowParts}
 use Rattle.ds_query.specs.declared.query.Select.{Select}
 use Rattle.ds_query.specs.declared.query.Select.TheVariants as select

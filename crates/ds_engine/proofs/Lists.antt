@@ -7,7 +7,7 @@ use Rattle.std.proofs.Math.Seq.{take-length, take-append_seam}
 use mathlib.Core.List.{IsPrefix}
 use Rattle.ds_base.specs.Keys.{KeyParts, root_of}
 use Rattle.ds_base.specs.KeyOrder.{same_key}
-use Rattle.ds_base.specs.Entities.{EntityParts}
+use Rattle.ds_entity.specs.Entities.{EntityParts}
 use Rattle.ds_hub.specs.Growing.{AreLonger}
 use Rattle.ds_log.specs.declared.Commit.{Commit}
 use Rattle.ds_log.specs.declared.Entry.{Entry}

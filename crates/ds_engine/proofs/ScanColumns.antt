@@ -9,7 +9,7 @@ use Rattle.ds_base.specs.declared.column.Column.{Column}
 use Rattle.ds_base.specs.declared.index_value.IndexValue.{IndexValue}
 use Rattle.ds_base.specs.declared.index_value.IndexValue.TheVariants.{Null}
 use Rattle.ds_base.specs.declared.index_value.IndexValue.TheVariants as class
-use Rattle.ds_base.specs.Entities.{EntityParts}
+use Rattle.ds_entity.specs.Entities.{EntityParts}
 use Rattle.ds_bytes.specs.Encoding.{encoding}
 use Rattle.ds_bytes.specs.Lawful.{IsLawfulValue}
 use Rattle.ds_bytes.specs.Rows.{columns_bytes}

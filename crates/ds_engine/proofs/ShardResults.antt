@@ -13,7 +13,7 @@ use Rattle.ds_base.specs.Keys.{KeyParts}
 use Rattle.ds_base.specs.KeyOrder.{same_key}
 use Rattle.ds_base.specs.KeyOrderLaws.{same_key-decides}
 use Rattle.ds_base.specs.IndexOrderLaws.{same_index_value-decides}
-use Rattle.ds_base.specs.Entities.{EntityParts}
+use Rattle.ds_entity.specs.Entities.{EntityParts}
 use Rattle.ds_base.specs.Sorting.{sorted_by}
 use Rattle.ds_bytes.specs.Rows.{RowParts}
 use Rattle.ds_query.specs.declared.branch.Branch.{Branch}

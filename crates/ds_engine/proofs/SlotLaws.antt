@@ -4,9 +4,9 @@ use Rattle.std.specs.Prelude.{All, max}
 use Rattle.std.proofs.Math.Seq.{take-length}
 use Rattle.std.proofs.lemmas.List.{length-map}
 use Rattle.std.proofs.lemmas.List.Elements.{All-head, All-tail, All-nil, All-cons}
-use Rattle.ds_base.specs.declared.results.Item.{Item}
-use Rattle.ds_base.specs.declared.results.Seen.{Seen}
-use Rattle.ds_base.specs.declared.results.Seen.TheVariants as seen
+use Rattle.ds_entity.specs.declared.results.Item.{Item}
+use Rattle.ds_entity.specs.declared.results.Seen.{Seen}
+use Rattle.ds_entity.specs.declared.results.Seen.TheVariants as seen
 use Rattle.ds_query.specs.declared.branch.Normal.{Normal}
 use Rattle.ds_query.specs.declared.branch.Window.{Window}
 use Rattle.ds_query.specs.declared.row.Place.{Place}

@@ -1,6 +1,6 @@
 -- What is claimed of planned scans: that the strings behind what a scan's rows begin with are the rows of what it binds.
 use Rattle.std.specs.Prelude.{◌≡◌, ◌≤◌, ◌↔◌, ◌&&◌, ℕ, length, true, List, [], ◌∷◌, ◌++◌, All, Contains, IsTrue, Option, cond, filter, map}
-use Rattle.ds_base.specs.Entities.{EntityParts}
+use Rattle.ds_entity.specs.Entities.{EntityParts}
 use Rattle.ds_base.specs.Sorting.{sorted_by}
 use Rattle.ds_bytes.specs.Rows.{RowParts, IsRow}
 use Rattle.ds_indexdef.specs.declared.IndexDef.{IndexDef}

@@ -1,6 +1,6 @@
 -- A shard at one of the stamps that it keeps.
 use Rattle.std.specs.Prelude.{ℕ, List, length, map}
-use Rattle.ds_base.specs.Entities.{EntityParts}
+use Rattle.ds_entity.specs.Entities.{EntityParts}
 use Rattle.ds_indexdef.specs.declared.IndexDef.{IndexDef}
 use Rattle.ds_log.specs.declared.Entry.{Entry}
 use Rattle.ds_engine.specs.BoundSums.{Asked}

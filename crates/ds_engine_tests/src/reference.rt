@@ -1,5 +1,6 @@
 //! The entities that the entries leave, by their keys.
-use ds_base::{Entity, Key, TryCopy};
+use ds_base::{Key, TryCopy};
+use ds_entity::Entity;
 use ds_log::{Entry, Write};
 use std::alloc::Global;
 use std::collections::BTreeMap;

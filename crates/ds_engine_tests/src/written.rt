@@ -4,7 +4,8 @@ ghost use Rattle.ds_request.specs.Lawful.{IsLawfulCall};
 ghost use Rattle.ds_query.specs.Lawful.{IsLawfulNormal};
 
 use ds_base::limits::MAX_LINE_BYTES;
-use ds_base::{Elem, Elems, Entity, Ident, Key, TextString};
+use ds_base::{Elem, Elems, Ident, Key, TextString};
+use ds_entity::Entity;
 use ds_log::{Entry, Write, Writes};
 use ds_query::{Normal, Query, normalize};
 use ds_request::{Call, read_request};

@@ -1,9 +1,10 @@
 //! Replies as text: refusals, how keys, values and projections are shown, and what the escapes are. What went well, and the refusals
 //! that hold a group or a pair, are shown by the examples, which are served and compared.
 use ds_base::{
-    Buffer, ByteString, Columns, Elem, Elems, Entity, Ident, IndexValue, IndexValues, Item, Key,
-    Names, NoMemory, Properties, Property, Results, Seen, Sequence, TextString, Value, Values,
+    Buffer, ByteString, Columns, Elem, Elems, Ident, IndexValue, IndexValues, Key, Names, NoMemory,
+    Sequence, TextString, Value, Values,
 };
+use ds_entity::{Entity, Item, Properties, Property, Results, Seen};
 use ds_indexdef::IndexDef;
 use ds_query::{Constraint, Field, Reason, Select};
 use ds_reply::{Body, Reply, reply_room, write_reply};

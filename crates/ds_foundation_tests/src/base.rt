@@ -3,9 +3,9 @@ ghost use Rattle.std.specs.Prelude.{◌≡◌, [], ◌∷◌, IfOk};
 
 use ds_base::limits::MAX_ID;
 use ds_base::{
-    ByteString, Elem, Elems, Entity, EntityRefused, Ident, IndexValue, Key, NoMemory, Properties,
-    Property, TextString, TryCopy, Value, Values,
+    ByteString, Elem, Elems, Ident, IndexValue, Key, NoMemory, TextString, TryCopy, Value, Values,
 };
+use ds_entity::{Entity, EntityRefused, Properties, Property};
 use std::alloc::Global;
 use std::cmp::Ordering;
 use std::test::Fail;

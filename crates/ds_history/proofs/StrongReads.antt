@@ -2,8 +2,8 @@
 use Rattle.std.proofs.Common.{◌≡◌, ℕ, ◌≤◌, Bool, true, false, cond, List, [], ◌∷◌, ◌++◌, length, take, refl, ap, sym, ◌∙◌}
 use Rattle.std.proofs.lemmas.List.Elements.{filter-append}
 use Rattle.ds_base.specs.declared.column.Column.{Column}
-use Rattle.ds_base.specs.Entities.{EntityParts}
-use Rattle.ds_base.specs.EntityOrder.{sorted_by_key}
+use Rattle.ds_entity.specs.Entities.{EntityParts}
+use Rattle.ds_entity.specs.EntityOrder.{sorted_by_key}
 use Rattle.ds_base.specs.Keys.{KeyParts, root_of}
 use Rattle.ds_base.specs.KeyOrder.{same_key}
 use Rattle.ds_query.specs.declared.branch.Normal.{Normal}

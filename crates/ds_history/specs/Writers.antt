@@ -1,7 +1,7 @@
 -- Which commits of a journal wrote an entity group.
 use Rattle.std.specs.Prelude.{ℕ, zero, suc, ◌+◌, ◌==◌, List, [], ◌∷◌, ◌++◌, filter, Option, Some, None, slice_get, cond, flat_map, fold}
 use Rattle.std.specs.Map.{lookup}
-use Rattle.ds_base.specs.Entities.{EntityParts}
+use Rattle.ds_entity.specs.Entities.{EntityParts}
 use Rattle.ds_base.specs.Keys.{KeyParts}
 use Rattle.ds_base.specs.KeyOrder.{same_key}
 use Rattle.ds_log.specs.declared.Commit.{Commit}

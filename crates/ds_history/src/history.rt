@@ -1,9 +1,9 @@
 //! A journal as replies are held against it.
 ghost use Rattle.std.specs.Prelude.{◌≡◌, ◌<◌, ◌≤◌, ◌^◌, List, [], None, fold, length, take, IfNone, IfOk, IfSome, OnOk};
 ghost use Rattle.std.specs.Option.{option_copied};
-ghost use Rattle.ds_base.specs.EntityOrder.{sorted_by_key};
+ghost use Rattle.ds_entity.specs.EntityOrder.{sorted_by_key};
 ghost use Rattle.ds_base.specs.Limits.{most_shards};
-ghost use Rattle.ds_base.specs.Entities.{EntityParts};
+ghost use Rattle.ds_entity.specs.Entities.{EntityParts};
 ghost use Rattle.ds_log.specs.After.{after, apply_write};
 ghost use Rattle.ds_log.specs.UpTo.{count_up_to};
 ghost use Rattle.ds_log.specs.Conflicts.{after_place, conflict_from, conflict_of, last_writer};
@@ -18,7 +18,8 @@ ghost use Rattle.ds_history.specs.Writers.{commits_at, if_there, last_of, left_a
 use crate::reads::left_at;
 use crate::writers::{Writers, writers_of};
 use ds_applied::{AllVisible, Applied, EntityMap};
-use ds_base::{Entity, Key, NoMemory};
+use ds_base::{Key, NoMemory};
+use ds_entity::Entity;
 use ds_log::{Commit, Conflict, Journal, ShardCommits, Touch};
 use std::alloc::Global;
 use std::marker::Model;

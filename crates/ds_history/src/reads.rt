@@ -3,7 +3,8 @@ ghost use Rattle.std.specs.Prelude.{◌≡◌, fold};
 ghost use Rattle.std.specs.Option.{option_copied};
 ghost use Rattle.ds_history.specs.Writers.{left_at, put_by};
 
-use ds_base::{Entity, Key};
+use ds_base::Key;
+use ds_entity::Entity;
 use ds_log::Write;
 
 /// The entity that writes leave at a key, where this one was there before.

@@ -3,7 +3,8 @@ ghost use Rattle.std.specs.Prelude.{◌≡◌, [], IfOk, IsTrue};
 ghost use Rattle.ds_base.specs.Keys.{ends_in_id};
 ghost use Rattle.ds_journal.specs.Drafts.{is_one_put};
 
-use ds_base::{Elem, Elems, Entity, Ident, Key, NoMemory, Properties, TextString};
+use ds_base::{Elem, Elems, Ident, Key, NoMemory, TextString};
+use ds_entity::{Entity, Properties};
 use ds_journal::ids::{check_left, check_path};
 use ds_journal::{Book, Draft, IdNotIssued, IdsExhausted};
 use ds_log::{Touches, Write, Writes};

@@ -17,11 +17,12 @@ use Rattle.base64.specs.GeneralPurpose.{encode_of}
 use Rattle.base64.proofs.EngineFacts.{IsAscii-encode_of}
 use Rattle.json.proofs.Printed.Utf8.{IsUtf8-are_ascii}
 use Rattle.serde_json.specs.Data.{Data, unsigned, number, string}
-use Rattle.ds_base.specs.Entities.{EntityParts, names_ascend, is_faulty_property, is_faulty_value}
+use Rattle.ds_entity.specs.Entities.{EntityParts, names_ascend, is_faulty_property}
+use Rattle.ds_base.specs.Values.{is_faulty_value}
 use Rattle.ds_base.specs.KeyOrder.{bytes_cmp}
 use Rattle.ds_base.specs.Keys.{KeyParts}
 use Rattle.ds_base.specs.Limits.{greatest_rating}
-use Rattle.ds_base.specs.declared.entity.Property.{Property}
+use Rattle.ds_entity.specs.declared.entity.Property.{Property}
 use Rattle.ds_base.specs.declared.key.Ident.{Ident}
 use Rattle.ds_base.specs.declared.key.Ident.TheVariants.{Id, Name}
 use Rattle.ds_base.specs.declared.key.Elem.{Elem}

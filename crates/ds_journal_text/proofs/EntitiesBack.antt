@@ -6,9 +6,9 @@ use Rattle.std.specs.List.{list_any, prefix_len}
 use Rattle.std.specs.Option.{option_to_list}
 use Rattle.std.proofs.lemmas.Bool.{or_parts, ltb-false}
 use Rattle.std.proofs.lemmas.List.Elements.{All-head, All-tail}
-use Rattle.ds_base.specs.Entities.{EntityParts, entity_refusal, entity_size, refusal_by, is_faulty_property}
+use Rattle.ds_entity.specs.Entities.{EntityParts, entity_refusal, entity_size, refusal_by, is_faulty_property}
 use Rattle.ds_base.specs.Keys.{KeyParts, is_writable}
-use Rattle.ds_base.specs.declared.entity.Property.{Property}
+use Rattle.ds_entity.specs.declared.entity.Property.{Property}
 use Rattle.ds_base.specs.declared.value.Value.{Value}
 use Rattle.ds_json_reading.specs.declared.refusal.Refusal.{Refusal}
 use Rattle.ds_json_reading.specs.declared.refusal.Refusal.TheVariants as refusal

@@ -13,7 +13,7 @@ use Rattle.base64.specs.Engines.{standard}
 use Rattle.base64.specs.GeneralPurpose.{IsBytes, IsConsistent}
 use Rattle.base64.proofs.EngineFacts.{decode_of-encode_of}
 use Rattle.ds_base.specs.Bytes.{AreBytes}
-use Rattle.ds_base.specs.Entities.{is_faulty_value}
+use Rattle.ds_base.specs.Values.{is_faulty_value}
 use Rattle.ds_base.specs.Limits.{greatest_rating}
 use Rattle.ds_base.specs.declared.value.Value.{Value}
 use Rattle.ds_base.specs.declared.value.Value.TheVariants as value

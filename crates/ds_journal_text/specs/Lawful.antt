@@ -2,9 +2,9 @@
 use Rattle.std.specs.Prelude.{◌<◌, ◌≤◌, ◌^◌, All, length, FitsSigned}
 use Rattle.std.specs.Int.{w64}
 use Rattle.ds_base.specs.Bytes.{AreBytes}
-use Rattle.ds_base.specs.Entities.{EntityParts, IsEntity}
+use Rattle.ds_entity.specs.Entities.{EntityParts, IsEntity}
 use Rattle.ds_base.specs.Limits.{most_writes}
-use Rattle.ds_base.specs.declared.entity.Property.{Property}
+use Rattle.ds_entity.specs.declared.entity.Property.{Property}
 use Rattle.ds_base.specs.declared.value.Value.{Value}
 use Rattle.ds_base.specs.declared.value.Value.TheVariants as value
 use Rattle.ds_bytes.specs.Lawful.{IsText, IsLawfulKey}

@@ -4,8 +4,8 @@ use Rattle.std.specs.Prelude.{Ok, Err}
 use Rattle.std.specs.Option.{ok_or}
 use Rattle.serde_json.specs.Data.{Data, array, object, no_items, item, no_members, member}
 use Rattle.serde_json.specs.Find.{as_number, as_u64}
-use Rattle.ds_base.specs.Entities.{entity_refusal}
-use Rattle.ds_base.specs.declared.entity.EntityRefused.{EntityRefused}
+use Rattle.ds_entity.specs.Entities.{entity_refusal}
+use Rattle.ds_entity.specs.declared.entity.EntityRefused.{EntityRefused}
 use Rattle.ds_log.specs.declared.Commit.{Commit}
 use Rattle.ds_log.specs.declared.Touch.{Touch}
 use Rattle.ds_log.specs.declared.Write.{Write}

@@ -1,7 +1,7 @@
 -- That what is shown of keys and entities is read back, as a text and as JSON.
 use Rattle.std.specs.Prelude.{◌≡◌, false, Some, Ok}
 use Rattle.serde_json.specs.Written.{compact_text}
-use Rattle.ds_base.specs.Entities.{EntityParts}
+use Rattle.ds_entity.specs.Entities.{EntityParts}
 use Rattle.ds_base.specs.Keys.{KeyParts}
 use Rattle.ds_bytes.specs.Lawful.{IsLawfulKey}
 use Rattle.ds_json_printing.specs.Printing.{entity_data, key_data}

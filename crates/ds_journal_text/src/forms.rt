@@ -2,7 +2,7 @@
 ghost use Rattle.std.specs.Prelude.{◌≡◌, option_map};
 ghost use Rattle.serde_json.specs.Data.{array, item, no_items, object};
 ghost use Rattle.serde_json.specs.View.{view, items_view, members_view};
-ghost use Rattle.ds_base.specs.Entities.{entity_refusal};
+ghost use Rattle.ds_entity.specs.Entities.{entity_refusal};
 ghost use Rattle.ds_log.specs.declared.Write.TheVariants.{Put};
 ghost use Rattle.ds_request.specs.Entities.{ArePut, entity_of};
 ghost use Rattle.ds_json_reading.specs.Reading.{list_of};
@@ -11,7 +11,8 @@ ghost use Rattle.ds_journal_text.specs.Reading.{client_of, number_of, touch_of, 
 ghost use Rattle.ds_journal_text.specs.Reading.{commit_parts_of};
 ghost use Rattle.ds_journal_text.specs.Reading.{commit_of};
 
-use ds_base::{Entity, EntityRefused, Key, Properties};
+use ds_base::Key;
+use ds_entity::{Entity, EntityRefused, Properties};
 use ds_json_reading::{
     Form, KeyForm, ListForm, Members, Refusal, take_member, take_only, take_two,
 };

@@ -7,7 +7,8 @@ ghost use Rattle.ds_bytes.specs.Lawful.{IsText, IsLawfulIdent, IsLawfulElem, IsL
 ghost use Rattle.ds_journal_text.specs.Lawful.{IsLawfulValue, IsLawfulProperty, IsLawfulEntity};
 ghost use Rattle.ds_journal_text.specs.Lawful.{IsLawfulWrite, IsLawfulTouch, IsLawfulCommit};
 
-use ds_base::{ByteString, Elem, Entity, Ident, Key, Property, TextString, Value};
+use ds_base::{ByteString, Elem, Ident, Key, TextString, Value};
+use ds_entity::{Entity, Property};
 use ds_log::{Commit, Touch, Write};
 
 /// A commit with at most 500 writes is lawful: its client has 32 bits, its numbers 64, its keys and entities keep their rules.

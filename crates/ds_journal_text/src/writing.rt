@@ -9,7 +9,8 @@ ghost use Rattle.ds_journal_text.specs.Texts.{touch_data, touch_items, write_dat
 ghost use Rattle.ds_journal_text.specs.Texts.{IsJournalOf};
 
 use crate::lawful::commit_is_lawful;
-use ds_base::{Buffer, ByteString, Entity, Key, NoMemory};
+use ds_base::{Buffer, ByteString, Key, NoMemory};
+use ds_entity::Entity;
 use ds_json_printing::{append_entity, append_key};
 use ds_log::{Commit, Journal, Touch, Write};
 use std::alloc::Global;

@@ -8,7 +8,8 @@ use crate::keys::write_key;
 use crate::output::Growing;
 use crate::values::write_entity;
 use core::mem::replace_with;
-use ds_base::{Buffer, Entity, Key, NoMemory};
+use ds_base::{Buffer, Key, NoMemory};
+use ds_entity::Entity;
 use std::alloc::AllocError;
 
 /// Puts an entity at the end of `onto`, as a reply shows it: one JSON object in compact text. A refusal is want of memory, and leaves

@@ -11,7 +11,8 @@ use crate::text::{
     write_base64, write_boolean, write_comma, write_integer, write_natural, write_string,
     write_text,
 };
-use ds_base::{ByteString, Entity, IndexValue, Key, Property, TextString, Value};
+use ds_base::{ByteString, IndexValue, Key, TextString, Value};
+use ds_entity::{Entity, Property};
 
 /// Puts an entity.
 pub fn write_entity<O: Output>(entity: &Entity, out: &mut O)

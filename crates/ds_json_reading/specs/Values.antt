@@ -9,7 +9,7 @@ use Rattle.base64.specs.GeneralPurpose.{decode_of}
 use Rattle.ds_base.specs.Limits.{greatest_rating}
 use Rattle.ds_base.specs.declared.value.Value.{Value}
 use Rattle.ds_base.specs.declared.value.Value.TheVariants as value
-use Rattle.ds_base.specs.Entities.{is_faulty_value}
+use Rattle.ds_base.specs.Values.{is_faulty_value}
 use Rattle.ds_json_reading.specs.declared.refusal.Refusal.{Refusal}
 use Rattle.ds_json_reading.specs.declared.refusal.Refusal.TheVariants as refusal
 use Rattle.ds_json_reading.specs.Reading.{and_then, read_as, each_of, integer_of, up_to}

@@ -9,7 +9,7 @@ ghost use Rattle.serde_json.specs.Find.{as_str};
 ghost use Rattle.serde_json.specs.View.{view, members_view};
 ghost use Rattle.ds_base.specs.Limits.{greatest_rating};
 ghost use Rattle.ds_base.specs.declared.value.Value.TheVariants as read_value_as;
-ghost use Rattle.ds_base.specs.Entities.{is_faulty_value};
+ghost use Rattle.ds_base.specs.Values.{is_faulty_value};
 ghost use Rattle.ds_json_reading.specs.declared.refusal.Refusal.TheVariants as refused;
 ghost use Rattle.ds_json_reading.specs.Reading.{Reads, read_as, integer_of, up_to};
 ghost use Rattle.ds_json_reading.specs.Keys.{key_of};

@@ -20,7 +20,8 @@ pub mod shard_commits;
 ghost use Rattle.std.specs.Prelude.{◌≡◌};
 ghost use Rattle.ds_log.specs.Logs.{key_of};
 
-use ds_base::{Entity, Key, NoMemory, Sequence, TryCopy};
+use ds_base::{Key, NoMemory, Sequence, TryCopy};
+use ds_entity::Entity;
 pub use hash::fnv1a;
 pub use heads::Heads;
 pub use projection::{Routed, group_writes, groups_of, project, route, shard_entries};

@@ -13,7 +13,7 @@ use Rattle.ds_base.specs.declared.key.Elem.{Elem}
 use Rattle.ds_base.specs.Keys.{KeyParts, root_of}
 use Rattle.ds_base.specs.KeyOrder.{elem_cmp, same_key, is_ancestor}
 use Rattle.ds_base.specs.KeyOrderLaws.{same_elem-decides}
-use Rattle.ds_base.specs.Entities.{EntityParts}
+use Rattle.ds_entity.specs.Entities.{EntityParts}
 use Rattle.ds_base.specs.Sorting.{sorted_by}
 use Rattle.ds_bytes.specs.Rows.{RowParts}
 use Rattle.ds_query.specs.declared.branch.Branch.{Branch}

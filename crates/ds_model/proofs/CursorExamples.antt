@@ -1,7 +1,7 @@
 -- Cursors, computed for the query of a kind over one entity.
 use Rattle.std.specs.Prelude.{◌≡◌, ℕ, List, [], ◌∷◌, ◌++◌, Option, Some, None, Err, true, codes, refl}
 use Rattle.ds_base.specs.declared.key.Ident.TheVariants.{Name}
-use Rattle.ds_base.specs.Entities.{EntityParts}
+use Rattle.ds_entity.specs.Entities.{EntityParts}
 use Rattle.ds_cursor.specs.declared.cursor.CursorRefused.TheVariants as refused
 use Rattle.ds_cursor.specs.Cursors.{PartsAre, cursor_bytes, parts_of_bytes}
 use Rattle.ds_query.specs.declared.query.Query.{Query}

@@ -4,7 +4,7 @@ use Rattle.std.specs.Prelude.{All, map, filter, flat_map}
 use Rattle.std.proofs.lemmas.List.Elements.{All-nil, All-cons, All-head, All-tail, All-append, All-filter}
 use Rattle.ds_base.specs.declared.column.Column.{Column}
 use Rattle.ds_base.specs.declared.index_value.IndexValue.{IndexValue}
-use Rattle.ds_base.specs.Entities.{EntityParts}
+use Rattle.ds_entity.specs.Entities.{EntityParts}
 use Rattle.ds_bytes.specs.Lawful.{IsKeyOfBytes, IsValueOfBytes}
 use Rattle.ds_bytes.specs.Rows.{IsRow}
 use Rattle.ds_cursor.specs.RowsOfColumns.{directions}

@@ -5,11 +5,11 @@ use Rattle.std.proofs.Common.{length-append, Option, Some, None}
 use Rattle.std.specs.Prelude.{slice_get, max, Result, Ok, Err, unwrap_or, ⊤}
 use Rattle.std.proofs.lemmas.List.{take-append-le}
 use Rattle.std.proofs.lemmas.Option.{slice_get_within}
-use Rattle.ds_base.specs.declared.results.Item.{Item}
-use Rattle.ds_base.specs.declared.results.Seen.{Seen}
-use Rattle.ds_base.specs.declared.results.Seen.TheVariants as seen
+use Rattle.ds_entity.specs.declared.results.Item.{Item}
+use Rattle.ds_entity.specs.declared.results.Seen.{Seen}
+use Rattle.ds_entity.specs.declared.results.Seen.TheVariants as seen
 use Rattle.ds_base.specs.Keys.{KeyParts, root_of}
-use Rattle.ds_base.specs.Entities.{EntityParts}
+use Rattle.ds_entity.specs.Entities.{EntityParts}
 use Rattle.ds_query.specs.declared.query.Select.{Select}
 use Rattle.ds_log.specs.declared.Commit.{Commit}
 use Rattle.ds_log.specs.declared.Entry.{Entry}

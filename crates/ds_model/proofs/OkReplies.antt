@@ -1,10 +1,10 @@
 -- An Ok reply is given by the answers to its request alone: no refusal is one.
 use Rattle.std.proofs.Common.{◌≡◌, ℕ, ◌⊎◌, inl, inr, List, [], ◌∷◌, length, refl, ap, sym, ◌∙◌, Bool, true, false, cond, Option, Some, None}
 use Rattle.std.specs.Prelude.{Result, Ok, Err, ⊤, nat_le, nat_lt, min}
-use Rattle.ds_base.specs.declared.entity.EntityRefused.{EntityRefused}
-use Rattle.ds_base.specs.declared.entity.EntityRefused.TheVariants as entity
+use Rattle.ds_entity.specs.declared.entity.EntityRefused.{EntityRefused}
+use Rattle.ds_entity.specs.declared.entity.EntityRefused.TheVariants as entity
 use Rattle.ds_base.specs.Keys.{KeyParts, root_of}
-use Rattle.ds_base.specs.Entities.{EntityParts, entity_refusal}
+use Rattle.ds_entity.specs.Entities.{EntityParts, entity_refusal}
 use Rattle.ds_base.specs.Limits.{most_groups, most_writes, most_index_rows, greatest_told}
 use Rattle.ds_indexdef.specs.declared.IndexDef.{IndexDef}
 use Rattle.ds_query.specs.declared.field.Field.{Field}

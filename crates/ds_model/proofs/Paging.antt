@@ -19,7 +19,7 @@ use Rattle.ds_base.specs.IndexOrder.{index_value_cmp}
 use Rattle.ds_base.specs.IndexOrderLaws.{index_value_cmp-total}
 use Rattle.ds_base.specs.KeyOrder.{bytes_cmp}
 use Rattle.ds_base.specs.KeyOrderLaws.{bytes_cmp-same, key_cmp-total}
-use Rattle.ds_base.specs.Entities.{EntityParts}
+use Rattle.ds_entity.specs.Entities.{EntityParts}
 use Rattle.ds_base.specs.OrderLaws.{then-Equal}
 use Rattle.ds_base.specs.Sorting.{insert_by, sorted_by}
 use Rattle.ds_base.specs.SortingLaws.{NoneBefore, Ascends, Ascends-sorted_by, sorted_by-filter, IsPermutation-insert_by}

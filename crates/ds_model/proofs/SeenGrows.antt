@@ -1,9 +1,9 @@
 -- What a client has seen never shrinks: no reply lowers its place, one of its counts, or its shown id counter.
 use Rattle.std.proofs.Common.{◌≡◌, ℕ, zero, suc, ◌≤◌, List, [], ◌∷◌, sym, subst, arith, Option, Some, None}
 use Rattle.std.specs.Prelude.{Result, Ok, Err, ⊤}
-use Rattle.ds_base.specs.declared.results.Item.{Item}
-use Rattle.ds_base.specs.declared.results.Seen.{Seen}
-use Rattle.ds_base.specs.declared.results.Seen.TheVariants as seen
+use Rattle.ds_entity.specs.declared.results.Item.{Item}
+use Rattle.ds_entity.specs.declared.results.Seen.{Seen}
+use Rattle.ds_entity.specs.declared.results.Seen.TheVariants as seen
 use Rattle.ds_base.specs.Keys.{KeyParts, root_of}
 use Rattle.ds_query.specs.declared.query.Select.{Select}
 use Rattle.ds_log.specs.declared.Entry.{Entry}

@@ -12,7 +12,7 @@ use Rattle.std.proofs.lemmas.List.Sums.{fold-append}
 use Rattle.ds_base.specs.Keys.{KeyParts, root_of}
 use Rattle.ds_base.specs.KeyOrder.{same_key}
 use Rattle.ds_base.specs.KeyOrderLaws.{key_cmp-total, key_cmp-same}
-use Rattle.ds_base.specs.Entities.{EntityParts}
+use Rattle.ds_entity.specs.Entities.{EntityParts}
 use Rattle.ds_base.specs.Sorting.{insert_by}
 use Rattle.std.specs.Cmp.{on_total, IsTotalOrder}
 use Rattle.ds_log.specs.declared.Commit.{Commit}

@@ -7,10 +7,10 @@ use Rattle.std.specs.Prelude.{Result, Ok, Err, All, map, max, filter, ⊤, ◌==
 use Rattle.std.proofs.lemmas.List.{length-take-le, take-append-drop}
 use Rattle.std.proofs.lemmas.List.Elements.{All-nil, All-cons, All-head, All-tail, filter-append}
 use Rattle.std.proofs.Math.Seq.{take-append_seam}
-use Rattle.ds_base.specs.declared.results.Item.{Item}
-use Rattle.ds_base.specs.declared.results.Seen.TheVariants as seen
+use Rattle.ds_entity.specs.declared.results.Item.{Item}
+use Rattle.ds_entity.specs.declared.results.Seen.TheVariants as seen
 use Rattle.ds_base.specs.Keys.{KeyParts, root_of}
-use Rattle.ds_base.specs.Entities.{EntityParts}
+use Rattle.ds_entity.specs.Entities.{EntityParts}
 use Rattle.ds_query.specs.declared.query.Select.{Select}
 use Rattle.ds_log.specs.declared.Commit.{Commit}
 use Rattle.ds_log.specs.declared.Entry.{Entry}

@@ -3,7 +3,7 @@
 -- documentation promises only that its time goes with the size of its result.
 use Rattle.std.specs.Prelude.{ℕ, zero, ◌+◌, ◌*◌, min, List, [], ◌∷◌, Option, Some, None, ◌==◌, not, cond, length, filter, map, sum_by}
 use Rattle.ds_base.specs.declared.column.Column.{Column}
-use Rattle.ds_base.specs.Entities.{EntityParts}
+use Rattle.ds_entity.specs.Entities.{EntityParts}
 use Rattle.ds_base.specs.Least.{least_of}
 use Rattle.ds_bytes.specs.Rows.{RowParts}
 use Rattle.ds_query.specs.declared.branch.Branch.{Branch}

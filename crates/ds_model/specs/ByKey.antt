@@ -2,8 +2,8 @@
 use Rattle.std.specs.Prelude.{◌≡◌, ℕ, List, [], ◌∷◌, ◌++◌, false, take, ⊤}
 use Rattle.ds_base.specs.Keys.{KeyParts}
 use Rattle.ds_base.specs.KeyOrder.{same_key}
-use Rattle.ds_base.specs.Entities.{EntityParts}
-pub use Rattle.ds_base.specs.EntityOrder.{entity_cmp, sorted_by_key}
+use Rattle.ds_entity.specs.Entities.{EntityParts}
+pub use Rattle.ds_entity.specs.EntityOrder.{entity_cmp, sorted_by_key}
 use Rattle.ds_log.specs.declared.Entry.{Entry}
 use Rattle.ds_log.specs.After.{after}
 use Rattle.ds_log.specs.Logs.{entry_writes}

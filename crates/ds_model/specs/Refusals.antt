@@ -1,10 +1,10 @@
 -- The refusals that the line and the session before decide, each request's in its order: the first that holds is answered.
 use Rattle.std.specs.Prelude.{◌≡◌, ℕ, Bool, true, false, nat_lt, ◌&&◌, min, List, [], ◌∷◌, Option, Some, None, Result, Ok, Err, cond, ⊤}
-use Rattle.ds_base.specs.declared.entity.EntityRefused.{EntityRefused}
-use Rattle.ds_base.specs.declared.entity.EntityRefused.TheVariants as entity
+use Rattle.ds_entity.specs.declared.entity.EntityRefused.{EntityRefused}
+use Rattle.ds_entity.specs.declared.entity.EntityRefused.TheVariants as entity
 use Rattle.ds_base.specs.declared.key.Elem.{Elem}
 use Rattle.ds_base.specs.Keys.{KeyParts, root_of}
-use Rattle.ds_base.specs.Entities.{EntityParts, entity_refusal}
+use Rattle.ds_entity.specs.Entities.{EntityParts, entity_refusal}
 use Rattle.ds_base.specs.Limits.{most_index_rows, greatest_told}
 use Rattle.ds_indexdef.specs.declared.IndexDef.{IndexDef}
 use Rattle.ds_query.specs.declared.field.Field.{Field}

@@ -3,10 +3,10 @@
 use Rattle.std.specs.Prelude.{List, [], filter, map, flat_map, Option, None, cond}
 use Rattle.std.specs.List.{find}
 use Rattle.ds_base.specs.declared.column.Column.{Column}
-use Rattle.ds_base.specs.declared.results.Item.{Item}
+use Rattle.ds_entity.specs.declared.results.Item.{Item}
 use Rattle.ds_base.specs.Keys.{KeyParts}
 use Rattle.ds_base.specs.KeyOrder.{same_key}
-use Rattle.ds_base.specs.Entities.{EntityParts}
+use Rattle.ds_entity.specs.Entities.{EntityParts}
 use Rattle.ds_bytes.specs.Rows.{RowParts}
 use Rattle.ds_query.specs.declared.query.Select.{Select}
 use Rattle.ds_query.specs.declared.query.Select.TheVariants as select

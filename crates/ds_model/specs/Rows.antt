@@ -9,7 +9,7 @@ use Rattle.ds_base.specs.declared.index_value.IndexValue.TheVariants.{Key}
 use Rattle.ds_base.specs.Keys.{KeyParts}
 use Rattle.ds_base.specs.KeyOrder.{is_ancestor}
 use Rattle.ds_base.specs.IndexOrder.{index_value_cmp}
-use Rattle.ds_base.specs.Entities.{EntityParts}
+use Rattle.ds_entity.specs.Entities.{EntityParts}
 use Rattle.ds_bytes.specs.Rows.{RowParts}
 use Rattle.ds_query.specs.declared.branch.Pair.{Pair}
 use Rattle.ds_query.specs.declared.branch.Bound.{Bound}

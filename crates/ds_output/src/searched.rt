@@ -1,13 +1,14 @@
 //! What the reply to a search says.
 ghost use Rattle.std.specs.Prelude.{◌≡◌, ℕ, List, Bool, Option, IfOk};
 ghost use Rattle.std.specs.Option.{option_copied};
-ghost use Rattle.ds_base.specs.declared.results.Item.{Item};
-ghost use Rattle.ds_base.specs.declared.results.Seen.{Seen};
+ghost use Rattle.ds_entity.specs.declared.results.Item.{Item};
+ghost use Rattle.ds_entity.specs.declared.results.Seen.{Seen};
 ghost use Rattle.ds_model.specs.Answers.{cursor_of};
 ghost use Rattle.ds_protocol.specs.Finishing.{found};
 ghost use Rattle.ds_query.specs.declared.query.Select.{Select};
 
-use ds_base::{Counts, NoMemory, Results, Seen, TryCopy};
+use ds_base::{Counts, NoMemory, TryCopy};
+use ds_entity::{Results, Seen};
 use ds_protocol::{Search, finish};
 use ds_query::{Normal, Place, RowList};
 use ds_reply::Body;

@@ -1,7 +1,7 @@
 -- What a query finds, as a page.
 use Rattle.std.specs.Prelude.{List, map}
 use Rattle.ds_base.specs.declared.column.Column.{Column}
-use Rattle.ds_base.specs.Entities.{EntityParts}
+use Rattle.ds_entity.specs.Entities.{EntityParts}
 use Rattle.ds_query.specs.declared.branch.Branch.{Branch}
 use Rattle.ds_query.specs.declared.branch.Normal.{Normal}
 use Rattle.ds_query.specs.declared.branch.Window.{Window}

@@ -9,7 +9,8 @@ ghost use Rattle.ds_pages.specs.Places.{IsPlaced, placed};
 ghost use Rattle.ds_plain.specs.Answers.{query_page, branch_list};
 
 use crate::found::found_rows;
-use ds_base::{Columns, Entities, Entity, Names, NoMemory};
+use ds_base::{Columns, Names, NoMemory};
+use ds_entity::{Entities, Entity};
 use ds_pages::{Directions, RowPage, directions_of, extended_values, joined, page_of_rows, placed};
 use ds_query::{Branch, Normal, Place, Row, RowList, RowLists, Select, Window};
 use std::alloc::Global;

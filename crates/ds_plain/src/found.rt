@@ -1,6 +1,6 @@
 //! The rows of one branch.
 ghost use Rattle.std.specs.Prelude.{◌≡◌, ◌++◌, ◌∷◌, [], map, filter, flat_map, length, All, IfOk, OnOk};
-ghost use Rattle.ds_base.specs.Entities.{EntityParts};
+ghost use Rattle.ds_entity.specs.Entities.{EntityParts};
 ghost use Rattle.ds_pages.specs.Columns.{directions};
 ghost use Rattle.ds_model.specs.Rows.{value_columns, entity_rows, first_value, is_within, rows};
 ghost use Rattle.ds_rows.specs.IndexedValues.{indexed_values};
@@ -8,7 +8,8 @@ ghost use Rattle.ds_plain.specs.FoundRows.{found_parts, found_of, is_in, IsLong}
 
 use crate::matching::{is_found, is_within};
 use crate::ways::each_way;
-use ds_base::{Column, Entity, IndexValue, IndexValues, Key, NoMemory, TryCopy, is_key_name};
+use ds_base::{Column, IndexValue, IndexValues, Key, NoMemory, TryCopy, is_key_name};
+use ds_entity::Entity;
 use ds_query::{Branch, Range};
 use ds_rows::indexed_values;
 use std::alloc::Global;

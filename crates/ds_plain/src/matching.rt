@@ -6,7 +6,8 @@ ghost use Rattle.ds_base.specs.IndexOrder.{index_value_cmp};
 ghost use Rattle.ds_base.specs.declared.index_value.IndexValue.TheVariants as index;
 ghost use Rattle.ds_model.specs.Rows.{has_kind, is_under, has_value, is_found, is_above, is_below, is_within};
 
-use ds_base::{Entity, IndexValue, Key, NoMemory, TextString};
+use ds_base::{IndexValue, Key, NoMemory, TextString};
+use ds_entity::Entity;
 use ds_query::{Bound, Branch, Pair, Range};
 use ds_rows::{indexed_values, kind_of};
 use std::alloc::Global;

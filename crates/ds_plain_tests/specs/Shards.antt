@@ -1,6 +1,6 @@
 -- A shard that is read after all its entries.
 use Rattle.std.specs.Prelude.{List, map}
-use Rattle.ds_base.specs.Entities.{EntityParts}
+use Rattle.ds_entity.specs.Entities.{EntityParts}
 use Rattle.ds_engine.specs.BoundSums.{Asked}
 use Rattle.ds_model.specs.Bounds.{given}
 use Rattle.ds_pages.specs.Pages.{plus_limit}

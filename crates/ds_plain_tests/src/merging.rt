@@ -1,6 +1,6 @@
 //! What two shards give one by one, merged into one page.
 ghost use Rattle.std.specs.Prelude.{◌≡◌, ◌+◌, ◌<◌, ◌≤◌, ◌∷◌, [], List, All, IfOk, IsTrue, None, flat_map, map, true};
-ghost use Rattle.ds_base.specs.Entities.{EntityParts};
+ghost use Rattle.ds_entity.specs.Entities.{EntityParts};
 ghost use Rattle.ds_engine.specs.BoundSums.{bound_at, bound_over};
 ghost use Rattle.ds_engine.specs.Plans.{IsPlanFor};
 ghost use Rattle.ds_engine.specs.Searches.{AreOfShards, all_entities};

@@ -3,8 +3,9 @@ ghost use Rattle.ds_query.specs.Lawful.{IsLawfulNormal};
 
 use crate::asked::query;
 use crate::written::entities;
-use ds_base::{Columns, Entities, Ident, Key, Names, NoMemory};
+use ds_base::{Columns, Ident, Key, Names, NoMemory};
 use ds_engine::{extended, merge};
+use ds_entity::Entities;
 use ds_plain::{Plain, answer, branch_lists, rows_between};
 use ds_query::{Branch, Normal, Place, Row, RowList, Window, normalize};
 use std::alloc::Global;

@@ -1,6 +1,6 @@
 //! What is found in the entities of a view that stand in the order of their keys, as stores keep them.
 ghost use Rattle.std.specs.Prelude.{◌≡◌, ℕ, ◌≤◌, List, IfOk, IsTrue, length, option_copied, take};
-ghost use Rattle.ds_base.specs.Entities.{EntityParts};
+ghost use Rattle.ds_entity.specs.Entities.{EntityParts};
 ghost use Rattle.ds_base.specs.Keys.{root_of};
 ghost use Rattle.ds_log.specs.Logs.{shard_list};
 ghost use Rattle.ds_log.specs.Shards.{shard_of};
@@ -16,7 +16,8 @@ ghost use Rattle.ds_query.specs.Lawful.{IsLawfulNormal};
 use crate::asked::normal;
 use crate::results::{are_keys, from};
 use crate::written::{entities, key};
-use ds_base::{Elem, Elems, Entities, Entity, Ident, Key, NoMemory, TextString};
+use ds_base::{Elem, Elems, Ident, Key, NoMemory, TextString};
+use ds_entity::{Entities, Entity};
 use ds_plain::{Plain, answer};
 use ds_query::{Normal, Window};
 use std::alloc::Global;

@@ -1,8 +1,6 @@
 //! Entities from text: `a:1,9 b:4` has the key `[["T", "a"]]` with the numbers 1 and 9 of the property `v`, and another one.
-use ds_base::{
-    Elem, Elems, Entities, Entity, Ident, Key, NoMemory, Properties, Property, Sequence,
-    TextString, Value, Values,
-};
+use ds_base::{Elem, Elems, Ident, Key, NoMemory, Sequence, TextString, Value, Values};
+use ds_entity::{Entities, Entity, Properties, Property};
 use std::alloc::{AllocError, Global};
 use std::test::Fail;
 

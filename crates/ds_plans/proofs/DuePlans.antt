@@ -7,9 +7,9 @@ use Rattle.std.proofs.lemmas.Bool.{leb-true, lt-ltb, ltb-true}
 use Rattle.std.specs.List.{range_with_len}
 use Rattle.std.proofs.lemmas.List.{append-nil}
 use Rattle.std.proofs.lemmas.List.Elements.{All-nil}
-use Rattle.ds_base.specs.declared.entity.Property.{Property}
+use Rattle.ds_entity.specs.declared.entity.Property.{Property}
 use Rattle.ds_base.specs.declared.key.Elem.{Elem}
-use Rattle.ds_base.specs.Entities.{EntityParts, entity_refusal}
+use Rattle.ds_entity.specs.Entities.{EntityParts, entity_refusal}
 use Rattle.ds_base.specs.Keys.{KeyParts, renumbered, ends_in_id, with_last_id}
 use Rattle.ds_base.specs.Limits.{first_drawn_id, greatest_id}
 use Rattle.ds_log.specs.declared.Commit.{Commit}
@@ -36,8 +36,8 @@ use Rattle.ds_plans.specs.declared.effect.CountSeen.{CountSeen}
 use Rattle.ds_plans.specs.declared.effect.CountsSeen.{CountsSeen}
 use Rattle.ds_plans.specs.declared.effect.Effect.{Effect}
 use Rattle.ds_plans.specs.declared.effect.Effect.TheVariants as effect
-use Rattle.ds_base.specs.declared.results.Seen.TheVariants as seen
-use Rattle.ds_base.specs.EntityOrder.{sorted_by_key}
+use Rattle.ds_entity.specs.declared.results.Seen.TheVariants as seen
+use Rattle.ds_entity.specs.EntityOrder.{sorted_by_key}
 use Rattle.ds_protocol.specs.declared.preparing.Ready.{Ready}
 use Rattle.ds_protocol.specs.declared.searching.Search.{Search}
 use Rattle.ds_protocol.specs.Searches.{IsSearchOf}

@@ -7,10 +7,10 @@ use Rattle.std.specs.Option.{option_or}
 use Rattle.std.proofs.lemmas.Bool.{leb-true}
 use Rattle.std.proofs.lemmas.List.{append-nil}
 use Rattle.std.proofs.lemmas.List.Elements.{All-nil, All-cons}
-use Rattle.ds_base.specs.declared.entity.Property.{Property}
+use Rattle.ds_entity.specs.declared.entity.Property.{Property}
 use Rattle.ds_base.specs.declared.key.Ident.TheVariants.{Id}
 use Rattle.ds_base.specs.declared.key.Elem.{Elem}
-use Rattle.ds_base.specs.Entities.{EntityParts, entity_refusal}
+use Rattle.ds_entity.specs.Entities.{EntityParts, entity_refusal}
 use Rattle.ds_base.specs.Keys.{KeyParts, root_of, renumbered, with_last_id, ends_in_id}
 use Rattle.ds_base.specs.Limits.{first_drawn_id, greatest_id, most_groups}
 use Rattle.ds_log.specs.declared.Touch.{Touch}

@@ -8,10 +8,10 @@ use Rattle.std.specs.Option.{option_map}
 use Rattle.std.proofs.lemmas.List.{append-nil}
 use Rattle.std.proofs.lemmas.List.Elements.{All-nil}
 use Rattle.std.proofs.lemmas.Bool.{leb-true, and_parts}
-use Rattle.ds_base.specs.declared.results.Item.{Item}
-use Rattle.ds_base.specs.declared.results.Seen.{Seen}
-use Rattle.ds_base.specs.declared.results.Seen.TheVariants as seen
-use Rattle.ds_base.specs.Entities.{EntityParts}
+use Rattle.ds_entity.specs.declared.results.Item.{Item}
+use Rattle.ds_entity.specs.declared.results.Seen.{Seen}
+use Rattle.ds_entity.specs.declared.results.Seen.TheVariants as seen
+use Rattle.ds_entity.specs.Entities.{EntityParts}
 use Rattle.ds_base.specs.KeyOrderLaws.{key_cmp-total}
 use Rattle.ds_base.specs.Keys.{KeyParts, is_elem, is_key, is_namespace, is_path, root_of}
 use Rattle.ds_base.specs.Limits.{most_elements}
@@ -35,7 +35,7 @@ use Rattle.ds_pages.specs.Pages.{with_places}
 use Rattle.ds_pages.specs.Places.{placed}
 use Rattle.ds_applied.specs.AppliedLists.{AppliedParts, AreCounts, Follows, shard_view, shard_views}
 use Rattle.ds_applied.specs.ByKey.{KeysDiffer}
-use Rattle.ds_base.specs.EntityOrder.{sorted_by_key}
+use Rattle.ds_entity.specs.EntityOrder.{sorted_by_key}
 use Rattle.ds_applied.proofs.GlobalResults.{global_result, global_items}
 use Rattle.ds_applied.proofs.GlobalResults.{global_differ}
 use Rattle.ds_applied.proofs.StrongViews.{strong_result, strong_items}

@@ -2,10 +2,10 @@
 use Rattle.std.proofs.Common.{◌≡◌, ◌⊎◌, inl, inr, ◌<◌, ap, sym, ◌∙◌, subst, refl, Some, None, Option, List, [], ◌∷◌, cond, Bool}
 use Rattle.std.specs.Prelude.{Err, min}
 use Rattle.std.proofs.lemmas.Bool.{lt-ltb}
-use Rattle.ds_base.specs.declared.entity.EntityRefused.{EntityRefused}
-use Rattle.ds_base.specs.declared.entity.EntityRefused.TheVariants as entity
-use Rattle.ds_base.specs.declared.entity.Property.{Property}
-use Rattle.ds_base.specs.Entities.{EntityParts, entity_refusal}
+use Rattle.ds_entity.specs.declared.entity.EntityRefused.{EntityRefused}
+use Rattle.ds_entity.specs.declared.entity.EntityRefused.TheVariants as entity
+use Rattle.ds_entity.specs.declared.entity.Property.{Property}
+use Rattle.ds_entity.specs.Entities.{EntityParts, entity_refusal}
 use Rattle.ds_base.specs.Keys.{KeyParts}
 use Rattle.ds_base.specs.Limits.{greatest_told, most_index_rows}
 use Rattle.ds_indexdef.specs.declared.IndexDef.{IndexDef}

@@ -2,10 +2,10 @@
 use Rattle.std.specs.Prelude.{◌≡◌, ℕ, ◌<◌, ◌≤◌, Bool, true, false, List, map, length, slice_index_or, Option}
 use Rattle.std.specs.List.Sorted.{IsSorted}
 use Rattle.std.specs.Ordering.{is_lt}
-use Rattle.ds_base.specs.declared.results.Item.{Item}
-use Rattle.ds_base.specs.declared.results.Seen.{Seen}
-use Rattle.ds_base.specs.Entities.{EntityParts}
-use Rattle.ds_base.specs.EntityOrder.{entity_cmp}
+use Rattle.ds_entity.specs.declared.results.Item.{Item}
+use Rattle.ds_entity.specs.declared.results.Seen.{Seen}
+use Rattle.ds_entity.specs.Entities.{EntityParts}
+use Rattle.ds_entity.specs.EntityOrder.{entity_cmp}
 use Rattle.ds_base.specs.KeyOrder.{key_cmp}
 use Rattle.ds_base.specs.Keys.{KeyParts}
 use Rattle.ds_bytes.specs.Rows.{RowParts}

@@ -4,7 +4,8 @@ ghost use Rattle.std.specs.Option.{option_copied};
 ghost use Rattle.ds_model.specs.Results.{entity_of};
 ghost use Rattle.ds_protocol.specs.Finishing.{AreByKey, IsPlaceOf};
 
-use ds_base::{Entity, Key};
+use ds_base::Key;
+use ds_entity::Entity;
 
 /// The entity of the key, found by halving; `None` exactly where there is none.
 pub(crate) fn entity_of<'a>(entities: &[&'a Entity], key: &Key) -> Option<&'a Entity>

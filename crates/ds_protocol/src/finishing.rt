@@ -11,9 +11,9 @@ use crate::cursors::next_cursor;
 use crate::finding::entity_of;
 use crate::searching::Search;
 use ds_base::{
-    Column, Columns, Entity, IndexValue, IndexValues, Item, Names, NoMemory, Results, Seen,
-    TextString, TryCopy, copy_of,
+    Column, Columns, IndexValue, IndexValues, Names, NoMemory, TextString, TryCopy, copy_of,
 };
+use ds_entity::{Entity, Item, Results, Seen};
 use ds_query::{Normal, Place, Row, RowList, Select, value_named};
 use ds_reply::Body;
 use std::alloc::Global;

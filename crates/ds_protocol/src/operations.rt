@@ -8,7 +8,8 @@ ghost use Rattle.ds_protocol.specs.Operations.{IsAlwaysRefused, IsLawfulOperatio
 ghost use Rattle.ds_protocol.specs.Refused.{operation_body};
 
 use crate::searching::{Search, search_of};
-use ds_base::{Entity, EntityRefused, Key, Properties};
+use ds_base::Key;
+use ds_entity::{Entity, EntityRefused, Properties};
 use ds_query::Field;
 use ds_reply::Body;
 use ds_request::Call;

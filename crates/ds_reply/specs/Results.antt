@@ -3,7 +3,7 @@ use Rattle.std.specs.Prelude.{ℕ, List, [], ◌∷◌, Bool, true, false, codes
 use Rattle.serde_json.specs.Data.{Data, boolean, string, array, Items, no_items, item}
 use Rattle.ds_base.specs.declared.index_value.IndexValue.{IndexValue}
 use Rattle.ds_base.specs.declared.column.Column.{Column}
-use Rattle.ds_base.specs.declared.results.Item.{Item}
+use Rattle.ds_entity.specs.declared.results.Item.{Item}
 use Rattle.ds_indexdef.specs.declared.IndexDef.{IndexDef}
 use Rattle.ds_json_printing.specs.Objects.{Named, named, object_of}
 use Rattle.ds_json_printing.specs.Printing.{natural, key_data, optional_entity_data, index_value_data}

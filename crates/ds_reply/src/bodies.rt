@@ -11,7 +11,8 @@ use crate::refusals::refusal_of;
 use crate::reply::{Body, Reply, WriteAt};
 use crate::told::Told;
 use arrayvec::ArrayVec;
-use ds_base::{Results, Seen, TextString};
+use ds_base::TextString;
+use ds_entity::{Results, Seen};
 use ds_query::Select;
 
 /// The members of a reply.

@@ -1,5 +1,6 @@
 //! What the server answers.
-use ds_base::{Counts, Entity, Key, Results, Seen, TextString};
+use ds_base::{Counts, Key, TextString};
+use ds_entity::{Entity, Results, Seen};
 use ds_indexdef::IndexDef;
 use ds_query::{Constraint, Field, Reason, Select};
 

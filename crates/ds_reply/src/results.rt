@@ -6,7 +6,8 @@ ghost use Rattle.ds_reply.specs.Results.{result_items};
 ghost use Rattle.ds_reply.specs.Orders.{IsOrder};
 
 use crate::projection::{Order, order_of, write_projected};
-use ds_base::{Column, IndexValue, Item, TextString};
+use ds_base::{Column, IndexValue, TextString};
+use ds_entity::Item;
 use ds_indexdef::IndexDef;
 use ds_json_printing::{
     Output, write_boolean, write_comma, write_index_value, write_key, write_natural,

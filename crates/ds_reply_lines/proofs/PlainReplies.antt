@@ -4,10 +4,10 @@ use Rattle.std.specs.Prelude.{All, IsUtf8, codes}
 use Rattle.std.proofs.lemmas.List.Elements.{All-head, All-tail}
 use Rattle.json.proofs.Printed.Utf8.{IsUtf8-are_ascii}
 use Rattle.serde_json.specs.Read.{max_depth}
-use Rattle.ds_base.specs.Entities.{EntityParts}
+use Rattle.ds_entity.specs.Entities.{EntityParts}
 use Rattle.ds_base.specs.Keys.{KeyParts}
-use Rattle.ds_base.specs.declared.results.Item.{Item}
-use Rattle.ds_base.specs.declared.results.Seen.TheVariants as seen
+use Rattle.ds_entity.specs.declared.results.Item.{Item}
+use Rattle.ds_entity.specs.declared.results.Seen.TheVariants as seen
 use Rattle.ds_bytes.specs.Lawful.{IsLawfulKey}
 use Rattle.ds_query.specs.declared.query.Select.{Select}
 use Rattle.ds_reply.specs.declared.reply.Body.TheVariants as body

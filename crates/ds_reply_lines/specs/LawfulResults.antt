@@ -1,6 +1,6 @@
 -- Which results of queries there are: what the types of the code keep.
 use Rattle.std.specs.Prelude.{All, IfSome, IsUtf8, ⊤}
-use Rattle.ds_base.specs.declared.results.Item.{Item}
+use Rattle.ds_entity.specs.declared.results.Item.{Item}
 use Rattle.ds_bytes.specs.Lawful.{IsLawfulKey, IsLawfulValue}
 use Rattle.ds_journal_text.specs.Lawful.{IsLawfulEntity}
 use Rattle.ds_query.specs.declared.query.Select.{Select}

@@ -11,9 +11,9 @@ use Rattle.serde_json.specs.Data.{Data, Members, member}
 use Rattle.serde_json.specs.View.{view, members_view}
 use Rattle.serde_json.proofs.Views.{Entry}
 use Rattle.ds_base.specs.declared.value.Value.{Value}
-use Rattle.ds_base.specs.declared.entity.Property.{Property}
+use Rattle.ds_entity.specs.declared.entity.Property.{Property}
 use Rattle.ds_base.specs.Keys.{is_name, is_reserved}
-use Rattle.ds_base.specs.Entities.{names_ascend}
+use Rattle.ds_entity.specs.Entities.{names_ascend}
 use Rattle.ds_json_reading.specs.declared.refusal.Refusal.{Refusal}
 use Rattle.ds_json_reading.specs.declared.refusal.Refusal.TheVariants as refusal
 use Rattle.ds_json_reading.specs.Reading.{and_then, read_as, each_member_of}

@@ -2,9 +2,9 @@
 use Rattle.std.specs.Prelude.{ℕ, List, [], ◌∷◌, Bool, not, ◌||◌, Option, Some, None, Result, Err, cond, codes, IsTrue, length, ◌<◌, ◌^◌}
 use Rattle.serde_json.specs.Data.{Data, object}
 use Rattle.ds_base.specs.declared.value.Value.{Value}
-use Rattle.ds_base.specs.declared.entity.Property.{Property}
+use Rattle.ds_entity.specs.declared.entity.Property.{Property}
 use Rattle.ds_base.specs.Keys.{KeyParts, ends_in_id, is_name, is_reserved}
-use Rattle.ds_base.specs.Entities.{names_ascend}
+use Rattle.ds_entity.specs.Entities.{names_ascend}
 use Rattle.ds_json_reading.specs.declared.refusal.Refusal.{Refusal}
 use Rattle.ds_json_reading.specs.declared.refusal.Refusal.TheVariants as refusal
 use Rattle.ds_json_reading.specs.Reading.{and_then, read_as, each_member_of, member_of, required, defaulted}

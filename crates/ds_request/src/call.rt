@@ -1,5 +1,6 @@
 //! What a client asks, and why a line asks nothing.
-use ds_base::{Columns, Key, NamedValues, Properties, TextString, Values};
+use ds_base::{Columns, Key, NamedValues, TextString, Values};
+use ds_entity::Properties;
 use ds_query::{Field, Filters, Select};
 
 /// A line that was read.

@@ -3,7 +3,8 @@
 ghost use Rattle.std.specs.Prelude.{◌≡◌, IfOk};
 
 use crate::call::Call;
-use ds_base::{Columns, Key, NamedValues, Properties, TextString, TryCopy, Values};
+use ds_base::{Columns, Key, NamedValues, TextString, TryCopy, Values};
+use ds_entity::Properties;
 use ds_query::{Filters, Select};
 use std::alloc::{AllocError, Global};
 

@@ -9,11 +9,11 @@ use Rattle.std.proofs.lemmas.List.Concat.{length-flat_map}
 use Rattle.std.proofs.lemmas.List.Sums.{sum_by-append, sum_by-cons}
 use Rattle.std.proofs.Math.Nat.{mul_comm}
 use Rattle.ds_base.specs.declared.column.Column.{Column}
-use Rattle.ds_base.specs.declared.entity.Property.{Property}
+use Rattle.ds_entity.specs.declared.entity.Property.{Property}
 use Rattle.ds_base.specs.declared.index_value.IndexValue.{IndexValue}
 use Rattle.ds_base.specs.declared.index_value.IndexValue.TheVariants as class
 use Rattle.ds_base.specs.Keys.{KeyParts}
-use Rattle.ds_base.specs.Entities.{EntityParts, names_ascend}
+use Rattle.ds_entity.specs.Entities.{EntityParts, names_ascend}
 use Rattle.ds_indexdef.specs.declared.IndexDef.{IndexDef}
 use Rattle.ds_rows.specs.IndexedValues.{kind_in, property_values, indexed_values, column_values, each_way}
 use Rattle.ds_base.specs.KeyColumn.{is_key_name}

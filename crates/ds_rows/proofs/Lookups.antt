@@ -12,10 +12,10 @@ use Rattle.std.specs.Option.{option_map_or}
 use Rattle.std.proofs.lemmas.List.{get_or-map}
 use Rattle.std.proofs.lemmas.Bool.{and_parts, false_from_ne_true, cases_lt}
 use Rattle.std.proofs.lemmas.Slice.Eq.{bytes_eq-Decides}
-use Rattle.ds_base.specs.declared.entity.Property.{Property}
+use Rattle.ds_entity.specs.declared.entity.Property.{Property}
 use Rattle.ds_base.specs.KeyOrder.{bytes_cmp}
 use Rattle.ds_base.specs.KeyOrderLaws.{bytes_cmp-same}
-use Rattle.ds_base.specs.Entities.{EntityParts, names_ascend}
+use Rattle.ds_entity.specs.Entities.{EntityParts, names_ascend}
 use Rattle.ds_base.specs.declared.index_value.IndexValue.{IndexValue}
 use Rattle.ds_rows.specs.IndexedValues.{property_values, indexed_values}
 

@@ -15,7 +15,7 @@ use Rattle.std.proofs.lemmas.List.Elements.{All-nil, All-cons, All-append, All-h
 use Rattle.std.proofs.lemmas.Map.Views.{All-insert_key}
 use Rattle.ds_base.specs.declared.key.Elem.{Elem}
 use Rattle.ds_base.specs.declared.column.Column.{Column}
-use Rattle.ds_base.specs.declared.entity.Property.{Property}
+use Rattle.ds_entity.specs.declared.entity.Property.{Property}
 use Rattle.ds_base.specs.declared.index_value.IndexValue.{IndexValue}
 use Rattle.ds_base.specs.declared.index_value.IndexValue.TheVariants as class
 use Rattle.ds_base.specs.Keys.{KeyParts}
@@ -23,7 +23,7 @@ use Rattle.ds_base.specs.KeyOrder.{bytes_cmp}
 use Rattle.ds_base.specs.IndexOrder.{index_value_cmp}
 use Rattle.ds_base.specs.IndexOrderLaws.{index_value_cmp-total}
 use Rattle.ds_base.specs.Values.{index_of}
-use Rattle.ds_base.specs.Entities.{EntityParts, names_ascend}
+use Rattle.ds_entity.specs.Entities.{EntityParts, names_ascend}
 use Rattle.ds_indexdef.specs.declared.IndexDef.{IndexDef}
 use Rattle.ds_indexdef.specs.Definitions.{AreDefs}
 use Rattle.ds_rows.specs.IndexedValues.{kind_in, property_values, indexed_values, column_values, each_way}

@@ -1,7 +1,7 @@
 -- How many index rows an entity has, as the limit on them counts. The row in the index of all entities isn't counted.
 use Rattle.std.specs.Prelude.{◌≡◌, ℕ, ◌+◌, ◌*◌, ◌<◌, ◌≤◌, min, List, [], ◌∷◌, length, map, sum_by, cond, Result, Ok, Err}
 use Rattle.ds_base.specs.Limits.{most_index_rows, greatest_told}
-use Rattle.ds_base.specs.Entities.{EntityParts}
+use Rattle.ds_entity.specs.Entities.{EntityParts}
 use Rattle.ds_indexdef.specs.declared.IndexDef.{IndexDef}
 use Rattle.ds_rows.specs.declared.refused.RowsRefused.{RowsRefused}
 use Rattle.ds_rows.specs.declared.refused.RowsRefused.TheVariants.{TooManyRows, NoMemory}

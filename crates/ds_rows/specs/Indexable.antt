@@ -1,6 +1,6 @@
 -- What is known of the bytes, numbers and names of each entity whose rows are made.
 use Rattle.std.specs.Prelude.{All, IsTrue}
-use Rattle.ds_base.specs.Entities.{EntityParts, names_ascend}
+use Rattle.ds_entity.specs.Entities.{EntityParts, names_ascend}
 use Rattle.ds_bytes.specs.Lawful.{IsLawfulKey, IsLawfulValue}
 use Rattle.ds_base.specs.Bytes.{AreBytes}
 use Rattle.ds_rows.specs.IndexedValues.{property_values}

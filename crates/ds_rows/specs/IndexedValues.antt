@@ -3,11 +3,11 @@ use Rattle.std.specs.Prelude.{ℕ, Bool, List, [], ◌∷◌, bytes_eq, codes, c
 use Rattle.std.specs.Option.{option_map_or}
 use Rattle.std.specs.BTreeSet.{insert_key}
 use Rattle.ds_base.specs.declared.key.Elem.{Elem}
-use Rattle.ds_base.specs.declared.entity.Property.{Property}
+use Rattle.ds_entity.specs.declared.entity.Property.{Property}
 use Rattle.ds_base.specs.declared.index_value.IndexValue.{IndexValue}
 use Rattle.ds_base.specs.declared.index_value.IndexValue.TheVariants as class
 use Rattle.ds_base.specs.Keys.{KeyParts}
-use Rattle.ds_base.specs.Entities.{EntityParts}
+use Rattle.ds_entity.specs.Entities.{EntityParts}
 use Rattle.ds_base.specs.IndexOrder.{index_value_cmp}
 use Rattle.ds_base.specs.KeyColumn.{is_key_name}
 use Rattle.ds_base.specs.Values.{index_of}

@@ -6,7 +6,7 @@ ghost use Rattle.ds_rows.specs.Indexes.{RowIndex, Composite, composite_indexes, 
 ghost use Rattle.ds_rows.specs.Indexes.{has_ancestor, directions, index_key_descends};
 ghost use Rattle.ds_rows.specs.Rows.{rows_in, ancestors, index_front, index_lists};
 ghost use Rattle.ds_bytes.specs.Encoding.{key_encoding};
-ghost use Rattle.ds_base.specs.Entities.{EntityParts};
+ghost use Rattle.ds_entity.specs.Entities.{EntityParts};
 ghost use Rattle.ds_indexdef.specs.Definitions.{AreDefs};
 ghost use Rattle.ds_rows.specs.Ways.{lists_of, directions_of, ancestor_rows};
 
@@ -14,10 +14,9 @@ use crate::fronts::put_composite_front;
 use crate::indexed::{kind_of, values_named};
 use crate::row_set::RowWriter;
 use crate::ways::{ColumnValues, put_rows};
-use ds_base::{
-    Buffer, Column, Entity, IndexValue, IndexValues, Key, NoMemory, TryCopy, is_key_name,
-};
+use ds_base::{Buffer, Column, IndexValue, IndexValues, Key, NoMemory, TryCopy, is_key_name};
 use ds_bytes::{encode_ancestor, encode_key};
+use ds_entity::Entity;
 use ds_indexdef::{Defs, IndexDef};
 use std::alloc::Global;
 

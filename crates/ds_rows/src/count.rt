@@ -1,14 +1,15 @@
 //! How many index rows an entity has.
 ghost use Rattle.std.specs.Prelude.{◌≡◌, ℕ, ◌+◌, ◌*◌, ◌≤◌, min, map, length, sum_by, cond, IsTrue, IfOk};
 ghost use Rattle.ds_base.specs.Limits.{greatest_told};
-ghost use Rattle.ds_base.specs.Entities.{EntityParts, names_ascend};
+ghost use Rattle.ds_entity.specs.Entities.{EntityParts, names_ascend};
 ghost use Rattle.ds_rows.specs.IndexedValues.{property_values, kind_in};
 ghost use Rattle.ds_rows.specs.Counts.{product, column_count, composite_count, row_count, IsCounted};
 
 use crate::indexed::{indexed_lists, kind_of, values_named};
 use crate::refused::RowsRefused;
 use ds_base::limits::{MAX_INDEX_ROWS, MAX_TOLD_SIZE};
-use ds_base::{Column, Entity, IndexValues, is_key_name};
+use ds_base::{Column, IndexValues, is_key_name};
+use ds_entity::Entity;
 use ds_indexdef::{Defs, IndexDef};
 use std::alloc::Global;
 

@@ -1,12 +1,13 @@
 //! What the indexes hold of an entity.
 ghost use Rattle.std.specs.Prelude.{◌≡◌, ◌∷◌, [], map, fold, filter_map, IsTrue, IfOk, OnOk};
-ghost use Rattle.ds_base.specs.Entities.{EntityParts, names_ascend};
+ghost use Rattle.ds_entity.specs.Entities.{EntityParts, names_ascend};
 ghost use Rattle.ds_base.specs.IndexOrder.{index_value_cmp};
 ghost use Rattle.ds_base.specs.Values.{index_of};
 ghost use Rattle.std.specs.BTreeSet.{insert_key};
 ghost use Rattle.ds_rows.specs.IndexedValues.{kind_of, property_values, indexed_values};
 
-use ds_base::{Entity, IndexValue, IndexValues, Key, NoMemory, Property, TextString, Value};
+use ds_base::{IndexValue, IndexValues, Key, NoMemory, TextString, Value};
+use ds_entity::{Entity, Property};
 use std::alloc::Global;
 use std::collections::BTreeSet;
 

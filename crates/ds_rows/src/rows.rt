@@ -14,8 +14,9 @@ use crate::fronts::{put_all_front, put_kind_front, put_property_front};
 use crate::indexed::indexed_lists;
 use crate::row_set::{RowSet, RowWriter};
 use crate::ways::{ColumnValues, put_rows};
-use ds_base::{Buffer, Entity, IndexValue, IndexValues, NoMemory, Property, TextString};
+use ds_base::{Buffer, IndexValue, IndexValues, NoMemory, TextString};
 use ds_bytes::encode_key;
+use ds_entity::{Entity, Property};
 use ds_indexdef::Defs;
 use std::alloc::Global;
 

@@ -1,11 +1,12 @@
 //! What queries are answered from: the rows and the entities that stand at a stamp.
 ghost use Rattle.std.specs.Prelude.{◌≡◌, ℕ, ◌+◌, ◌≤◌, Bool, List, find, IsTrue, option_copied};
-ghost use Rattle.ds_base.specs.Entities.{EntityParts};
+ghost use Rattle.ds_entity.specs.Entities.{EntityParts};
 ghost use Rattle.ds_base.specs.KeyOrder.{same_key};
 ghost use Rattle.ds_indexdef.specs.declared.IndexDef.{IndexDef};
 ghost use Rattle.ds_rows.specs.Versions.{Version, entities_at, seen_rows, unseen_rows, first_row, rows_passed, AreTables};
 
-use ds_base::{Entity, Key};
+use ds_base::Key;
+use ds_entity::Entity;
 use ds_io::Steps;
 use std::sync::ledger::Ledger;
 

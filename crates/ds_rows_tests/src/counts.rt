@@ -1,6 +1,7 @@
 //! How many rows an entity has, at the limit and far beyond it.
 use crate::make::{column, definition, key, numbers};
-use ds_base::{Entity, Properties, TextString};
+use ds_base::TextString;
+use ds_entity::{Entity, Properties};
 use ds_indexdef::Defs;
 use ds_rows::{RowsRefused, count_rows};
 use std::alloc::Global;

@@ -1,7 +1,8 @@
 //! Keys, properties and definitions for the tests.
 ghost use Rattle.std.specs.Prelude.{◌≡◌, IfOk};
 
-use ds_base::{Column, Columns, Elem, Elems, Ident, Key, Property, TextString, Value, Values};
+use ds_base::{Column, Columns, Elem, Elems, Ident, Key, TextString, Value, Values};
+use ds_entity::Property;
 use ds_indexdef::IndexDef;
 use std::alloc::{AllocError, Global};
 use std::test::Fail;

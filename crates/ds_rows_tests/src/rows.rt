@@ -1,6 +1,7 @@
 //! The rows of small entities, byte for byte.
 use crate::make::{column, definition, key, named};
-use ds_base::{Elem, Elems, Entity, Ident, Key, Properties, Property, TextString, Value, Values};
+use ds_base::{Elem, Elems, Ident, Key, TextString, Value, Values};
+use ds_entity::{Entity, Properties, Property};
 use ds_indexdef::Defs;
 use ds_rows::{
     RowSet, rows_are_apart, rows_are_counted, rows_are_its_own, rows_are_ordered, rows_of,

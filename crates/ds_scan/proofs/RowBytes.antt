@@ -8,11 +8,11 @@ use Rattle.std.proofs.lemmas.List.Elements.{All-nil, All-cons, All-append, All-h
 use Rattle.std.proofs.lemmas.List.Sorted.{All-permutation}
 use Rattle.ds_lanes.specs.Kernels.{complement}
 use Rattle.ds_base.specs.declared.key.Elem.{Elem}
-use Rattle.ds_base.specs.declared.entity.Property.{Property}
+use Rattle.ds_entity.specs.declared.entity.Property.{Property}
 use Rattle.ds_base.specs.declared.index_value.IndexValue.{IndexValue}
 use Rattle.ds_base.specs.Keys.{KeyParts}
 use Rattle.ds_base.specs.KeyOrder.{bytes_cmp}
-use Rattle.ds_base.specs.Entities.{EntityParts}
+use Rattle.ds_entity.specs.Entities.{EntityParts}
 use Rattle.ds_base.specs.SortingLaws.{IsPermutation-sorted_by}
 use Rattle.ds_indexdef.specs.declared.IndexDef.{IndexDef}
 use Rattle.ds_bytes.specs.Encoding.{escaped, encoding, key_bytes, key_encoding, value_bytes}

@@ -5,7 +5,7 @@ use Rattle.std.specs.Prelude.{nat_le, ◌&&◌}
 use Rattle.std.specs.List.{list_all}
 use Rattle.std.proofs.lemmas.Bool.{and_parts}
 use Rattle.std.proofs.lemmas.List.Elements.{All-nil, All-cons}
-use Rattle.ds_base.specs.Entities.{EntityParts}
+use Rattle.ds_entity.specs.Entities.{EntityParts}
 use Rattle.ds_base.specs.Keys.{KeyParts, ends_in_id, is_elem, is_key, is_namespace, is_path, renumbered}
 use Rattle.ds_base.specs.Limits.{greatest_id, most_elements}
 use Rattle.ds_indexdef.specs.declared.IndexDef.{IndexDef}

@@ -4,9 +4,9 @@ use Rattle.std.proofs.Common.{Bool, true, false, Option, Some, None}
 use Rattle.std.specs.Prelude.{All, Result, Ok, Err, is_some}
 use Rattle.std.specs.Option.{option_map}
 use Rattle.std.proofs.lemmas.List.FromFn.{length-map-range_with_len}
-use Rattle.ds_base.specs.declared.results.Item.{Item}
-use Rattle.ds_base.specs.declared.results.Seen.{Seen}
-use Rattle.ds_base.specs.declared.results.Seen.TheVariants as looked
+use Rattle.ds_entity.specs.declared.results.Item.{Item}
+use Rattle.ds_entity.specs.declared.results.Seen.{Seen}
+use Rattle.ds_entity.specs.declared.results.Seen.TheVariants as looked
 use Rattle.ds_base.specs.Keys.{KeyParts, root_of}
 use Rattle.ds_hub.specs.Growing.{AreLonger}
 use Rattle.ds_indexdef.specs.declared.IndexDef.{IndexDef}

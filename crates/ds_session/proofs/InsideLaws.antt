@@ -3,10 +3,10 @@ use Rattle.std.proofs.Common.{◌≡◌, ℕ, ◌+◌, ◌<◌, ◌≤◌, List,
 use Rattle.std.proofs.Common.{cond, Option, Some, None}
 use Rattle.std.specs.Prelude.{IsTrue, Result, is_some, nat_le, unwrap_or}
 use Rattle.std.specs.Option.{option_map}
-use Rattle.ds_base.specs.declared.entity.Property.{Property}
+use Rattle.ds_entity.specs.declared.entity.Property.{Property}
 use Rattle.ds_base.specs.declared.key.Elem.{Elem}
 use Rattle.ds_base.specs.declared.key.Ident.TheVariants.{Id}
-use Rattle.ds_base.specs.Entities.{EntityParts}
+use Rattle.ds_entity.specs.Entities.{EntityParts}
 use Rattle.ds_base.specs.Keys.{KeyParts, ends_in_id, renumbered, root_of, with_last_id}
 use Rattle.ds_base.specs.Limits.{greatest_id, most_groups}
 use Rattle.ds_indexdef.specs.declared.IndexDef.{IndexDef}
@@ -27,7 +27,7 @@ use Rattle.ds_model.specs.Groups.{with_transaction}
 use Rattle.ds_model.specs.Groups.{write_refusal, writing}
 use Rattle.ds_model.specs.Refusals.{entity_body, first_refusal, group_asked, is_root, refusal_of, row_refusal}
 use Rattle.ds_model.specs.Sessions.{Session, Transaction, next_above, saw_next, saw_place}
-use Rattle.ds_base.specs.Entities.{entity_refusal}
+use Rattle.ds_entity.specs.Entities.{entity_refusal}
 use Rattle.ds_protocol.specs.Transactions.{MayWrite}
 use Rattle.ds_store.specs.Answered.{HasDrawn, HasLooked, HasSeenNext}
 use Rattle.ds_store.specs.Passes.{PassParts, HasRead}

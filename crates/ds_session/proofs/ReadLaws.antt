@@ -3,7 +3,7 @@ use Rattle.std.proofs.Common.{◌≡◌, ℕ, ◌+◌, ◌<◌, ◌≤◌, List,
 use Rattle.std.proofs.Common.{Some, None}
 use Rattle.std.specs.Prelude.{Result, Ok, Err, max}
 use Rattle.std.proofs.lemmas.List.{take_all}
-use Rattle.ds_base.specs.Entities.{EntityParts}
+use Rattle.ds_entity.specs.Entities.{EntityParts}
 use Rattle.ds_base.specs.Keys.{KeyParts, root_of}
 use Rattle.ds_indexdef.specs.declared.IndexDef.{IndexDef}
 use Rattle.ds_log.specs.declared.Commit.{Commit}

@@ -4,7 +4,7 @@ use Rattle.std.proofs.Common.{false, Option, Some, None}
 use Rattle.std.specs.Prelude.{All, Result, Ok, Err, slice_get}
 use Rattle.std.proofs.lemmas.List.{append-nil}
 use Rattle.std.proofs.lemmas.List.Elements.{All-nil, All-cons, All-push}
-use Rattle.ds_base.specs.declared.entity.Property.{Property}
+use Rattle.ds_entity.specs.declared.entity.Property.{Property}
 use Rattle.ds_base.specs.Keys.{KeyParts, root_of, renumbered, ends_in_id}
 use Rattle.ds_base.specs.Limits.{greatest_id}
 use Rattle.ds_indexdef.specs.declared.IndexDef.{IndexDef}

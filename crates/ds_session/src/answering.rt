@@ -13,7 +13,7 @@ ghost use Rattle.ds_session.specs.Sessions.{IsWithin};
 ghost use Rattle.ds_session.specs.Steps.{IsWithinSteps};
 
 use crate::state::State;
-use ds_base::Entity;
+use ds_entity::Entity;
 use ds_indexdef::Defs;
 use ds_io::Steps;
 use ds_log::Write;

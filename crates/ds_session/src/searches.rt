@@ -1,7 +1,7 @@
 //! Queries and statements.
 ghost use Rattle.std.specs.Prelude.{◌≡◌, ◌+◌, ◌≤◌, All, None, Some, length, is_some, IfOk, OnErr};
 ghost use Rattle.std.specs.Option.{option_map};
-ghost use Rattle.ds_base.specs.declared.results.Seen.{Seen};
+ghost use Rattle.ds_entity.specs.declared.results.Seen.{Seen};
 ghost use Rattle.ds_base.specs.Keys.{root_of};
 ghost use Rattle.ds_log.specs.Shards.{shard_of};
 ghost use Rattle.ds_model.specs.Answers.{cursor_of};
@@ -24,7 +24,8 @@ ghost use Rattle.ds_store.specs.Searched.{HasCounted};
 
 use crate::reads::{group_and_shard, touch_place};
 use crate::state::State;
-use ds_base::{Counts, Key, NoMemory, Seen, TryCopy};
+use ds_base::{Counts, Key, NoMemory, TryCopy};
+use ds_entity::Seen;
 use ds_indexdef::Defs;
 use ds_io::{NoGate, Steps};
 use ds_output::{counts_in, found_body, place_in, tell};

@@ -19,7 +19,8 @@ ghost use Rattle.ds_store.specs.Passes.{HasRead, PassParts};
 
 use crate::drawing::unissued;
 use crate::state::State;
-use ds_base::{Buffer, Entity, Key, NoMemory, TryCopy};
+use ds_base::{Buffer, Key, NoMemory, TryCopy};
+use ds_entity::Entity;
 use ds_journal::Draft;
 use ds_log::Write;
 use ds_output::{body_of, placed, prepare_key, tell_last};

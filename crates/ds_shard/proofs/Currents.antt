@@ -9,7 +9,7 @@ use Rattle.std.proofs.lemmas.Bool.Decides.{nat_tests}
 use Rattle.ds_base.specs.Keys.{KeyParts}
 use Rattle.ds_base.specs.KeyOrder.{key_cmp, same_key}
 use Rattle.ds_base.specs.KeyOrderLaws.{key_cmp-total}
-use Rattle.ds_base.specs.Entities.{EntityParts}
+use Rattle.ds_entity.specs.Entities.{EntityParts}
 use Rattle.ds_base.specs.Sorting.{insert_by}
 use Rattle.ds_base.specs.SortingLaws.{NoneBefore, Ascends, insert_by-front, sorted_by-filter, sorted_by-push}
 use Rattle.ds_log.specs.declared.Write.{Write}
@@ -20,7 +20,7 @@ use Rattle.ds_rows.specs.Versions.{Version, is_before, is_seen, entities_at}
 use Rattle.ds_shard.specs.Histories.{EndsWithin, is_open, is_current, ended, with_version, written}
 use Rattle.std.specs.List.{AllByRecursion as Each}
 use Rattle.ds_shard.specs.Contents.{IsGiven, version_cmp}
-use Rattle.ds_base.specs.EntityOrder.{entity_cmp, sorted_by_key}
+use Rattle.ds_entity.specs.EntityOrder.{entity_cmp, sorted_by_key}
 
 -- the entities of the open versions
 abbrev pub currents : List Version → List EntityParts

@@ -10,7 +10,7 @@ use Rattle.std.specs.declared.cmp.Ordering.TheVariants.{Less, Equal, Greater}
 use Rattle.std.proofs.lemmas.Map.Steps.{set_value_same}
 use Rattle.ds_base.specs.Keys.{KeyParts}
 use Rattle.ds_base.specs.KeyOrder.{key_cmp, same_key}
-use Rattle.ds_base.specs.Entities.{EntityParts}
+use Rattle.ds_entity.specs.Entities.{EntityParts}
 use Rattle.ds_rows.specs.Versions.{Version, is_seen, entities_at}
 use Rattle.ds_shard.specs.Histories.{EndsFrom, IsHistory, IsOver, IsOverAt, is_open, is_current, until_stamp, before_stamp, ends_at}
 use Rattle.ds_shard.specs.Histories.{outlives, with_version, joined, AreOwn, AreByKey, AreByKeyBut, IsFilled, AreFilled, AreFilledBut}

@@ -8,7 +8,7 @@ use Rattle.std.specs.Ordering.{is_eq, is_gt, is_lt}
 use Rattle.ds_base.specs.Keys.{KeyParts}
 use Rattle.ds_base.specs.KeyOrder.{key_cmp, same_key}
 use Rattle.ds_base.specs.KeyOrderLaws.{key_cmp-total, same_key-decides}
-use Rattle.ds_base.specs.Entities.{EntityParts}
+use Rattle.ds_entity.specs.Entities.{EntityParts}
 use Rattle.ds_base.specs.SortingLaws.{NoneBefore, Ascends}
 use Rattle.ds_rows.specs.Versions.{Version}
 use Rattle.ds_shard.specs.Histories.{EndsBy, Precedes, IsOver, IsOverAt, is_open, is_current, until_stamp, ended, with_version}

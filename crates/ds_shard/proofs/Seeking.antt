@@ -11,7 +11,7 @@ use Rattle.std.proofs.lemmas.List.Folds.{flat_map-map}
 use Rattle.std.proofs.lemmas.List.Elements.{All-nil, All-cons}
 use Rattle.ds_base.specs.KeyOrder.{bytes_cmp, same_key}
 use Rattle.ds_base.specs.KeyOrderLaws.{bytes_cmp-same}
-use Rattle.ds_base.specs.Entities.{EntityParts}
+use Rattle.ds_entity.specs.Entities.{EntityParts}
 use Rattle.ds_base.specs.Sorting.{sorted_by}
 use Rattle.ds_indexdef.specs.declared.IndexDef.{IndexDef}
 use Rattle.ds_rows.specs.Rows.{rows_of}

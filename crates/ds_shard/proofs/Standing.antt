@@ -7,7 +7,7 @@ use Rattle.std.proofs.lemmas.Bool.Decides.{nat_tests}
 use Rattle.std.proofs.lemmas.List.{take_all, take-append-le}
 use Rattle.std.proofs.lemmas.List.Concat.{flat_map-append}
 use Rattle.std.proofs.lemmas.List.Sums.{fold-append}
-use Rattle.ds_base.specs.Entities.{EntityParts}
+use Rattle.ds_entity.specs.Entities.{EntityParts}
 use Rattle.ds_base.specs.SortingLaws.{Ascends}
 use Rattle.ds_indexdef.specs.declared.IndexDef.{IndexDef}
 use Rattle.ds_log.specs.declared.Write.{Write}
@@ -20,7 +20,7 @@ use Rattle.ds_shard.specs.Histories.{written, trimmed, outlives}
 use Rattle.std.specs.List.{AllByRecursion as Each}
 use Rattle.ds_shard.specs.Contents.{IsGiven, version_cmp}
 use Rattle.ds_shard.specs.Shards.{ShardParts, StandsFor, floor_of, floor, empty, absorbed, shard_of_entries, last_commit}
-use Rattle.ds_base.specs.EntityOrder.{sorted_by_key}
+use Rattle.ds_entity.specs.EntityOrder.{sorted_by_key}
 use Rattle.ds_shard.proofs.Currents.{currents, seen_currents, currents-written}
 use Rattle.ds_shard.proofs.Kept.{Ascends-ended, Ascends-written, Ascends-filter, given-later, given-written, given-filter}
 use Rattle.ds_shard.proofs.Kept.{seen-written, seen-trimmed, trimmed-twice}

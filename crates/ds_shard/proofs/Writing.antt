@@ -8,7 +8,7 @@ use Rattle.ds_base.specs.Keys.{KeyParts}
 use Rattle.std.specs.Ordering.{is_lt}
 use Rattle.ds_base.specs.KeyOrder.{key_cmp, same_key}
 use Rattle.ds_base.specs.KeyOrderLaws.{same_key-decides}
-use Rattle.ds_base.specs.Entities.{EntityParts}
+use Rattle.ds_entity.specs.Entities.{EntityParts}
 use Rattle.ds_base.specs.SortingLaws.{Ascends}
 use Rattle.ds_indexdef.specs.Definitions.{AreDefs}
 use Rattle.ds_log.specs.declared.Write.{Write}

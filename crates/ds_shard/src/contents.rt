@@ -2,7 +2,7 @@
 ghost use Rattle.std.specs.Prelude.{◌≡◌, ℕ, ◌+◌, ◌≤◌, ◌<◌, [], None, fold, map, find, OnOk, OnErr};
 ghost use Rattle.std.specs.Option.{option_copied};
 ghost use Rattle.ds_base.specs.KeyOrder.{same_key};
-ghost use Rattle.ds_base.specs.Entities.{EntityParts};
+ghost use Rattle.ds_entity.specs.Entities.{EntityParts};
 ghost use Rattle.ds_log.specs.Logs.{key_of};
 ghost use Rattle.ds_rows.specs.Versions.{Version, entities_at};
 ghost use Rattle.ds_table.specs.Versions.{never};
@@ -16,7 +16,8 @@ ghost use Rattle.ds_shard.specs.Expiries.{AreBy, AreNoted};
 use crate::entity_versions::EntityVersions;
 use crate::expiring::Expiring;
 use crate::rows::{add_rows, close_rows};
-use ds_base::{Entity, Key, NoMemory, TryCopy};
+use ds_base::{Key, NoMemory, TryCopy};
+use ds_entity::Entity;
 use ds_indexdef::Defs;
 use ds_log::Write;
 use ds_rows::rows_of;

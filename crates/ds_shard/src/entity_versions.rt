@@ -4,14 +4,15 @@ ghost use Rattle.std.specs.BTreeMap.{is_at};
 ghost use Rattle.std.specs.Map.{lookup};
 ghost use Rattle.std.specs.Option.{option_copied};
 ghost use Rattle.ds_base.specs.KeyOrder.{key_cmp, same_key};
-ghost use Rattle.ds_base.specs.Entities.{EntityParts};
+ghost use Rattle.ds_entity.specs.Entities.{EntityParts};
 ghost use Rattle.ds_rows.specs.Versions.{Version, entities_at};
 ghost use Rattle.ds_shard.specs.Histories.{joined, is_current, ended, with_version, undone, trimmed_at, BeginsBy, IsOverAt};
 ghost use Rattle.std.specs.List.{AllByRecursion as Each};
 ghost use Rattle.ds_shard.specs.Histories.{AreByKey, AreByKeyBut};
 
 use crate::version_list::VersionList;
-use ds_base::{Entity, Key, NoMemory, TryCopy};
+use ds_base::{Key, NoMemory, TryCopy};
+use ds_entity::Entity;
 use std::alloc::Global;
 use std::collections::BTreeMap;
 use std::marker::Model;

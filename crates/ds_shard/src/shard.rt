@@ -1,7 +1,7 @@
 //! One shard.
 ghost use Rattle.std.specs.Prelude.{◌≡◌, ◌<◌, ◌≤◌, ◌^◌, IfOk, OnOk, OnErr, find, IsTrue};
 ghost use Rattle.std.specs.Option.{option_copied};
-ghost use Rattle.ds_base.specs.Entities.{EntityParts};
+ghost use Rattle.ds_entity.specs.Entities.{EntityParts};
 ghost use Rattle.ds_base.specs.KeyOrder.{same_key};
 ghost use Rattle.ds_rows.specs.Versions.{entities_at, AreTables};
 ghost use Rattle.ds_table.specs.Versions.{never};
@@ -11,7 +11,8 @@ ghost use Rattle.ds_shard.specs.Shards.{floor_of, empty, absorbed, keeps};
 
 use crate::contents::Contents;
 use crate::tables::ShardTables;
-use ds_base::{Entity, Key, NoMemory, TryCopy};
+use ds_base::{Key, NoMemory, TryCopy};
+use ds_entity::Entity;
 use ds_indexdef::Defs;
 use ds_log::Entry;
 use ds_table::TableView;

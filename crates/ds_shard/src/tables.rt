@@ -2,7 +2,8 @@
 ghost use Rattle.std.specs.Prelude.{◌≡◌};
 
 use crate::shard::Shard;
-use ds_base::{Entity, Key};
+use ds_base::Key;
+use ds_entity::Entity;
 use ds_io::Steps;
 use ds_rows::Tables;
 use std::marker::{Model, PhantomData};

@@ -8,7 +8,8 @@ ghost use Rattle.ds_shard.specs.Histories.{is_open, until_stamp, before_stamp, t
 ghost use Rattle.ds_shard.specs.Histories.{first_is_over, BeginsBy, IsOver, IsHistory};
 ghost use Rattle.std.specs.List.{AllByRecursion as Each};
 
-use ds_base::{Entity, NoMemory, TryCopy};
+use ds_base::{NoMemory, TryCopy};
+use ds_entity::Entity;
 use std::alloc::Global;
 use std::collections::VecDeque;
 use std::marker::Model;

@@ -1,5 +1,6 @@
 //! Small entities, writes and entries for the tests.
-use ds_base::{Elem, Elems, Entity, Ident, Key, Properties, Property, TextString, Value, Values};
+use ds_base::{Elem, Elems, Ident, Key, TextString, Value, Values};
+use ds_entity::{Entity, Properties, Property};
 use ds_log::{Entry, Write, Writes};
 use std::alloc::Global;
 use std::test::Fail;

@@ -3,8 +3,8 @@ use Rattle.std.proofs.Common.{◌≡◌, ℕ, ◌≤◌, ◌+◌, Bool, true, fa
 use Rattle.std.specs.Prelude.{All, IsTrue, ◌&&◌, nat_le}
 use Rattle.std.proofs.lemmas.Bool.{leb-true}
 use Rattle.std.proofs.lemmas.List.Elements.{All-head}
-use Rattle.ds_base.specs.declared.results.Item.{Item}
-use Rattle.ds_base.specs.declared.results.Seen.TheVariants as saw
+use Rattle.ds_entity.specs.declared.results.Item.{Item}
+use Rattle.ds_entity.specs.declared.results.Seen.TheVariants as saw
 use Rattle.ds_base.specs.Keys.{KeyParts, is_elem, is_key, is_namespace, is_path, root_of}
 use Rattle.ds_base.specs.Limits.{most_elements}
 use Rattle.std.specs.List.{list_all}

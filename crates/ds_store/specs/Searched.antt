@@ -1,6 +1,6 @@
 -- What queries without an ancestor answer, over what their pass had seen before and has seen after.
 use Rattle.std.specs.Prelude.{◌≡◌, ℕ, max}
-use Rattle.ds_base.specs.declared.results.Seen.{Seen}
+use Rattle.ds_entity.specs.declared.results.Seen.{Seen}
 use Rattle.ds_engine.specs.Counted.{IsCounted}
 use Rattle.ds_store.specs.Passes.{PassParts, HasRead}
 

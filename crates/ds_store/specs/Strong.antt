@@ -1,8 +1,8 @@
 -- What a query with an ancestor answers, over what its pass had seen before and has seen after.
 use Rattle.std.specs.Prelude.{◌≡◌, ℕ, List, Option}
-use Rattle.ds_base.specs.declared.results.Item.{Item}
-use Rattle.ds_base.specs.declared.results.Seen.{Seen}
-use Rattle.ds_base.specs.declared.results.Seen.TheVariants as saw
+use Rattle.ds_entity.specs.declared.results.Item.{Item}
+use Rattle.ds_entity.specs.declared.results.Seen.{Seen}
+use Rattle.ds_entity.specs.declared.results.Seen.TheVariants as saw
 use Rattle.ds_base.specs.Keys.{KeyParts}
 use Rattle.ds_model.specs.Views.{strong_view}
 use Rattle.ds_engine.specs.declared.EngineRefused.{EngineRefused}

@@ -1,5 +1,6 @@
 //! What the calls of a store give, and why they refuse.
-use ds_base::{Counts, Entity};
+use ds_base::Counts;
+use ds_entity::Entity;
 use ds_journal::Draft;
 use ds_log::Commits;
 use std::alloc::AllocError;

@@ -16,9 +16,10 @@ ghost use Rattle.ds_store.specs.Strong.{IsFoundInGroup, WhereGone, WhereMissing}
 use crate::answers::{Expired, GetRefused, StrongRefused};
 use crate::pass::Pass;
 use crate::store::Store;
-use ds_base::{Key, NoMemory, Seen};
+use ds_base::{Key, NoMemory};
 use ds_engine::EngineRefused;
 use ds_engine::states::{Answer, GroupFound, plans_of, query_slot};
+use ds_entity::Seen;
 use ds_indexdef::Defs;
 use ds_io::Steps;
 use ds_planner::ScanPlan;

@@ -3,7 +3,8 @@ ghost use Rattle.std.specs.Prelude.{IfOk, IfSome};
 ghost use Rattle.ds_query.specs.Lawful.{IsLawfulNormal, SuitsSeveral};
 
 use crate::ids::commit_new;
-use ds_base::{Column, Columns, Ident, Item, Key, NoMemory, Seen, TextString};
+use ds_base::{Column, Columns, Ident, Key, NoMemory, TextString};
+use ds_entity::{Item, Seen};
 use ds_query::{Filters, Normal, Place, Query, Select, Window, normalize};
 use ds_store::{Answer, Names, Pass, Store};
 use ds_store_trials::asking::strong_page;

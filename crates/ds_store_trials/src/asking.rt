@@ -2,8 +2,9 @@
 ghost use Rattle.std.specs.Prelude.{◌≡◌, ◌<◌, ◌≤◌, Bool, IfOk, IfSome, IsTrue};
 ghost use Rattle.ds_query.specs.Lawful.{IsLawfulNormal, SuitsSeveral};
 
-use ds_base::{Column, Columns, Ident, Item, Key, NoMemory, Seen, TextString};
+use ds_base::{Column, Columns, Ident, Key, NoMemory, TextString};
 use ds_engine::EngineRefused;
+use ds_entity::{Item, Seen};
 use ds_io::{Gate, Steps};
 use ds_query::{Filters, Normal, Query, Select, Window, normalize};
 use ds_store::{Answer, Names, Pass, Store, StrongRefused};

@@ -1,14 +1,13 @@
 //! Small keys, entities and drafts for the tests.
 ghost use Rattle.std.specs.Prelude.{◌≡◌, ◌+◌, ◌≤◌, ℕ, None, [], IfOk, IsTrue, length};
-ghost use Rattle.ds_base.specs.Entities.{names_ascend};
+ghost use Rattle.ds_entity.specs.Entities.{names_ascend};
 ghost use Rattle.ds_base.specs.Keys.{ends_in_id, with_last_id};
 ghost use Rattle.ds_journal.specs.Drafts.{is_one_put, renumbered_commit};
 ghost use Rattle.ds_log.specs.Ids.{AreIssued, first_unissued, unissued};
 ghost use Rattle.ds_log.specs.Logs.{key_of};
 
-use ds_base::{
-    Elem, Elems, Entity, Ident, Key, NoMemory, Properties, Property, TextString, Value, Values,
-};
+use ds_base::{Elem, Elems, Ident, Key, NoMemory, TextString, Value, Values};
+use ds_entity::{Entity, Properties, Property};
 use ds_journal::Draft;
 use ds_log::{Touch, Touches, Write, Writes};
 use std::alloc::{AllocError, Global};

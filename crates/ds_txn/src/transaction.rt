@@ -13,7 +13,8 @@ ghost use Rattle.ds_txn.specs.Transactions.{IsWriteAnswer};
 
 use crate::refusals::{TxnRefused, WriteCause, WriteRefused};
 use ds_base::limits::{MAX_GROUPS, MAX_WRITES};
-use ds_base::{Entity, Key, NoMemory, TryCopy};
+use ds_base::{Key, NoMemory, TryCopy};
+use ds_entity::Entity;
 use ds_log::{Conflict, Heads, Touch, Touches, Write, Writes};
 use indexmap::IndexMap;
 use std::alloc::Global;

@@ -1,5 +1,5 @@
 //! What a query gives.
-use ds_base::{Results, Seen};
+use ds_entity::{Results, Seen};
 use ds_query::Place;
 
 /// What a query found, and what of the store it saw.

@@ -10,9 +10,9 @@ ghost use Rattle.ds_engine.specs.Snapshots.{entities_in};
 
 use crate::states::snapshot::ShardSnapshot;
 use ds_base::{
-    Column, Columns, Entity, IndexValue, IndexValues, Item, Key, Names, NoMemory, Results,
-    TextString, TryCopy,
+    Column, Columns, IndexValue, IndexValues, Key, Names, NoMemory, TextString, TryCopy,
 };
+use ds_entity::{Entity, Item, Results};
 use ds_io::Steps;
 use ds_log::shard_of;
 use ds_query::{Row, RowList, Select, value_named};

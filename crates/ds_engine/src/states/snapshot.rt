@@ -10,7 +10,8 @@ ghost use Rattle.ds_engine.specs.Plans.{IsPlanFor};
 ghost use Rattle.ds_engine.specs.Snapshots.{asked_in, entities_in};
 
 use crate::answering::answer;
-use ds_base::{Entity, Key, NoMemory, copy_of};
+use ds_base::{Key, NoMemory, copy_of};
+use ds_entity::Entity;
 use ds_indexdef::Defs;
 use ds_io::Steps;
 use ds_planner::ScanPlan;

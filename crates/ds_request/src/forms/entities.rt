@@ -6,7 +6,8 @@ ghost use Rattle.ds_json_reading.specs.Reading.{Reads, defaulted};
 ghost use Rattle.ds_request.specs.Entities.{property_with, property_of, properties_of, entity_of, ArePut};
 
 use crate::call::Call;
-use ds_base::{Key, Properties, Property, TextString, Values, is_name, is_reserved};
+use ds_base::{Key, TextString, Values, is_name, is_reserved};
+use ds_entity::{Properties, Property};
 use ds_json_reading::{
     EntryForm, Form, Members, Refusal, read_entity_key, read_entries, read_property_values,
     unless_null,

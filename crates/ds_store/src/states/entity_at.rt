@@ -6,7 +6,8 @@ ghost use Rattle.ds_model.specs.ByKey.{left_by};
 ghost use Rattle.ds_model.specs.Results.{entity_of};
 ghost use Rattle.ds_shard.specs.Shards.{keeps, shard_of_entries};
 
-use ds_base::{Entity, Key, NoMemory, copy_of};
+use ds_base::{Key, NoMemory, copy_of};
+use ds_entity::Entity;
 use ds_io::Steps;
 use ds_rows::Tables;
 use ds_shard::{Shard, entries_are_kept};

@@ -3,7 +3,7 @@ use Rattle.std.specs.Ordering.{is_lt}
 use Rattle.std.proofs.lemmas.Fn.{always_returns_same}
 use Rattle.std.proofs.lemmas.List.MinMax.{ranks_by}
 use Rattle.ds_base.specs.KeyOrderLaws.{key_cmp-total}
-use Rattle.ds_base.specs.EntityOrder.{entity_cmp}
+use Rattle.ds_entity.specs.EntityOrder.{entity_cmp}
 use Rattle.ds_applied.proofs.SortedRefs.{sorted_refs}
 use Rattle.ds_applied.proofs.visible.sorted.Goals as goal
 

@@ -1,7 +1,7 @@
 use Rattle.std.proofs.Common.{◌≡◌, IfOk, List, map, ap, subst, ◌∙◌}
-use Rattle.ds_base.specs.Entities.{EntityParts}
-use Rattle.ds_base.specs.EntityOrder.{sorted_by_key}
-use Rattle.ds_base.specs.declared.results.Seen.TheVariants as seen
+use Rattle.ds_entity.specs.Entities.{EntityParts}
+use Rattle.ds_entity.specs.EntityOrder.{sorted_by_key}
+use Rattle.ds_entity.specs.declared.results.Seen.TheVariants as seen
 use Rattle.ds_applied.specs.AppliedLists.{shard_views}
 use Rattle.ds_model.specs.Worlds.{shard_lists}
 use Rattle.ds_check.specs.Deciding.{SaidIs}

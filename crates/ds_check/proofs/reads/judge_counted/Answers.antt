@@ -1,7 +1,7 @@
 use Rattle.std.proofs.Common.{◌≡◌, ℕ, List, Option, Some, None, refl, ap, sym, ◌∙◌, subst, option_map, Vec, Global}
 use Rattle.std.specs.Prelude.{codes}
-use Rattle.ds_base.specs.EntityOrder.{sorted_by_key}
-use Rattle.ds_base.specs.declared.results.Seen.TheVariants as seen
+use Rattle.ds_entity.specs.EntityOrder.{sorted_by_key}
+use Rattle.ds_entity.specs.declared.results.Seen.TheVariants as seen
 use Rattle.ds_applied.specs.AppliedLists.{AreCounts, shard_views}
 use Rattle.ds_protocol.specs.declared.preparing.Ready.{Ready}
 use Rattle.ds_protocol.specs.declared.searching.Search.{Search}

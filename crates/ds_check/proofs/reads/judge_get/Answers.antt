@@ -1,6 +1,6 @@
 use Rattle.std.proofs.Common.{◌≡◌, ℕ, Bool, true, false, Option, Some, None, refl, ap, sym, ◌∙◌, subst}
 use Rattle.std.specs.Prelude.{codes, IfOk}
-use Rattle.ds_base.specs.Entities.{EntityParts}
+use Rattle.ds_entity.specs.Entities.{EntityParts}
 use Rattle.ds_base.specs.Keys.{KeyParts, root_of}
 use Rattle.ds_model.specs.Answers.{saw_group}
 use Rattle.ds_model.specs.Groups.{StandsAt, group_refusal, place_in}

@@ -1,8 +1,8 @@
 use Rattle.std.proofs.Common.{◌≡◌, ℕ, Bool, List, Option, Some, None, refl, ap, sym, ◌∙◌, subst, take, true, false}
 use Rattle.std.specs.Prelude.{IfOk, codes}
-use Rattle.ds_base.specs.EntityOrder.{sorted_by_key}
+use Rattle.ds_entity.specs.EntityOrder.{sorted_by_key}
 use Rattle.ds_base.specs.Keys.{KeyParts}
-use Rattle.ds_base.specs.declared.results.Seen.TheVariants as seen
+use Rattle.ds_entity.specs.declared.results.Seen.TheVariants as seen
 use Rattle.ds_log.specs.After.{after}
 use Rattle.ds_log.specs.Logs.{writes_of}
 use Rattle.ds_history.specs.Writers.{writing}

@@ -4,7 +4,7 @@ use Rattle.std.proofs.lemmas.Result.{IfOk-weaker}
 use Rattle.ds_model.specs.Sessions.{Session}
 use Rattle.ds_check.specs.Deciding.{DecidesTurn, seen_by, world_in}
 use Rattle.ds_check.proofs.Decisions.{one_number}
-use Rattle.ds_base.specs.Entities.{EntityParts}
+use Rattle.ds_entity.specs.Entities.{EntityParts}
 use Rattle.ds_base.specs.Keys.{root_of}
 use Rattle.ds_base.specs.Limits.{greatest_id}
 use Rattle.ds_bytes.specs.Lawful.{IsLawfulKey}

@@ -1,5 +1,5 @@
 use Rattle.std.proofs.Common.{refl, List, ℕ}
-use Rattle.ds_base.specs.declared.entity.Property.{Property}
+use Rattle.ds_entity.specs.declared.entity.Property.{Property}
 use Rattle.ds_json_printing.specs.Printing.{property_members, property_data}
 use Rattle.ds_json_printing.proofs.Chains.{members-more}
 use Rattle.ds_json_printing.proofs.values.write_properties.Goals as goal

@@ -1,7 +1,7 @@
 use Rattle.std.proofs.Common.{◌≡◌, ◌<◌, true, false, Bor, List, length, map, get_or, arith, ap, sym, ◌∙◌, Some}
 use Rattle.std.proofs.lemmas.List.{length-map, get_or-map}
 use Rattle.ds_base.specs.Keys.{KeyParts}
-use Rattle.ds_base.specs.Entities.{EntityParts}
+use Rattle.ds_entity.specs.Entities.{EntityParts}
 use Rattle.ds_base.specs.KeyOrder.{same_key}
 use Rattle.ds_protocol.proofs.Halving.{entity_at, no_entity_at}
 use Rattle.ds_protocol.proofs.finding.entity_of.Goals as goal

@@ -1,7 +1,7 @@
 -- Those below the low end come before the key, and those from the high end on don't.
 use Rattle.std.proofs.Common.{◌≡◌, ℕ, ◌<◌, ◌≤◌, ◌-◌, true, false, length, get_or, map}
 use Rattle.std.specs.Ordering.{is_lt}
-use Rattle.ds_base.specs.Entities.{EntityParts}
+use Rattle.ds_entity.specs.Entities.{EntityParts}
 use Rattle.ds_base.specs.KeyOrder.{key_cmp}
 use Rattle.ds_protocol.proofs.finding.place_of.Given as goal
 

@@ -1,7 +1,7 @@
 use Rattle.std.proofs.Common.{◌≡◌, List, fold, take}
-use Rattle.ds_base.specs.Entities.{EntityParts}
+use Rattle.ds_entity.specs.Entities.{EntityParts}
 use Rattle.ds_log.specs.After.{apply_write}
-use Rattle.ds_base.specs.EntityOrder.{sorted_by_key}
+use Rattle.ds_entity.specs.EntityOrder.{sorted_by_key}
 use Rattle.ds_applied.proofs.entity_map.EntityMap.apply_all.Given as goal
 
 -- so far the first writes are applied

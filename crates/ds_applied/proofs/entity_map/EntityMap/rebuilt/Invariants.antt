@@ -1,7 +1,7 @@
 use Rattle.std.proofs.Common.{◌≡◌, take}
 use Rattle.ds_log.specs.After.{after}
 use Rattle.ds_log.specs.Logs.{entry_writes}
-use Rattle.ds_base.specs.EntityOrder.{sorted_by_key}
+use Rattle.ds_entity.specs.EntityOrder.{sorted_by_key}
 use Rattle.ds_applied.proofs.entity_map.EntityMap.rebuilt.Given as goal
 
 -- so far the first entries are applied

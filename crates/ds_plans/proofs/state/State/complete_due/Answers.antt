@@ -1,6 +1,6 @@
 use Rattle.std.proofs.Common.{ℕ, Option, Some, None, [], false}
 use Rattle.std.specs.Prelude.{IfSome}
-use Rattle.ds_base.specs.Entities.{EntityParts}
+use Rattle.ds_entity.specs.Entities.{EntityParts}
 use Rattle.ds_log.specs.declared.Write.TheVariants.{Put}
 use Rattle.ds_request.specs.declared.call.Call.TheVariants as call
 use Rattle.ds_reply.specs.declared.reply.Body.TheVariants as body

@@ -1,7 +1,7 @@
 use Rattle.std.proofs.Common.{◌≡◌, IfOk, map, ap, subst, ◌∙◌}
-use Rattle.ds_base.specs.declared.results.Seen.TheVariants as seen
+use Rattle.ds_entity.specs.declared.results.Seen.TheVariants as seen
 use Rattle.ds_applied.specs.AppliedLists.{shard_views}
-use Rattle.ds_base.specs.EntityOrder.{sorted_by_key}
+use Rattle.ds_entity.specs.EntityOrder.{sorted_by_key}
 use Rattle.ds_plans.specs.Queries.{told_over}
 use Rattle.ds_plans.specs.States.{StateParts}
 use Rattle.ds_plans.proofs.QueryPlans.{all_by_key, by_key}

@@ -5,9 +5,9 @@ use Rattle.ds_plans.specs.States.{StateParts, AreUpTo, IsState}
 use Rattle.ds_plans.proofs.DuePlans.{all_found_at, counts-listed}
 use Rattle.ds_plans.proofs.Plans.{memory_as}
 use Rattle.std.proofs.Common.{refl}
-use Rattle.ds_base.specs.declared.results.Seen.TheVariants as seen
+use Rattle.ds_entity.specs.declared.results.Seen.TheVariants as seen
 use Rattle.ds_applied.specs.AppliedLists.{shard_views}
-use Rattle.ds_base.specs.EntityOrder.{sorted_by_key}
+use Rattle.ds_entity.specs.EntityOrder.{sorted_by_key}
 use Rattle.ds_plans.specs.declared.effect.Effect.TheVariants as effect
 use Rattle.ds_plans.specs.Told.{AreViewsOf}
 use Rattle.ds_plans.proofs.ToldPlans.{kept-told, search-numbers}

@@ -1,5 +1,5 @@
 use Rattle.std.proofs.Common.{map, ap, subst, ◌∙◌}
-use Rattle.ds_base.specs.declared.results.Seen.TheVariants as seen
+use Rattle.ds_entity.specs.declared.results.Seen.TheVariants as seen
 use Rattle.ds_applied.specs.AppliedLists.{shard_view}
 use Rattle.ds_plans.specs.Queries.{told_over}
 use Rattle.ds_plans.specs.States.{StateParts, IsState}

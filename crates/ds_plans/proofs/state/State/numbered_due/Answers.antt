@@ -1,6 +1,6 @@
 use Rattle.std.proofs.Common.{◌≡◌, ◌∙◌, ap, ℕ, Option, Some, None, true, false, sym, subst}
 use Rattle.std.specs.Prelude.{IfSome}
-use Rattle.ds_base.specs.Entities.{EntityParts}
+use Rattle.ds_entity.specs.Entities.{EntityParts}
 use Rattle.ds_base.specs.Keys.{ends_in_id, renumbered}
 use Rattle.ds_log.specs.declared.Write.TheVariants.{Put}
 use Rattle.ds_request.specs.declared.call.Call.TheVariants as call

@@ -1,7 +1,7 @@
 use Rattle.std.proofs.Common.{◌≡◌, ℕ, List, ◌++◌, refl, ap, sym, ◌∙◌, subst, None}
 use Rattle.std.specs.Prelude.{IsTrue, is_some, true, unwrap_or}
 use Rattle.ds_base.specs.declared.key.Elem.{Elem}
-use Rattle.ds_base.specs.Entities.{EntityParts}
+use Rattle.ds_entity.specs.Entities.{EntityParts}
 use Rattle.ds_base.specs.Keys.{KeyParts, renumbered, root_of}
 use Rattle.ds_log.specs.declared.Write.TheVariants.{Put}
 use Rattle.ds_log.specs.Ids.{first_unissued}

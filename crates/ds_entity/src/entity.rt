@@ -2,11 +2,8 @@
 ghost use Rattle.std.specs.Prelude.{◌≡◌, ◌<◌, ◌^◌, IsTrue, IfOk, length, min};
 
 use crate::entity_rules::{first_faulty, size_of};
-use crate::key::Key;
-use crate::limits::MAX_ENTITY_SIZE;
-use crate::sequence::{Sequence, TryCopy};
-use crate::text::TextString;
-use crate::value::Values;
+use ds_base::limits::MAX_ENTITY_SIZE;
+use ds_base::{Key, Sequence, TextString, TryCopy, Values};
 use std::alloc::{AllocError, Global};
 use std::marker::Model;
 use std::sync::Arc;
@@ -54,7 +51,7 @@ pub struct Entity {
 
 impl Model for Entity {
     ghost use Rattle.std.specs.Arc.{arc_value};
-    ghost use Rattle.ds_base.specs.Entities.{EntityParts, IsEntity};
+    ghost use Rattle.ds_entity.specs.Entities.{EntityParts, IsEntity};
 
     ghost Value = { EntityParts };
 
@@ -68,7 +65,7 @@ impl Entity {
     ghost use Rattle.std.specs.Prelude.{◌≤◌};
     ghost use Rattle.ds_base.specs.Keys.{renumbered, ends_in_id};
     ghost use Rattle.ds_base.specs.Limits.{greatest_id};
-    ghost use Rattle.ds_base.specs.Entities.{EntityParts, IsEntity, entity_refusal, names_ascend};
+    ghost use Rattle.ds_entity.specs.Entities.{EntityParts, IsEntity, entity_refusal, names_ascend};
     ghost use Rattle.ds_base.specs.Memory.{IsDueOrNoMemory};
 
     /// The entity of this key and these properties, whose names strictly ascend by bytes. The refusals, of which the first
@@ -92,8 +89,9 @@ impl Entity {
         if size > MAX_ENTITY_SIZE {
             return Err(EntityRefused::TooLarge { size });
         }
-        let alloc = *properties.items.allocator();
-        match Arc::new(alloc, properties) {
+        let items = properties.into_vec();
+        let alloc = *items.allocator();
+        match Arc::new(alloc, Sequence::from(items)) {
             Ok(properties) => Ok(Entity { key, properties }),
             Err(_) => Err(EntityRefused::NoMemory),
         }

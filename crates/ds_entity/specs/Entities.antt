@@ -2,15 +2,16 @@
 use Rattle.std.specs.Prelude.{ℕ, ◌+◌, ◌^◌, min, Bool, true, false, ◌&&◌, ◌||◌, not, ◌==◌, nat_lt, List, [], ◌∷◌, length, sum_by}
 use Rattle.std.specs.Prelude.{Option, Some, None, position, cond, ◌≡◌, ◌<◌, IsTrue}
 use Rattle.std.specs.List.{list_any}
-use Rattle.ds_base.specs.Limits.{most_name_bytes, greatest_rating, greatest_entity_size, greatest_told}
+use Rattle.ds_base.specs.Limits.{greatest_entity_size, greatest_told}
+use Rattle.ds_base.specs.Values.{is_faulty_value}
 use Rattle.ds_base.specs.declared.key.Ident.{Ident}
 use Rattle.ds_base.specs.declared.key.Ident.TheVariants.{Id, Name}
 use Rattle.ds_base.specs.declared.key.Elem.{Elem}
 use Rattle.ds_base.specs.declared.value.Value.{Value}
 use Rattle.ds_base.specs.declared.value.Value.TheVariants as value
-use Rattle.ds_base.specs.declared.entity.Property.{Property}
-use Rattle.ds_base.specs.declared.entity.EntityRefused.{EntityRefused}
-use Rattle.ds_base.specs.declared.entity.EntityRefused.TheVariants as refused
+use Rattle.ds_entity.specs.declared.entity.Property.{Property}
+use Rattle.ds_entity.specs.declared.entity.EntityRefused.{EntityRefused}
+use Rattle.ds_entity.specs.declared.entity.EntityRefused.TheVariants as refused
 use Rattle.ds_base.specs.Keys.{KeyParts, is_key, is_name, is_reserved, is_writable}
 use Rattle.ds_base.specs.KeyOrder.{bytes_cmp}
 use Rattle.std.specs.Ordering.{is_lt}
@@ -49,13 +50,6 @@ property_size p = 16 + length p.name + sum_by value_size p.values
 
 abbrev pub entity_size : KeyParts → List Property → ℕ
 entity_size key properties = key_size key + sum_by property_size properties
-
--- a rating above 100, or an indexed string or byte string of more than 1,500 bytes
-abbrev pub is_faulty_value : Bool → Value → Bool
-is_faulty_value indexed (value.Rating n) = nat_lt greatest_rating n
-is_faulty_value indexed (value.Bytes s) = indexed && nat_lt most_name_bytes (length s)
-is_faulty_value indexed (value.Str s) = indexed && nat_lt most_name_bytes (length s)
-is_faulty_value indexed _ = false
 
 -- a name that is empty, too long or reserved; no value; or a faulty value
 abbrev pub is_faulty_property : Property → Bool

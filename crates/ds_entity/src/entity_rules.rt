@@ -2,13 +2,13 @@
 ghost use Rattle.std.specs.Prelude.{◌≡◌, ◌+◌, ◌≤◌, min, position, sum_by};
 ghost use Rattle.std.specs.List.{list_any};
 ghost use Rattle.ds_base.specs.Limits.{greatest_told};
-ghost use Rattle.ds_base.specs.Entities.{is_faulty_value, is_faulty_property, elem_size, key_size, value_size, content_size};
-ghost use Rattle.ds_base.specs.Entities.{property_size, entity_size};
+ghost use Rattle.ds_entity.specs.Entities.{is_faulty_property, elem_size, key_size, value_size, content_size};
+ghost use Rattle.ds_base.specs.Values.{is_faulty_value};
+ghost use Rattle.ds_entity.specs.Entities.{property_size, entity_size};
 
 use crate::entity::Property;
-use crate::key::{Elem, Ident, Key, is_name, is_reserved};
-use crate::limits::MAX_TOLD_SIZE;
-use crate::value::Value;
+use ds_base::limits::MAX_TOLD_SIZE;
+use ds_base::{Elem, Ident, Key, Value, is_name, is_reserved};
 
 /// The place of the first property that no entity may have.
 pub(crate) fn first_faulty(properties: &[Property]) -> Option<usize>

@@ -1,9 +1,9 @@
 use Rattle.std.proofs.Common.{◌≡◌, true, ap, ◌∙◌, arith}
 use Rattle.std.specs.Arc.{arc_value}
 use Rattle.ds_base.specs.Keys.{ends_in_id}
-use Rattle.ds_base.specs.Entities.{EntityParts}
-use Rattle.ds_base.proofs.KeyLaws.{IsEntity-renumbered}
-use Rattle.ds_base.proofs.entity.Entity.renumber.Goals as goal
+use Rattle.ds_entity.specs.Entities.{EntityParts}
+use Rattle.ds_entity.proofs.EntityLaws.{IsEntity-renumbered}
+use Rattle.ds_entity.proofs.entity.Entity.renumber.Goals as goal
 
 pub invariant_of-self : goal.invariant_of-self
 invariant_of-self c =

@@ -1,9 +1,6 @@
 //! What queries give: items, and what of the store they saw.
 use crate::entity::Entity;
-use crate::index_value::IndexValues;
-use crate::key::Key;
-use crate::lists::Counts;
-use crate::sequence::Sequence;
+use ds_base::{Counts, IndexValues, Key, Sequence};
 
 /// One result of a query.
 #[derive(Drop)]
