@@ -34,7 +34,8 @@ use Rattle.ds_log.specs.declared.Touch.{Touch}
 use Rattle.ds_log.specs.declared.Write.{Write}
 use Rattle.ds_log.specs.declared.Write.TheVariants.{Put, Delete}
 use Rattle.ds_json_printing.specs.Printing.{ident_data, elem_items, keyed_items, key_data, integer, base64_data, value_data, value_items}
-use Rattle.ds_json_printing.specs.Printing.{values_data, tagged, property_members, entity_data}
+use Rattle.ds_json_printing.specs.Printing.{values_data, tagged}
+use Rattle.ds_reply.specs.EntityPrinting.{property_members, entity_data}
 use Rattle.ds_journal_text.specs.Lawful.{IsLawfulValue, IsLawfulProperty, IsLawfulEntity, IsLawfulWrite, IsLawfulTouch, IsLawfulCommit}
 use Rattle.ds_journal_text.specs.Texts.{touch_items, write_data, write_items, commit_data}
 use Rattle.ds_journal_text.proofs.PlainData.{IsPlain, ArePlain, MembersArePlain, AllBehind, Ascend}

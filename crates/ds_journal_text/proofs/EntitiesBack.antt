@@ -15,7 +15,7 @@ use Rattle.ds_json_reading.specs.declared.refusal.Refusal.TheVariants as refusal
 use Rattle.ds_json_reading.specs.Reading.{and_then, read_as, each_member_of}
 use Rattle.ds_request.specs.Entities.{PutParts, property_with, property_of, entity_of}
 use Rattle.ds_json_reading.specs.Values.{property_values_of}
-use Rattle.ds_json_printing.specs.Printing.{property_data, property_members, entity_data}
+use Rattle.ds_reply.specs.EntityPrinting.{property_data, property_members, entity_data}
 use Rattle.ds_journal_text.specs.Lawful.{IsLawfulProperty, IsLawfulEntity}
 use Rattle.ds_journal_text.proofs.KeysBack.{entity_key_back}
 use Rattle.ds_journal_text.proofs.ValuesBack.{property_values_back}

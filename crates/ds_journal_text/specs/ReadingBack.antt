@@ -4,7 +4,8 @@ use Rattle.serde_json.specs.Written.{compact_text}
 use Rattle.ds_entity.specs.Entities.{EntityParts}
 use Rattle.ds_base.specs.Keys.{KeyParts}
 use Rattle.ds_bytes.specs.Lawful.{IsLawfulKey}
-use Rattle.ds_json_printing.specs.Printing.{entity_data, key_data}
+use Rattle.ds_json_printing.specs.Printing.{key_data}
+use Rattle.ds_reply.specs.EntityPrinting.{entity_data}
 use Rattle.ds_request.specs.Entities.{entity_of}
 use Rattle.ds_json_reading.specs.Keys.{key_of}
 use Rattle.ds_request.specs.Requests.{line_data}

@@ -7,7 +7,8 @@ use Rattle.ds_log.specs.declared.Touch.{Touch}
 use Rattle.ds_log.specs.declared.Write.{Write}
 use Rattle.ds_log.specs.declared.Write.TheVariants.{Put, Delete}
 use Rattle.ds_json_printing.specs.Objects.{named, object_of}
-use Rattle.ds_json_printing.specs.Printing.{natural, tagged, key_data, entity_data}
+use Rattle.ds_json_printing.specs.Printing.{natural, tagged, key_data}
+use Rattle.ds_reply.specs.EntityPrinting.{entity_data}
 use Rattle.ds_rounds.specs.Lines.{lines_in}
 use Rattle.ds_journal_text.specs.Lawful.{IsLawfulCommit}
 

@@ -3,7 +3,8 @@ ghost use Rattle.std.specs.Prelude.{◌≡◌, ◌≤◌, ◌++◌, List, All, l
 ghost use Rattle.serde_json.specs.Written.{comma_if, compact_text, items_text};
 ghost use Rattle.ds_base.specs.Limits.{most_writes};
 ghost use Rattle.ds_log.specs.declared.Commit.{Commit};
-ghost use Rattle.ds_json_printing.specs.Printing.{natural, tagged, entity_data, key_data};
+ghost use Rattle.ds_json_printing.specs.Printing.{natural, tagged, key_data};
+ghost use Rattle.ds_reply.specs.EntityPrinting.{entity_data};
 ghost use Rattle.ds_journal_text.specs.Lawful.{IsLawfulCommit};
 ghost use Rattle.ds_journal_text.specs.Texts.{touch_data, touch_items, write_data, write_items, commit_line, commit_text, journal_text};
 ghost use Rattle.ds_journal_text.specs.Texts.{IsJournalOf};
@@ -11,8 +12,9 @@ ghost use Rattle.ds_journal_text.specs.Texts.{IsJournalOf};
 use crate::lawful::commit_is_lawful;
 use ds_base::{Buffer, ByteString, Key, NoMemory};
 use ds_entity::Entity;
-use ds_json_printing::{append_entity, append_key};
+use ds_json_printing::append_key;
 use ds_log::{Commit, Journal, Touch, Write};
+use ds_reply::append_entity;
 use std::alloc::Global;
 
 /// Puts the line of a commit with this number, which counts from 1, at the end of `onto`: one JSON object in compact text with its members

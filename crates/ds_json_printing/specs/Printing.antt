@@ -1,8 +1,7 @@
--- Keys, values, entities and index values as JSON.
+-- Keys, values and index values as JSON.
 use Rattle.std.specs.Prelude.{ℕ, ℤ, List, [], ◌∷◌, Bool, Option, Some, None, cond, codes}
 use Rattle.std.specs.Str.{is_utf8}
-use Rattle.serde_json.specs.Data.{Data, unsigned, null, boolean, number, string, array, object, Items, no_items, item, Members, no_members}
-use Rattle.serde_json.specs.Data.{member}
+use Rattle.serde_json.specs.Data.{Data, unsigned, null, boolean, number, string, array, Items, no_items, item}
 use Rattle.serde_json.specs.Find.{of_integer}
 use Rattle.base64.specs.Engines.{standard}
 use Rattle.base64.specs.GeneralPurpose.{encode_of}
@@ -13,9 +12,7 @@ use Rattle.ds_base.specs.declared.value.Value.{Value}
 use Rattle.ds_base.specs.declared.value.Value.TheVariants as value
 use Rattle.ds_base.specs.declared.index_value.IndexValue.{IndexValue}
 use Rattle.ds_base.specs.declared.index_value.IndexValue.TheVariants as index
-use Rattle.ds_entity.specs.declared.entity.Property.{Property}
 use Rattle.ds_base.specs.Keys.{KeyParts}
-use Rattle.ds_entity.specs.Entities.{EntityParts}
 use Rattle.ds_json_printing.specs.Objects.{named, object_of}
 
 abbrev pub natural : ℕ → Data
@@ -71,17 +68,6 @@ abbrev pub values_data : List Value → Data
 values_data (v ∷ []) = value_data v
 values_data vs = array (value_items vs)
 
-abbrev pub property_data : Property → Data
-property_data p = cond p.indexed (values_data p.values) (tagged (codes "unindexed") (values_data p.values))
-
--- an entity's properties stand by name already
-abbrev pub property_members : List Property → Members
-property_members [] = no_members
-property_members (p ∷ ps) = member p.name (property_data p) (property_members ps)
-
-abbrev pub entity_data : EntityParts → Data
-entity_data e = object_of (named (codes "key") (key_data e.key) ∷ named (codes "properties") (object (property_members e.properties)) ∷ [])
-
 -- an index value shows a byte sequence as a text where it is UTF-8
 abbrev pub index_value_data : IndexValue → Data
 index_value_data index.Null = null
@@ -91,10 +77,6 @@ index_value_data (index.Bytes s) = cond (is_utf8 s) (string s) (tagged (codes "b
 index_value_data (index.Key k) = tagged (codes "key") (key_data k)
 
 -- null, where there is none
-abbrev pub optional_entity_data : Option EntityParts → Data
-optional_entity_data None = null
-optional_entity_data (Some e) = entity_data e
-
 abbrev pub optional_key_data : Option KeyParts → Data
 optional_key_data None = null
 optional_key_data (Some k) = key_data k

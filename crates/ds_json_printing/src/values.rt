@@ -1,9 +1,8 @@
-//! Values, index values and entities as JSON.
+//! Values and index values as JSON.
 ghost use Rattle.std.specs.Prelude.{◌∷◌, ◌++◌, [], false};
 ghost use Rattle.json.specs.Print.{quoted};
-ghost use Rattle.serde_json.specs.Written.{compact_text, items_text, members_text};
-ghost use Rattle.ds_json_printing.specs.Printing.{natural, integer, base64_data, key_data, value_data, value_items, values_data, property_data};
-ghost use Rattle.ds_json_printing.specs.Printing.{property_members, entity_data, optional_entity_data, index_value_data};
+ghost use Rattle.serde_json.specs.Written.{compact_text, items_text};
+ghost use Rattle.ds_json_printing.specs.Printing.{natural, integer, base64_data, key_data, value_data, value_items, values_data, index_value_data};
 
 use crate::keys::write_key;
 use crate::output::Output;
@@ -12,59 +11,9 @@ use crate::text::{
     write_text,
 };
 use ds_base::{ByteString, IndexValue, Key, TextString, Value};
-use ds_entity::{Entity, Property};
-
-/// Puts an entity.
-pub fn write_entity<O: Output>(entity: &Entity, out: &mut O)
-    ensures { O.Writes (compact_text (entity_data entity.now)) out.old out.new }
-{
-    out.put(b"{\"key\":");
-    write_key(entity.key(), out);
-    out.put(b",\"properties\":{");
-    write_properties(entity.properties().as_slice(), out);
-    out.put(b"}");
-}
-
-/// Puts an entity, or null.
-pub fn write_optional_entity<O: Output>(entity: &Option<Entity>, out: &mut O)
-    ensures { O.Writes (compact_text (optional_entity_data entity.now)) out.old out.new }
-{
-    match entity {
-        Some(entity) => write_entity(entity, out),
-        None => out.put(b"null"),
-    }
-}
-
-/// Puts the properties as members and the closing brace.
-fn write_properties<O: Output>(properties: &[Property], out: &mut O)
-    ensures { O.Writes (members_text false (property_members properties.now)) out.old out.new }
-{
-    let mut later = false;
-    for property in properties {
-        write_comma(later, out);
-        write_text(&property.name, out);
-        out.put(b":");
-        write_property(property, out);
-        later = true;
-    }
-    out.put(b"}");
-}
-
-/// Puts a property's values, and whether they are unindexed.
-fn write_property<O: Output>(property: &Property, out: &mut O)
-    ensures { O.Writes (compact_text (property_data property.now)) out.old out.new }
-{
-    if property.indexed {
-        write_values(property.values.as_slice(), out);
-    } else {
-        out.put(b"{\"unindexed\":");
-        write_values(property.values.as_slice(), out);
-        out.put(b"}");
-    }
-}
 
 /// Puts one value as itself, and several as an array.
-fn write_values<O: Output>(values: &[Value], out: &mut O)
+pub fn write_values<O: Output>(values: &[Value], out: &mut O)
     ensures { O.Writes (compact_text (values_data values.now)) out.old out.new }
 {
     if values.len() != 1 {

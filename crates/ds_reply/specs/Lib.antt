@@ -1,3 +1,4 @@
+pub mod EntityPrinting
 -- in the order in which they are best read
 pub mod Replies
 pub mod Refusals

@@ -12,7 +12,8 @@ use Rattle.ds_reply.specs.declared.reply.Body.{Body}
 use Rattle.ds_reply.specs.declared.reply.Body.TheVariants as body
 use Rattle.ds_reply.specs.declared.reply.Reply.{Reply}
 use Rattle.ds_json_printing.specs.Objects.{Named, named, object_of}
-use Rattle.ds_json_printing.specs.Printing.{natural, key_data, optional_entity_data}
+use Rattle.ds_json_printing.specs.Printing.{natural, key_data}
+use Rattle.ds_reply.specs.EntityPrinting.{optional_entity_data}
 use Rattle.ds_reply.specs.Results.{result_items, count_items}
 use Rattle.ds_reply.specs.Refusals.{counted, refusal_members}
 

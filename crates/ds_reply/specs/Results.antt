@@ -6,7 +6,8 @@ use Rattle.ds_base.specs.declared.column.Column.{Column}
 use Rattle.ds_entity.specs.declared.results.Item.{Item}
 use Rattle.ds_indexdef.specs.declared.IndexDef.{IndexDef}
 use Rattle.ds_json_printing.specs.Objects.{Named, named, object_of}
-use Rattle.ds_json_printing.specs.Printing.{natural, key_data, optional_entity_data, index_value_data}
+use Rattle.ds_json_printing.specs.Printing.{natural, key_data, index_value_data}
+use Rattle.ds_reply.specs.EntityPrinting.{optional_entity_data}
 use Rattle.ds_query.specs.declared.query.Select.{Select}
 use Rattle.ds_query.specs.declared.query.Select.TheVariants as select
 use Rattle.ds_query.specs.declared.refusal.Constraint.{Constraint}

@@ -6,7 +6,8 @@ use Rattle.ds_reply.specs.declared.member.Shown.TheVariants as shown
 use Rattle.ds_reply.specs.declared.member.Member.{Member}
 use Rattle.ds_reply.specs.MemberNames.{name_text}
 use Rattle.ds_json_printing.specs.Objects.{Named, named}
-use Rattle.ds_json_printing.specs.Printing.{natural, key_data, entity_data}
+use Rattle.ds_json_printing.specs.Printing.{natural, key_data}
+use Rattle.ds_reply.specs.EntityPrinting.{entity_data}
 use Rattle.ds_reply.specs.Results.{result_items, count_items, constraint_data, index_def_data}
 
 abbrev pub shown_data : Shown → Data

@@ -2,7 +2,8 @@
 ghost use Rattle.std.specs.Prelude.{◌≡◌, ◌≤◌, ◌+◌, ◌++◌, map, length};
 ghost use Rattle.serde_json.specs.Data.{string, array};
 ghost use Rattle.arrayvec.specs.ArrayVec.{array_vec_len};
-ghost use Rattle.ds_json_printing.specs.Printing.{natural, key_data, optional_key_data, optional_entity_data};
+ghost use Rattle.ds_json_printing.specs.Printing.{natural, key_data, optional_key_data};
+ghost use Rattle.ds_reply.specs.EntityPrinting.{optional_entity_data};
 ghost use Rattle.ds_reply.specs.Results.{result_items, count_items};
 ghost use Rattle.ds_json_printing.specs.Objects.{named};
 ghost use Rattle.ds_reply.specs.MemberNames.{name_text};

@@ -5,13 +5,12 @@ ghost use Rattle.ds_json_printing.specs.Objects.{object_of};
 ghost use Rattle.ds_reply.specs.Orders.{members_at, member_text};
 ghost use Rattle.ds_reply.specs.Shown.{shown_data, member_named};
 
+use crate::entities::write_entity;
 use crate::member::{Member, Shown};
 use crate::member_name::write_name;
 use crate::order::places_by_name;
 use crate::results::{write_constraint, write_counts, write_index_def, write_results};
-use ds_json_printing::{
-    Output, write_boolean, write_entity, write_key, write_natural, write_string,
-};
+use ds_json_printing::{Output, write_boolean, write_key, write_natural, write_string};
 
 /// Puts the object of these members, by name in byte order, whatever the order in which they are given.
 pub(crate) fn write_object<O: Output>(members: &[Member], out: &mut O)

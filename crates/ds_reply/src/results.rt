@@ -5,13 +5,13 @@ ghost use Rattle.ds_reply.specs.Results.{count_items, column_data, column_items,
 ghost use Rattle.ds_reply.specs.Results.{result_items};
 ghost use Rattle.ds_reply.specs.Orders.{IsOrder};
 
+use crate::entities::write_optional_entity;
 use crate::projection::{Order, order_of, write_projected};
 use ds_base::{Column, IndexValue, TextString};
 use ds_entity::Item;
 use ds_indexdef::IndexDef;
 use ds_json_printing::{
-    Output, write_boolean, write_comma, write_index_value, write_key, write_natural,
-    write_optional_entity, write_text,
+    Output, write_boolean, write_comma, write_index_value, write_key, write_natural, write_text,
 };
 use ds_query::{Constraint, Select};
 

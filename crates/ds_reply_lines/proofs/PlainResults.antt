@@ -14,7 +14,8 @@ use Rattle.ds_bytes.specs.Lawful.{IsLawfulValue}
 use Rattle.ds_query.specs.declared.query.Select.{Select}
 use Rattle.ds_query.specs.declared.query.Select.TheVariants as select
 use Rattle.ds_json_printing.specs.Objects.{put_each}
-use Rattle.ds_json_printing.specs.Printing.{base64_data, index_value_data, key_data, optional_entity_data, tagged}
+use Rattle.ds_json_printing.specs.Printing.{base64_data, index_value_data, key_data, tagged}
+use Rattle.ds_reply.specs.EntityPrinting.{optional_entity_data}
 use Rattle.ds_reply.specs.Results.{projected, result_data, result_items}
 use Rattle.ds_journal_text.specs.Lawful.{IsLawfulEntity}
 use Rattle.ds_journal_text.proofs.CommitsPlain.{base64_plain, entity_plain, integer_plain, key_plain, one_member}

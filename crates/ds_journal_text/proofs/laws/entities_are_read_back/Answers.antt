@@ -1,4 +1,4 @@
-use Rattle.ds_json_printing.specs.Printing.{entity_data}
+use Rattle.ds_reply.specs.EntityPrinting.{entity_data}
 use Rattle.ds_journal_text.proofs.CommitsBack.{text_back}
 use Rattle.ds_journal_text.proofs.CommitsPlain.{entity_plain}
 use Rattle.ds_journal_text.proofs.EntitiesBack.{entity_back}

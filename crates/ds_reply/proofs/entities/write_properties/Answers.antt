@@ -1,8 +1,8 @@
 use Rattle.std.proofs.Common.{refl, List, ℕ}
 use Rattle.ds_entity.specs.declared.entity.Property.{Property}
-use Rattle.ds_json_printing.specs.Printing.{property_members, property_data}
+use Rattle.ds_reply.specs.EntityPrinting.{property_members, property_data}
 use Rattle.ds_json_printing.proofs.Chains.{members-more}
-use Rattle.ds_json_printing.proofs.values.write_properties.Goals as goal
+use Rattle.ds_reply.proofs.entities.write_properties.Goals as goal
 
 pub loop-property-preserved : goal.loop-property-preserved
 loop-property-preserved g c =

@@ -1,5 +1,5 @@
 use Rattle.json.specs.Print.{escape_byte}
-use Rattle.ds_json_printing.proofs.values.write_property.Goals as goal
+use Rattle.ds_reply.proofs.entities.write_property.Goals as goal
 
 pub returns-else-property : goal.returns-else-property
 unfolding escape_byte

@@ -1,5 +1,5 @@
 use Rattle.json.specs.Print.{escape_byte}
-use Rattle.ds_json_printing.proofs.values.write_entity.Goals as goal
+use Rattle.ds_reply.proofs.entities.write_entity.Goals as goal
 
 pub returns : goal.returns
 unfolding escape_byte
