@@ -5,7 +5,7 @@ use Rattle.std.specs.Prelude.{is_some}
 use Rattle.std.proofs.lemmas.List.{append-nil}
 use Rattle.std.proofs.Math.Seq.{drop-append_seam, drop-length}
 use Rattle.ds_hub.specs.Line.{HubId, Line}
-use Rattle.ds_hub.specs.Logs.{Fits, taken_in, told_by, queued, IsMarked}
+use Rattle.ds_hub.specs.Logs.{Fits, changed, taken_in, told_by, queued, IsMarked}
 use Rattle.ds_hub.specs.Holding.{IsOf}
 use Rattle.ds_hub.specs.Running.{IsRunning, unseen}
 use Rattle.ds_hub.specs.declared.version.Logged.{Logged}
@@ -18,11 +18,11 @@ queued-none log (Some x) is = absurd (cc)
 
 module _ {O E : Type 0} (asks : E → O) where
   abbrev pub logged : O → Line E → Logged O E
-  logged operation mark = record { operation = operation; mark = mark }
+  logged operation mark = record { operation = Some operation; mark = mark }
 
   pub marked_more : (line : Line E) (log : List (Logged O E)) (told : List E) (op : O) (t : E) (mark : Line E) → IsMarked asks line log told
       → mark.hub ≡ line.hub → mark.list ≡ (line.list ++ told) ++ t ∷ [] → asks t ≡ op → IsMarked asks line (log ++ logged op mark ∷ []) (told ++ t ∷ [])
-  marked_more line [] [] op t mark m hub list is = (hub, list ∙ ap (λ l. l ++ t ∷ []) (append-nil line.list), is, tt)
+  marked_more line [] [] op t mark m hub list is = (hub, list ∙ ap (λ l. l ++ t ∷ []) (append-nil line.list), ap Some is, tt)
   marked_more line [] (u ∷ told) op t mark m hub list is = absurd m
   marked_more line (l ∷ log) [] op t mark m hub list is = absurd m
   marked_more line (l ∷ log) (u ∷ told) op t mark m hub list is = (
@@ -65,8 +65,8 @@ module _ {T O E : Type 0} (asks : E → O) (applied : T → O → T) where
   taken state line [] (u ∷ told) m = absurd m
   taken state line (l ∷ log) [] m = absurd m
   taken state line (l ∷ log) (u ∷ told) m =
-      taken (applied state l.operation) l.mark log told m.3
-      ∙ ap (λ o. (fold (told_by asks applied) (applied state o) told, last_mark asks l.mark log)) (sym m.2)
+      taken (changed applied state l.operation) l.mark log told m.3
+      ∙ ap (λ o. (fold (told_by asks applied) (changed applied state o) told, last_mark asks l.mark log)) (sym m.2)
 
   pub runs_added : (hub : HubId) (knows : Option (Origin T E)) (state : T) (shown : Line E) (log : List (Logged O E)) (announced mark : Line E) (waiting : ℕ) (op : O) (t : E)
       → IsRunning asks applied hub knows state shown log announced waiting → length shown.list + length (unseen shown announced) < 2 ^ 62

@@ -10,9 +10,14 @@ use Rattle.ds_hub.specs.declared.rule.Origin.{Origin}
 abbrev pub told_by : {T O E : Type 0} → (E → O) → (T → O → T) → T → E → T
 told_by asks applied state told = applied state (asks told)
 
+-- an operation changes the state, and where there is none the state stays
+abbrev pub changed : {T O : Type 0} → (T → O → T) → T → Option O → T
+changed applied state None = state
+changed applied state (Some operation) = applied state operation
+
 -- an operation changes the state, and its mark says which operations are in it then
 abbrev pub taken_in : {T O E : Type 0} → (T → O → T) → T × Line E → Logged O E → T × Line E
-taken_in applied (state, line) logged = (applied state logged.operation, logged.mark)
+taken_in applied (state, line) logged = (changed applied state logged.operation, logged.mark)
 
 module _ {T E : Type 0} where
   -- Whoever knows where the hub begins: the copy that is shown is of this hub, and is the fold of its prefix from there
@@ -36,5 +41,5 @@ module _ {O E : Type 0} where
   IsMarked asks line [] (t ∷ told) = ⊥
   IsMarked asks line (logged ∷ log) [] = ⊥
   IsMarked asks line (logged ∷ log) (t ∷ told) =
-      (logged.mark.hub ≡ line.hub) × (logged.mark.list ≡ line.list ++ t ∷ []) × (asks t ≡ logged.operation)
+      (logged.mark.hub ≡ line.hub) × (logged.mark.list ≡ line.list ++ t ∷ []) × (Some (asks t) ≡ logged.operation)
       × IsMarked asks logged.mark log told

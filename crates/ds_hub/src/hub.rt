@@ -1,5 +1,5 @@
 //! How a hub is made.
-ghost use Rattle.std.specs.Prelude.{◌≡◌, ◌++◌, ◌<◌, [], Some, None, false, replicate, IfOk};
+ghost use Rattle.std.specs.Prelude.{◌≡◌, ◌++◌, ◌∷◌, ◌<◌, [], Some, None, false, replicate, IfOk};
 ghost use Rattle.left_right.specs.Sides.{view as knows};
 ghost use Rattle.ds_hub.specs.Holding.{IsOf, start_of};
 
@@ -9,8 +9,8 @@ use crate::copies::Copies;
 use crate::prefix::{Head, Prefix};
 use crate::reader::{IdleReader, Reader};
 use crate::readers::Readers;
-use crate::rule::{Begins, HandsOn};
-use crate::version::Version;
+use crate::rule::{Begins, HandsOn, Stays};
+use crate::version::{Logged, Version};
 use crate::writer::{Ruled, Writer};
 use std::alloc::{AllocError, Global};
 use std::sync::Wait;
@@ -23,7 +23,8 @@ pub struct Hub<O: Drop, S: Absorb<O> + Drop> {
 }
 
 /// Makes a hub of two equal states, with so many readers. The hub begins with that state, to which no operation of this hub was
-/// applied: nothing is published or pending, and no reader has seen anything. A place for a reader that `left_right` refuses is
+/// applied: nothing is published or pending, and no reader has seen anything. Its log has room for two operations from the start, which
+/// it keeps: so many are in it at most where each operation is published before the next is added. A place for a reader that `left_right` refuses is
 /// asked for again, after a yield: `left_right` refuses one without cause only while readers come and go. `Err` is want of memory.
 pub fn make<O: Drop, S: Absorb<O> + Drop, Rt: Wait>(
     rt: &Rt,
@@ -58,7 +59,7 @@ pub fn make<O: Drop, S: Absorb<O> + Drop, Rt: Wait>(
     })
 }
 
-// The two copies, where the writer was told where the hub begins.
+// The two copies, where the writer was told where the hub begins, with room in the log.
 fn open<O: Drop, S: Absorb<O> + Drop, R: Wait>(
     rt: &R,
     alloc: Global,
@@ -83,12 +84,52 @@ fn open<O: Drop, S: Absorb<O> + Drop, R: Wait>(
         prefix: prefix.duplicate(),
     };
     let mut copies = Copies::new(alloc, first, second, readers)?;
-    match copies.publish_as::<Begins<O>, R>(rt) {
+    match begin(rt, &mut copies, prefix) {
         Ok(()) => Ok(copies),
         Err(refused) => {
             copies.end(rt);
             Err(refused)
         }
+    }
+}
+
+// Tells the writer where the hub begins. Two entries that change nothing go through the log, so that it has room for two operations,
+// which it keeps: the one that the spare copy lacks, and the next. `Err` is want of memory.
+fn begin<O: Drop, S: Absorb<O> + Drop, R: Wait>(
+    rt: &R,
+    copies: &mut Ruled<O, S>,
+    prefix: &Prefix<S::Told>,
+) -> Result<(), AllocError>
+    requires here { copies.old.shown.prefix ≡ prefix.now }
+    requires empty { prefix.now.list ≡ [] }
+    requires idle { copies.old.log ≡ [] }
+    ensures shown { IfOk result (λ _. (copies.new.shown.prefix ≡ prefix.now)
+        × (S.state copies.new.shown.state ≡ S.state copies.old.shown.state) × (copies.new.log ≡ [])) }
+    ensures knows { IfOk result (λ _. copies.new.knows
+        ≡ Some (record { start = S.state copies.old.shown.state; prefix = prefix.now })) }
+{
+    append_nothing(copies, prefix)?;
+    append_nothing(copies, prefix)?;
+    copies.publish_as::<Begins<O>, R>(rt)?;
+    copies.publish_as::<Stays<O>, R>(rt)
+}
+
+// Puts an entry into the log that changes nothing. `Err` is want of memory.
+fn append_nothing<O: Drop, S: Absorb<O> + Drop>(
+    copies: &mut Ruled<O, S>,
+    prefix: &Prefix<S::Told>,
+) -> Result<(), AllocError>
+    ensures { IfOk result (λ _. copies.new ≡ record copies.old {
+      log = copies.old.log ++ record { operation = None; mark = prefix.now } ∷ [];
+    }) }
+{
+    let nothing = Logged {
+        operation: None,
+        mark: prefix.duplicate(),
+    };
+    match copies.append(nothing) {
+        Ok(()) => Ok(()),
+        Err(_) => Err(AllocError),
     }
 }
 

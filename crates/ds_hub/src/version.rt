@@ -1,4 +1,8 @@
 //! What readers and the writer share: a state beside the prefix that says which operations are in it.
+ghost use Rattle.std.specs.Prelude.{◌≡◌, IsOk, MatchResult};
+ghost use Rattle.ds_hub.specs.Logs.{changed};
+
+use crate::NoMemory;
 use crate::absorb::Absorb;
 use crate::prefix::Prefix;
 use std::alloc::AllocError;
@@ -10,10 +14,11 @@ pub struct Version<E, S: Drop> {
     pub prefix: Prefix<E>,
 }
 
-/// What a copy takes in: an operation, with the mark that says which operations are in the state after it.
+/// What a copy takes in: an operation, with the mark that says which operations are in the state after it. Where there is no
+/// operation it changes nothing.
 #[derive(Drop)]
 pub struct Logged<O: Drop, E> {
-    pub operation: O,
+    pub operation: Option<O>,
     pub mark: Prefix<E>,
 }
 
@@ -33,7 +38,7 @@ impl<O: Drop, S: Absorb<O> + Drop> left_right::Absorb<Logged<O, S::Told>> for Ve
         logged: &Logged<O, S::Told>,
         _other: &Version<S::Told, S>,
     ) -> Result<(), AllocError> {
-        self.state.absorb(&logged.operation)?;
+        take_in(&mut self.state, &logged.operation)?;
         self.prefix = logged.mark.duplicate();
         Ok(())
     }
@@ -44,12 +49,42 @@ impl<O: Drop, S: Absorb<O> + Drop> left_right::Absorb<Logged<O, S::Told>> for Ve
         _other: &Version<S::Told, S>,
     ) -> Result<(), Logged<O, S::Told>> {
         let Logged { operation, mark } = logged;
-        match self.state.absorb_second(operation) {
+        match take_in_second(&mut self.state, operation) {
             Ok(()) => {
                 self.prefix = mark;
                 Ok(())
             }
             Err(operation) => Err(Logged { operation, mark }),
         }
+    }
+}
+
+// Takes in an operation, if there is one, as `absorb` does.
+fn take_in<O: Drop, S: Absorb<O>>(state: &mut S, operation: &Option<O>) -> Result<(), NoMemory>
+    ensures absorbed { MatchResult result (λ _. S.state state.new ≡ changed S.applied (S.state state.old) operation.now)
+        (λ _. S.state state.new ≡ S.state state.old) }
+    ensures succeeds { S.never_fails → IsOk result }
+{
+    match operation {
+        None => Ok(()),
+        Some(operation) => state.absorb(operation),
+    }
+}
+
+// Takes in an operation, if there is one, as `absorb_second` does.
+fn take_in_second<O: Drop, S: Absorb<O>>(
+    state: &mut S,
+    operation: Option<O>,
+) -> Result<(), Option<O>>
+    ensures absorbed { MatchResult result (λ _. S.state state.new ≡ changed S.applied (S.state state.old) operation)
+        (λ back. (back ≡ operation) × (S.state state.new ≡ S.state state.old)) }
+    ensures succeeds { S.never_fails → IsOk result }
+{
+    match operation {
+        None => Ok(()),
+        Some(operation) => match state.absorb_second(operation) {
+            Ok(()) => Ok(()),
+            Err(operation) => Err(Some(operation)),
+        },
     }
 }

@@ -97,7 +97,7 @@ impl<O: Drop, S: Absorb<O> + Drop> Writer<O, S> {
             return Err(op);
         }
         let logged = Logged {
-            operation: op,
+            operation: Some(op),
             mark: self.announced.duplicate(),
         };
         self.parked = let_in(&mut self.copies, Some(logged));
@@ -117,7 +117,8 @@ impl<O: Drop, S: Absorb<O> + Drop> Writer<O, S> {
         self.add_as::<S::Told, Itself>(op, told)
     }
 
-    /// Takes in the operation that is kept aside, if there is one: it waits until there is memory for it.
+    /// Takes in the operation that is kept aside, if there is one: it waits until there is memory for it. In a hub whose
+    /// operations are each published before the next is added it never waits, since `make` took the room for them.
     pub fn take_in_parked<Rt: Wait>(&mut self, rt: &Rt)
         ensures { self.new ≡ record self.old { is_parked = false } }
     {
