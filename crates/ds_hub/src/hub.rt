@@ -23,9 +23,10 @@ pub struct Hub<O: Drop, S: Absorb<O> + Drop> {
 }
 
 /// Makes a hub of two equal states, with so many readers. The hub begins with that state, to which no operation of this hub was
-/// applied: nothing is published or pending, and no reader has seen anything. Its log has room for two operations from the start, which
-/// it keeps: so many are in it at most where each operation is published before the next is added. A place for a reader that `left_right` refuses is
-/// asked for again, after a yield: `left_right` refuses one without cause only while readers come and go. `Err` is want of memory.
+/// applied: nothing is published or pending, and no reader has seen anything. Its log has room for two operations from the start,
+/// and keeps it: no more are in it where each operation is published before the next is added. A place for a reader that
+/// `left_right` refuses is asked for again, after a yield: `left_right` refuses one without cause only while readers come and go.
+/// `Err` is want of memory.
 pub fn make<O: Drop, S: Absorb<O> + Drop, Rt: Wait>(
     rt: &Rt,
     alloc: Global,
@@ -93,8 +94,8 @@ fn open<O: Drop, S: Absorb<O> + Drop, R: Wait>(
     }
 }
 
-// Tells the writer where the hub begins. Two entries that change nothing go through the log, so that it has room for two operations,
-// which it keeps: the one that the spare copy lacks, and the next. `Err` is want of memory.
+// Tells the writer where the hub begins. Two entries that change nothing go through the log, so that it has room for the operation
+// that the spare copy lacks and for the next. `Err` is want of memory.
 fn begin<O: Drop, S: Absorb<O> + Drop, R: Wait>(
     rt: &R,
     copies: &mut Ruled<O, S>,
