@@ -1,0 +1,6 @@
+pub mod ItemLaws
+pub mod MemberLaws
+pub mod NumberLaws
+pub mod OutcomeLaws
+pub mod TokenLaws
+pub mod WholeLaws
