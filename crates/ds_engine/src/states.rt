@@ -9,14 +9,12 @@
 //! ancestor, and `query_slot` searches the one shard of an ancestor's group.
 //!
 //! Begin with `specs/Searches`, then `searching`. `planning` has the plans, `snapshot` a shard at a stamp, `rows` what a shard gives,
-//! `items` what is told of each result, `cutting` the page of one shard's results, and `wide` the scans that run at once; `slots` and
-//! `group` are the calls of the store, whose promises are in `specs/Counted` and `specs/Groups`. What is proved of lists and views stands
-//! in `proofs/`: `ShardPages` (the page of what the shards give is that over all entities), `OneShard` (so is what the window cuts of one
-//! shard's results), `InShards` (an entity is found in the shard of its group), `GlobalPages` and `GroupPages` (these are the views of a
-//! journal), `FewerSteps` (sums of bounds).
+//! `items` what is told of each result, and `wide` the scans that run at once; `slots` and `group` are the calls of the store, whose
+//! promises are in `specs/Counted` and `specs/Groups`. What is proved of lists and views stands in `proofs/`: `ShardPages` (the page of
+//! what the shards give is that over all entities), `OneShard` (so is what the window cuts of one shard's results), `InShards` (an entity
+//! is found in the shard of its group), `GlobalPages` and `GroupPages` (these are the views of a journal), `FewerSteps` (sums of bounds).
 
 mod answer;
-mod cutting;
 mod group;
 mod items;
 mod planning;

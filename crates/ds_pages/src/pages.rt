@@ -1,4 +1,4 @@
-//! What a window gives of results.
+//! What a window gives of results in their order.
 ghost use Rattle.std.specs.Prelude.{◌≡◌, drop, fold, Some, IfOk};
 ghost use Rattle.ds_query.specs.declared.row.Row.{Row};
 ghost use Rattle.ds_pages.specs.Pages.{at_most, plus_limit};
@@ -16,9 +16,17 @@ pub(crate) fn page(alloc: Global, firsts: Vec<Row>, window: &Window) -> Result<R
     ensures next { IfOk result (λ m. m.next
         ≡ last_of window.now.start (at_most (plus_limit window.now.offset window.now.limit) firsts.items)) }
 {
-    let seen = seen(firsts, window);
-    let next = next_place(alloc, seen.as_slice(), &window.start)?;
-    let rows = RowList::from(without(seen, window.offset as usize)?);
+    cut(alloc, seen(firsts, window), window)
+}
+
+/// The page of rows that stand in their order, of each result one, as many as are skipped and taken: those that are left when the first
+/// are skipped, and the place of the last one. The rows are moved, and none is compared. A refusal is want of memory.
+pub fn cut(alloc: Global, rows: Vec<Row>, window: &Window) -> Result<RowPage, NoMemory>
+    ensures rows { IfOk result (λ m. m.rows ≡ drop window.now.offset rows.items) }
+    ensures next { IfOk result (λ m. m.next ≡ last_of window.now.start rows.items) }
+{
+    let next = next_place(alloc, rows.as_slice(), &window.start)?;
+    let rows = RowList::from(without(rows, window.offset as usize)?);
     Ok(RowPage { rows, next })
 }
 
@@ -34,10 +42,10 @@ fn seen(firsts: Vec<Row>, window: &Window) -> Vec<Row>
 }
 
 /// The place of the last row, or else the start.
-fn next_place(alloc: Global, seen: &[Row], start: &Option<Place>) -> Result<Option<Place>, NoMemory>
-    ensures { IfOk result (λ next. next ≡ last_of start.now seen.now) }
+fn next_place(alloc: Global, rows: &[Row], start: &Option<Place>) -> Result<Option<Place>, NoMemory>
+    ensures { IfOk result (λ next. next ≡ last_of start.now rows.now) }
 {
-    match seen.last() {
+    match rows.last() {
         Some(row) => Ok(Some(row.place.copy(alloc)?)),
         None => copied(alloc, start),
     }

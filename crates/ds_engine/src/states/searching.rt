@@ -10,7 +10,6 @@ ghost use Rattle.ds_engine.specs.Searches.{search_bound};
 ghost use Rattle.ds_engine.specs.Snapshots.{entities_in};
 
 use crate::laws::bounds_add_up;
-use crate::states::cutting::cut;
 use crate::states::items::items;
 use crate::states::rows::put_shard_rows;
 use crate::states::snapshot::ShardSnapshot;
@@ -18,7 +17,7 @@ use ds_base::{Names, NoMemory};
 use ds_entity::Results;
 use ds_indexdef::Defs;
 use ds_io::Steps;
-use ds_pages::{RowPage, page_of_rows};
+use ds_pages::{RowPage, cut, page_of_rows};
 use ds_planner::ScanPlan;
 use ds_query::{Branch, Normal, Place, Row, Select, Window};
 use std::alloc::Global;
