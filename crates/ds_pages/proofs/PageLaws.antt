@@ -16,7 +16,7 @@ use Rattle.ds_pages.specs.Pages.{at_most, plus_limit, first_of_each, first_rows,
 use Rattle.ds_pages.specs.declared.row_page.RowPage.{RowPage}
 use Rattle.ds_pages.specs.Marks.{is_same}
 use Rattle.ds_pages.specs.Places.{IsPlaced, parts_of, place_cmp, placed}
-use Rattle.ds_pages.specs.Pages.{last_of, page_of_rows}
+use Rattle.ds_pages.specs.Pages.{last_of, page_of, page_of_rows, with_places}
 use Rattle.ds_pages.specs.Slots.{slot_of}
 use Rattle.ds_pages.proofs.FirstLaws.{first_of_each-map}
 use Rattle.ds_pages.proofs.MarkLaws.{is_same-placed}
@@ -32,6 +32,22 @@ at_most-map : {A B : Type 0} (f : A → B) (most : Option ℕ) (xs : List A) →
 at_most-map f None xs = refl
 at_most-map f (Some most) xs = take-map f most xs
 
+-- the page of rows that have their places is that of the rows
+pub page_taken : (columns : List Column) (w : Window) (firsts : List RowParts) (kept : List Row) (m : RowPage)
+    → kept ≡ map (placed columns) firsts → m.rows ≡ at_most w.limit (drop w.offset kept)
+    → m.next ≡ last_of w.start (at_most (plus_limit w.offset w.limit) kept)
+    → m ≡ with_places columns (page_of columns w firsts)
+page_taken columns w firsts kept m are some next =
+    let given : m.rows ≡ map (placed columns) (at_most w.limit (drop w.offset firsts)) =
+    some ∙ ap (λ ks. at_most w.limit (drop w.offset ks)) are ∙ ap (at_most w.limit) (drop-map (placed columns) w.offset firsts)
+    ∙ at_most-map (placed columns) w.limit (drop w.offset firsts) in
+    let last : m.next ≡ (page_of columns w firsts).next =
+    next ∙ ap (λ ks. last_of w.start (at_most (plus_limit w.offset w.limit) ks)) are
+    ∙ ap (last_of w.start) (at_most-map (placed columns) (plus_limit w.offset w.limit) firsts)
+    ∙ fold-map (λ (place : Option Place) (row : Row). Some row.place) (placed columns) w.start
+    (at_most (plus_limit w.offset w.limit) firsts) in
+    λ i. record { rows = given i; next = last i }
+
 pub page_is : (columns : List Column) (names : List (List ℕ)) (w : Window) (slots : List (Option ℕ)) (rows sorted kept : List Row)
     (m : RowPage)
     → All (IsPlaced columns) rows → slots ≡ map (slot_of columns) names → IsSorted place_cmp sorted → IsPermutation rows sorted
@@ -45,15 +61,7 @@ page_is columns names w slots rows sorted kept m p where_they_stand up moved fir
     ∙ (λ i. first_of_each (is_same (where_they_stand i)) (sorted_rows columns rows sorted p up moved i))
     ∙ first_of_each-map (placed columns) (is_same (map (slot_of columns) names)) (same_mark columns names) (is_same-placed columns names)
     (sorted_by (compare_rows columns) (map parts_of rows)) in
-    let given : m.rows ≡ map (placed columns) (at_most w.limit (drop w.offset firsts)) =
-    some ∙ ap (λ ks. at_most w.limit (drop w.offset ks)) are ∙ ap (at_most w.limit) (drop-map (placed columns) w.offset firsts)
-    ∙ at_most-map (placed columns) w.limit (drop w.offset firsts) in
-    let last : m.next ≡ (page_of_rows columns names w (map parts_of rows)).next =
-    next ∙ ap (λ ks. last_of w.start (at_most (plus_limit w.offset w.limit) ks)) are
-    ∙ ap (last_of w.start) (at_most-map (placed columns) (plus_limit w.offset w.limit) firsts)
-    ∙ fold-map (λ (place : Option Place) (row : Row). Some row.place) (placed columns) w.start
-    (at_most (plus_limit w.offset w.limit) firsts) in
-    λ i. record { rows = given i; next = last i }
+    page_taken columns w firsts kept m are some next
 
 -- two facts about a page that there is give a third one
 pub given_both : {A E : Type 0} {P Q R : A → Type 0} (r : Result A E) → IfOk r P → IfOk r Q → ((a : A) → P a → Q a → R a) → IfOk r R

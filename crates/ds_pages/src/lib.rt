@@ -1,7 +1,7 @@
 //! Rows with their places: of each result the first row, and the page that a window gives of them.
 //!
-//! It stands on `ds_query` (rows, branches and windows) and `ds_bytes` (the encoding of values and keys). Begin with `paging`, whose call
-//! gives the page of rows in any order; `first_rows` keeps of rows that come one by one the first of each result, `marks` tells what
+//! It stands on `ds_query` (rows, branches and windows) and `ds_bytes` (the encoding of values and keys). Begin with `paging`, whose calls
+//! give the page of rows in any order; `first_rows` keeps of rows that come one by one the first of each result, `marks` tells what
 //! makes two rows one result, `joining` joins lists, `pages` skips and takes (`cut` alone does for results that come in their order),
 //! `places` writes a row's place, and `extending` puts a branch's row into the merged columns. The definitions stand in `specs/`:
 //! `Columns` (a row's values by name), `Places` (the order of rows, as bytes), `Pages` (first occurrence and windows), `Extended` (merged
@@ -23,6 +23,6 @@ pub use extending::extended_values;
 pub use first_rows::FirstRows;
 pub use joining::joined;
 pub use pages::cut;
-pub use paging::page_of_rows;
+pub use paging::{page_of_results, page_of_rows};
 pub use places::{Directions, directions_of, place_of, placed};
 pub use row_page::RowPage;

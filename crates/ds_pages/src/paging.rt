@@ -1,8 +1,10 @@
 //! The page of rows in any order.
-ghost use Rattle.std.specs.Prelude.{◌≡◌, All, map, IfOk};
+ghost use Rattle.std.specs.Prelude.{◌≡◌, All, List, map, IfOk};
 ghost use Rattle.std.specs.List.Sorted.{IsSorted, IsPermutation};
-ghost use Rattle.ds_pages.specs.Pages.{page_of_rows};
-ghost use Rattle.ds_pages.specs.Places.{IsPlaced, parts_of, place_cmp};
+ghost use Rattle.ds_base.specs.declared.column.Column.{Column};
+ghost use Rattle.ds_base.specs.Sorting.{sorted_by};
+ghost use Rattle.ds_pages.specs.Pages.{page_of, page_of_rows, with_places};
+ghost use Rattle.ds_pages.specs.Places.{IsPlaced, compare_rows, parts_of, place_cmp};
 
 use crate::firsts::firsts;
 use crate::marks::slots;
@@ -30,6 +32,18 @@ pub fn page_of_rows(
     let sorted = sorted(rows)?;
     let firsts = firsts(alloc, sorted, slots.as_slice())?;
     page(alloc, firsts, window)
+}
+
+/// The page of rows in any order of which each is a result of its own: in the order of their places, skipped and taken by the window.
+///
+/// The rows are moved, and their keys and values aren't compared. n rows take the time n log n, and rows in order n: the sort keeps
+/// ascending runs and merges them. A refusal is want of memory.
+pub fn page_of_results(alloc: Global, rows: Vec<Row>, window: &Window) -> Result<RowPage, NoMemory>
+    ensures { (columns : List Column) → All (IsPlaced columns) rows.items → IfOk result (λ page. page
+        ≡ with_places columns (page_of columns window.now (sorted_by (compare_rows columns) (map parts_of rows.items)))) }
+{
+    let sorted = sorted(rows)?;
+    page(alloc, sorted, window)
 }
 
 /// The rows in the order of their places. Ascending runs are kept and merged.
