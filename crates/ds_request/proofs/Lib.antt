@@ -2,4 +2,5 @@ pub mod ArraysLemmas
 pub mod ClientLemmas
 pub mod EntitiesLemmas
 pub mod SeveralLemmas
+pub mod FoundLemmas
 pub mod LawfulLemmas

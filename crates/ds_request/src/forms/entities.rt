@@ -1,8 +1,9 @@
 //! Entities: a key and properties.
-ghost use Rattle.std.specs.Prelude.{◌≡◌, [], IfOk, option_map};
+ghost use Rattle.std.specs.Prelude.{◌≡◌, [], Some, IfOk, codes, option_map};
+ghost use Rattle.std.specs.Option.{option_or};
 ghost use Rattle.serde_json.specs.Data.{object};
 ghost use Rattle.serde_json.specs.View.{view, members_view};
-ghost use Rattle.ds_json_reading.specs.Reading.{Reads, defaulted};
+ghost use Rattle.ds_json_reading.specs.Reading.{Reads, defaulted, member_of};
 ghost use Rattle.ds_request.specs.Entities.{property_with, property_of, properties_of, entity_of, ArePut};
 
 use crate::call::Call;
@@ -83,18 +84,30 @@ fn read_entity(alloc: Global, members: Members) -> Result<Written, Refusal>
     })
 }
 
-/// The two members of an entity that are read; null counts as absent.
-fn key_and_properties(members: Members) -> (Option<Value>, Option<Value>) {
+/// The two members of an entity that are read, by one pass over all; null counts as absent.
+fn key_and_properties(members: Members) -> (Option<Value>, Option<Value>)
+    ensures key { option_map view result.0 ≡ member_of (codes "key") (members_view members.entries) }
+    ensures properties { option_map view result.1 ≡ member_of (codes "properties") (members_view members.entries) }
+{
     let mut key = None;
     let mut properties = None;
     for (name, value) in members {
         match name.as_str() {
-            "key" => key = unless_null(Some(value)),
-            "properties" => properties = unless_null(Some(value)),
+            "key" => keep_first(&mut key, value),
+            "properties" => keep_first(&mut properties, value),
             _ => {}
         }
     }
-    (key, properties)
+    (unless_null(key), unless_null(properties))
+}
+
+/// Keeps this value where none was found before.
+fn keep_first(found: &mut Option<Value>, value: Value)
+    ensures { found.new ≡ option_or found.old (Some value) }
+{
+    if let None = found {
+        *found = Some(value);
+    }
 }
 
 /// Reads properties by name; none where the member is absent. An object of 2^32 properties or more, for which a line has no
