@@ -4,7 +4,7 @@ use Rattle.json.specs.Token.{Token}
 use Rattle.json.specs.Json as json
 use Rattle.json.specs.Json.{Parse, value, items, items_step, parse_map, after_end_array}
 use Rattle.json.proofs.Grammar.{after_end_array-shorter, items_end, items_more}
-use Rattle.serde_json.specs.Data.{Data, Items, item}
+use Rattle.serde_json.specs.Data.{Data, item}
 use Rattle.serde_json.specs.Read.{of_json, of_items}
 use Rattle.serde_json.specs.View.{view, items_of, items_view}
 use Rattle.serde_json.specs.declared.value.Value.{Value}

@@ -3,4 +3,3 @@ pub mod MemberLaws
 pub mod NumberLaws
 pub mod OutcomeLaws
 pub mod TokenLaws
-pub mod WholeLaws

@@ -1,5 +1,5 @@
 -- The number of a text, with a minus in front and without.
-use Rattle.std.proofs.Common.{◌≡◌, ℕ, List, Bool, true, false, ◌==◌, slice_index, drop}
+use Rattle.std.proofs.Common.{◌≡◌, ℕ, List, true, false, ◌==◌, slice_index, drop}
 use Rattle.fast_float.specs.Text.{scan}
 use Rattle.serde_json.specs.Read.{number_of, number_from}
 

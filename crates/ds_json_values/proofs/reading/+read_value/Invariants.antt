@@ -1,4 +1,4 @@
-use Rattle.std.proofs.Common.{ℕ, ◌+◌, ◌*◌, length}
+use Rattle.std.proofs.Common.{◌+◌, ◌*◌, length}
 use Rattle.ds_json_values.proofs.ItemLaws.{ItemsSoFar}
 use Rattle.ds_json_values.proofs.MemberLaws.{MembersSoFar}
 use Rattle.ds_json_values.proofs.reading.+read_value.Given as goal
