@@ -12,6 +12,7 @@ use ds_protocol::ask;
 use ds_reply::Body;
 use ds_request::Request;
 use ds_rounds::{Line, Lines, Round};
+use json::Scratch;
 use std::alloc::{AllocError, Global};
 
 /// What a line asks, or what its reply says instead.
@@ -36,9 +37,16 @@ pub fn asked_by_client(
     ensures { IfOk result (λ lists. AreAskedBy shards (lines_of_round round.now) lists.items) }
 {
     let mut lists = empty_lists(alloc)?;
+    let mut scratch = Scratch::new(alloc);
     for i in 0..round.lines.len() {
         let number = round.first + i as u64;
-        let asked = asked_line(alloc, shards, number, line_at(&round.lines, i))?;
+        let asked = asked_line_with(
+            alloc,
+            shards,
+            number,
+            line_at(&round.lines, i),
+            &mut scratch,
+        )?;
         put(&mut lists, asked)?;
     }
     Ok(lists)
@@ -76,7 +84,22 @@ pub fn asked_line(
     requires { IsWithinLimit line }
     ensures { IfOk result (λ a. Asks shards (record { number = number; content = handed line.entry }) a) }
 {
-    match ask(alloc, shards, line) {
+    let mut scratch = Scratch::new(alloc);
+    asked_line_with(alloc, shards, number, line, &mut scratch)
+}
+
+/// The same over memory that is kept from line to line.
+fn asked_line_with(
+    alloc: Global,
+    shards: u32,
+    number: u64,
+    line: Line<'_>,
+    scratch: &mut Scratch,
+) -> Result<Asked, AllocError>
+    requires { IsWithinLimit line }
+    ensures { IfOk result (λ a. Asks shards (record { number = number; content = handed line.entry }) a) }
+{
+    match ask(alloc, shards, line, scratch) {
         Ok(request) => Ok(Asked {
             client: request.client,
             number,

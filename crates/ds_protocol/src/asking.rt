@@ -9,8 +9,9 @@ ghost use Rattle.ds_protocol.specs.Quiet.{IsQuiet};
 
 use ds_query::Field;
 use ds_reply::Body;
-use ds_request::{Call, Request, RequestRefused, read_request};
+use ds_request::{Call, Request, RequestRefused, read_request_with};
 use ds_rounds::Line;
+use json::Scratch;
 use std::alloc::Global;
 
 /// Why a line asks nothing: whose line it is, and what its reply says.
@@ -24,9 +25,15 @@ pub struct Refused {
 
 /// The request of a line to a server of so many shards, or the refusal that comes before anything else is looked at: what the tables of
 /// requests say of its bytes, and a shard that isn't below the number of shards. A line that is too long is client 0's.
+/// `scratch` is memory that is kept from line to line, and grows to the length of the longest.
 ///
 /// `NoMemory` is want of memory alone; it doesn't tell whose line it is.
-pub fn ask(alloc: Global, shards: u32, line: Line<'_>) -> Result<Request, Refused>
+pub fn ask(
+    alloc: Global,
+    shards: u32,
+    line: Line<'_>,
+    scratch: &mut Scratch,
+) -> Result<Request, Refused>
     requires { IsWithinLimit line }
     ensures ok { IfOk result (λ r. asked shards (handed line.entry) ≡ Ok r) }
     ensures lawful { IfOk result (λ r. IsLawfulCall r.call) }
@@ -36,7 +43,7 @@ pub fn ask(alloc: Global, shards: u32, line: Line<'_>) -> Result<Request, Refuse
     ensures quiet { IfErr result (λ e. IsQuiet e.body) }
 {
     match line {
-        Line::Kept(bytes) => match read_request(alloc, bytes) {
+        Line::Kept(bytes) => match read_request_with(alloc, bytes, scratch) {
             Ok(request) => within(shards, request),
             Err(refused) => Err(told(refused)),
         },

@@ -20,7 +20,9 @@ use crate::operations::put::read_put;
 use crate::operations::query::read_query;
 use ds_base::limits::{MAX_CLIENT, MAX_LINE_BYTES};
 use ds_json_reading::{Members, Refusal, member, up_to};
+use ds_json_values::read_text;
 use ds_query::Field;
+use json::Scratch;
 use serde_json::Value;
 use std::alloc::{AllocError, Global};
 
@@ -36,24 +38,34 @@ pub fn read_request(alloc: Global, line: &[u8]) -> Result<Request, RequestRefuse
     ensures lawful { IfOk result (λ r. IsLawfulCall r.call) }
     ensures client { MatchResult result (λ r. r.client ≤ MAX_CLIENT) (λ e. client_told e ≤ MAX_CLIENT) }
 {
-    match parse(alloc, line) {
+    let mut scratch = Scratch::new(alloc);
+    read_request_with(alloc, line, &mut scratch)
+}
+
+/// The same over memory that is kept from line to line: `scratch` grows to the length of the longest line in bytes.
+pub fn read_request_with(
+    alloc: Global,
+    line: &[u8],
+    scratch: &mut Scratch,
+) -> Result<Request, RequestRefused>
+    requires { length line.now ≤ MAX_LINE_BYTES }
+    ensures read { Reads RequestRefused.NoMemory (request_of line.now) result }
+    ensures lawful { IfOk result (λ r. IsLawfulCall r.call) }
+    ensures client { MatchResult result (λ r. r.client ≤ MAX_CLIENT) (λ e. client_told e ≤ MAX_CLIENT) }
+{
+    match parse(alloc, line, scratch) {
         Ok(parsed) => read_data(alloc, parsed),
         Err(_) => Err(RequestRefused::NoMemory),
     }
 }
 
 /// The JSON value of a line; none where it isn't UTF-8 or isn't JSON.
-fn parse(alloc: Global, line: &[u8]) -> Result<Option<Value>, AllocError>
+fn parse(alloc: Global, line: &[u8], scratch: &mut Scratch) -> Result<Option<Value>, AllocError>
     ensures { IfOk result (λ d. line_data line.now ≡ option_map view d) }
 {
-    match Value::from_slice(alloc, line) {
-        Ok(value) => Ok(Some(value)),
-        Err(error) => {
-            if error.is_memory() {
-                return Err(AllocError);
-            }
-            Ok(None)
-        }
+    match simdutf8::compat::from_utf8(line) {
+        Ok(text) => read_text(alloc, text, scratch),
+        Err(_) => Ok(None),
     }
 }
 

@@ -1,19 +1,24 @@
-use Rattle.std.proofs.Common.{◌≡◌, ℕ, List, Bool, true, false, cond, Option, None, refl, ap, ◌∙◌}
+use Rattle.std.proofs.Common.{◌≡◌, ℕ, List, Bool, true, false, cond, Option, None, IfOk, option_map, refl, sym, ap, subst, ◌∙◌}
 use Rattle.std.specs.Str.{is_utf8, IsUtf8}
 use Rattle.std.proofs.lemmas.Str.{is_utf8-from_IsUtf8, IsUtf8-from_is_utf8}
 use Rattle.serde_json.specs.Data.{Data}
 use Rattle.serde_json.specs.Read.{read}
+use Rattle.serde_json.specs.View.{view}
+use Rattle.ds_request.specs.Requests.{line_data}
 use Rattle.ds_request.proofs.line.parse.Goals as goal
 
-no_data_at : (line : List ℕ) (b : Bool) → is_utf8 line ≡ b → (IsUtf8 line → read line ≡ None) → cond b (read line) None ≡ None
-no_data_at line true is none = none (IsUtf8-from_is_utf8 line is)
-no_data_at line false is none = refl
+-- the data of bytes that are a text
+text_data : (line text : List ℕ) → text ≡ line → IsUtf8 line → read text ≡ line_data line
+text_data line text same is = ap read same ∙ sym (ap (λ b. cond b (read line) None) (is_utf8-from_IsUtf8 line is))
+
+no_text : (line : List ℕ) (b : Bool) → is_utf8 line ≡ b → ¬ IsUtf8 line → cond b (read line) None ≡ None
+no_text line true is none = absurd (none (IsUtf8-from_is_utf8 line is))
+no_text line false is none = refl
 
 pub returns-in-Ok : goal.returns-in-Ok
 returns-in-Ok c =
-    let P : Bool → Option Data = λ b. cond b (read c.args.line.now) None in
-    ap P (is_utf8-from_IsUtf8 c.args.line.now c.in-Ok.ensures.ok.0) ∙ c.in-Ok.ensures.ok.1
+    let line = c.args.line.now in
+    subst (λ (found : Option Data). IfOk c.read_text.result (λ d. found ≡ option_map view d)) (text_data line c.in-Ok.text.now c.in-Ok.ensures.cases.0 c.in-Ok.ensures.cases.1) c.read_text.ensures
 
-pub returns-else-is_memory : goal.returns-else-is_memory
-returns-else-is_memory c =
-    no_data_at c.args.line.now _ refl (c.in-Err.ensures.err (λ m. let t : c.is_memory.result ≡ true = c.is_memory.ensures.1 m in cc))
+pub returns-in-Err : goal.returns-in-Err
+returns-in-Err c = no_text c.args.line.now (is_utf8 c.args.line.now) refl c.in-Err.ensures.cases.0
