@@ -194,5 +194,5 @@ fn is_blank(line: &[u8]) -> bool
 pub(crate) fn newline(bytes: &[u8]) -> Option<usize>
     ensures { result ≡ position (λ b. b == 10) bytes.now }
 {
-    bytes.iter().position(|b| *b == b'\n')
+    memchr::memchr(b'\n', bytes)
 }
