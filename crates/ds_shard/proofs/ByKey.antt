@@ -40,10 +40,10 @@ Above k es = AllByRecursion (λ y. key_cmp k y ≡ Less) (keys_of es)
 
 -- ---- keys
 
-tied : (k : KeyParts) → key_cmp k k ≡ Equal
+pub tied : (k : KeyParts) → key_cmp k k ≡ Equal
 tied k = (key_cmp-Equal k k).1 refl
 
-turned : (x y : KeyParts) → key_cmp x y ≡ ordering_reverse (key_cmp y x)
+pub turned : (x y : KeyParts) → key_cmp x y ≡ ordering_reverse (key_cmp y x)
 turned = key_cmp-total.antisymm
 
 same_self : (x k : KeyParts) → x ≡ k → same_key x k ≡ true
@@ -55,7 +55,7 @@ same_below x k e = ap is_eq (turned x k ∙ ap ordering_reverse e)
 same_above : (x k : KeyParts) → key_cmp k x ≡ Greater → same_key x k ≡ false
 same_above x k e = ap is_eq (turned x k ∙ ap ordering_reverse e)
 
-above-down : (k : KeyParts) (j : KeyParts) (es : List Entry) → key_cmp k j ≡ Less → Above j es → Above k es
+pub above-down : (k : KeyParts) (j : KeyParts) (es : List Entry) → key_cmp k j ≡ Less → Above j es → Above k es
 above-down k j [] l h = tt
 above-down k j (e ∷ es) l h = (key_cmp-total.trans k j e.0 l h.0, above-down k j es l h.1)
 
@@ -67,7 +67,7 @@ pub ascend_tail : (e : Entry) (es : List Entry) → Ascend (e ∷ es) → Ascend
 unfolding IsStrictlySortedBy
 ascend_tail e es a = a.1
 
-none_above : (k : KeyParts) (es : List Entry) → Above k es → at_key k es ≡ None
+pub none_above : (k : KeyParts) (es : List Entry) → Above k es → at_key k es ≡ None
 none_above k [] h = refl
 none_above k (e ∷ es) h = rw h.0 (none_above k es h.1)
 

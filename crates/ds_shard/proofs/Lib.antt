@@ -3,6 +3,7 @@ mod Currents
 mod FilledKeys
 mod HistoryLaws
 mod KeyCalls
+mod KeyOrdered
 mod Kept
 mod LastVersions
 mod SeenVersions

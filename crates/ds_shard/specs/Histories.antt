@@ -4,6 +4,7 @@ use Rattle.std.specs.Prelude.{IsTrue, filter, map}
 use Rattle.std.specs.List.{AllByRecursion as Each, filter_map}
 use Rattle.std.specs.List.Sorted.{IsStrictlySortedBy}
 use Rattle.std.specs.Map.{keys_of}
+use Rattle.std.specs.BTreeMap.{insert_entry}
 use Rattle.std.specs.Ordering.{is_lt}
 use Rattle.ds_base.specs.Keys.{KeyParts}
 use Rattle.ds_base.specs.KeyOrder.{key_cmp, same_key}
@@ -120,6 +121,11 @@ first_is_over floor [] = false
 first_is_over floor (v ∷ vs) = not (outlives floor v)
 
 -- ---- all keys
+
+-- the entries of a map, in which no key stands twice, in the order of their keys
+abbrev pub in_key_order : List (KeyParts × List Version) → List (KeyParts × List Version)
+in_key_order [] = []
+in_key_order (e ∷ es) = insert_entry key_cmp (in_key_order es) e.0 e.1
 
 -- the versions of all keys
 abbrev pub joined : List (KeyParts × List Version) → List Version

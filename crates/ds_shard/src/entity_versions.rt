@@ -1,12 +1,11 @@
 //! The versions of all entities, by key.
 ghost use Rattle.std.specs.Prelude.{◌≡◌, ◌↔◌, [], None, Some, map, find, option_map, IsTrue, OnOk, OnErr};
-ghost use Rattle.std.specs.BTreeMap.{is_at};
 ghost use Rattle.std.specs.Map.{lookup};
 ghost use Rattle.std.specs.Option.{option_copied};
-ghost use Rattle.ds_base.specs.KeyOrder.{key_cmp, same_key};
+ghost use Rattle.ds_base.specs.KeyOrder.{same_key};
 ghost use Rattle.ds_entity.specs.Entities.{EntityParts};
 ghost use Rattle.ds_rows.specs.Versions.{Version, entities_at};
-ghost use Rattle.ds_shard.specs.Histories.{joined, is_current, ended, with_version, undone, trimmed_at, BeginsBy, IsOverAt};
+ghost use Rattle.ds_shard.specs.Histories.{in_key_order, joined, is_current, ended, with_version, undone, trimmed_at, BeginsBy, IsOverAt};
 ghost use Rattle.std.specs.List.{AllByRecursion as Each};
 ghost use Rattle.ds_shard.specs.Histories.{AreByKey, AreByKeyBut};
 
@@ -14,26 +13,26 @@ use crate::version_list::VersionList;
 use ds_base::{Key, NoMemory, TryCopy};
 use ds_entity::Entity;
 use std::alloc::Global;
-use std::collections::BTreeMap;
+use std::collections::HashMap;
 use std::marker::Model;
 
-/// The versions of all entities, each found by its key. Contracts see them as a list: by key, those of one key in the order of
-/// their stamps.
+/// The versions of all entities, found by the hash of the key: nobody asks for the order of the keys, since index rows have it.
+/// Contracts see them as a list: by key, those of one key in the order of their stamps.
 #[derive(Drop)]
 pub(crate) struct EntityVersions {
-    by_key: BTreeMap<Key, VersionList>,
+    by_key: HashMap<Key, VersionList>,
 }
 
 impl Model for EntityVersions {
     ghost use Rattle.std.specs.Prelude.{List};
     ghost use Rattle.ds_rows.specs.Versions.{Version};
-    ghost use Rattle.ds_shard.specs.Histories.{joined, AreByKey};
+    ghost use Rattle.ds_shard.specs.Histories.{in_key_order, joined, AreByKey};
 
     ghost Value = { List Version };
 
-    ghost view = { λ m. joined m.by_key.entries };
+    ghost view = { λ m. joined (in_key_order m.by_key.entries) };
 
-    ghost invariant = { λ m. AreByKey m.by_key.entries };
+    ghost invariant = { λ m. AreByKey (in_key_order m.by_key.entries) };
 }
 
 impl EntityVersions {
@@ -42,7 +41,7 @@ impl EntityVersions {
         ensures { result ≡ [] }
     {
         EntityVersions {
-            by_key: BTreeMap::new(alloc),
+            by_key: HashMap::new(alloc),
         }
     }
 
@@ -107,11 +106,11 @@ impl EntityVersions {
 }
 
 /// Ends the open version of the key.
-fn end_in(map: &mut BTreeMap<Key, VersionList>, key: &Key, stamp: u64)
-    requires by_key { AreByKey map.old.entries }
-    requires begun { Each (BeginsBy stamp) (joined map.old.entries) }
-    ensures by_key { AreByKey map.new.entries }
-    ensures ended { joined map.new.entries ≡ ended stamp key.now (joined map.old.entries) }
+fn end_in(map: &mut HashMap<Key, VersionList>, key: &Key, stamp: u64)
+    requires by_key { AreByKey (in_key_order map.old.entries) }
+    requires begun { Each (BeginsBy stamp) (joined (in_key_order map.old.entries)) }
+    ensures by_key { AreByKey (in_key_order map.new.entries) }
+    ensures ended { joined (in_key_order map.new.entries) ≡ ended stamp key.now (joined (in_key_order map.old.entries)) }
 {
     if let Some(list) = map.get_mut(key) {
         list.end(stamp);
@@ -120,17 +119,17 @@ fn end_in(map: &mut BTreeMap<Key, VersionList>, key: &Key, stamp: u64)
 
 /// Begins a version in the list of its key, which is made where there is none.
 fn begin_in(
-    map: &mut BTreeMap<Key, VersionList>,
+    map: &mut HashMap<Key, VersionList>,
     alloc: Global,
     entity: &Entity,
     stamp: u64,
 ) -> Result<(), NoMemory>
-    requires by_key { AreByKey map.old.entries }
-    requires over { Each (IsOverAt stamp entity.now.key) (joined map.old.entries) }
-    ensures by_key { AreByKey map.new.entries }
-    ensures begun { OnOk result (joined map.new.entries
-        ≡ with_version (record { entity = entity.now; from = stamp; until = None }) (joined map.old.entries)) }
-    ensures unchanged { OnErr result (joined map.new.entries ≡ joined map.old.entries) }
+    requires by_key { AreByKey (in_key_order map.old.entries) }
+    requires over { Each (IsOverAt stamp entity.now.key) (joined (in_key_order map.old.entries)) }
+    ensures by_key { AreByKey (in_key_order map.new.entries) }
+    ensures begun { OnOk result (joined (in_key_order map.new.entries)
+        ≡ with_version (record { entity = entity.now; from = stamp; until = None }) (joined (in_key_order map.old.entries))) }
+    ensures unchanged { OnErr result (joined (in_key_order map.new.entries) ≡ joined (in_key_order map.old.entries)) }
 {
     match map.get_mut(entity.key()) {
         Some(list) => list.begin(alloc, entity, stamp),
@@ -140,17 +139,17 @@ fn begin_in(
 
 /// Makes the list of a key that has none, with its first version.
 fn begin_list(
-    map: &mut BTreeMap<Key, VersionList>,
+    map: &mut HashMap<Key, VersionList>,
     alloc: Global,
     entity: &Entity,
     stamp: u64,
 ) -> Result<(), NoMemory>
-    requires by_key { AreByKey map.old.entries }
-    requires none { lookup (is_at (key_cmp entity.now.key)) map.old.entries ≡ None }
-    ensures by_key { AreByKey map.new.entries }
-    ensures begun { OnOk result (joined map.new.entries
-        ≡ with_version (record { entity = entity.now; from = stamp; until = None }) (joined map.old.entries)) }
-    ensures unchanged { OnErr result (joined map.new.entries ≡ joined map.old.entries) }
+    requires by_key { AreByKey (in_key_order map.old.entries) }
+    requires none { lookup (same_key entity.now.key) map.old.entries ≡ None }
+    ensures by_key { AreByKey (in_key_order map.new.entries) }
+    ensures begun { OnOk result (joined (in_key_order map.new.entries)
+        ≡ with_version (record { entity = entity.now; from = stamp; until = None }) (joined (in_key_order map.old.entries))) }
+    ensures unchanged { OnErr result (joined (in_key_order map.new.entries) ≡ joined (in_key_order map.old.entries)) }
 {
     let mut list = VersionList::new(alloc);
     list.begin(alloc, entity, stamp)?;
@@ -160,11 +159,11 @@ fn begin_list(
 }
 
 /// Takes back what was done to the entity of the key at the stamp.
-fn undo_in(map: &mut BTreeMap<Key, VersionList>, key: &Key, stamp: u64)
-    requires by_key { AreByKey map.old.entries }
-    requires begun { Each (BeginsBy stamp) (joined map.old.entries) }
-    ensures by_key { AreByKeyBut key.now map.new.entries }
-    ensures undone { joined map.new.entries ≡ undone stamp key.now (joined map.old.entries) }
+fn undo_in(map: &mut HashMap<Key, VersionList>, key: &Key, stamp: u64)
+    requires by_key { AreByKey (in_key_order map.old.entries) }
+    requires begun { Each (BeginsBy stamp) (joined (in_key_order map.old.entries)) }
+    ensures by_key { AreByKeyBut key.now (in_key_order map.new.entries) }
+    ensures undone { joined (in_key_order map.new.entries) ≡ undone stamp key.now (joined (in_key_order map.old.entries)) }
 {
     if let Some(list) = map.get_mut(key) {
         list.undo(stamp);
@@ -172,10 +171,10 @@ fn undo_in(map: &mut BTreeMap<Key, VersionList>, key: &Key, stamp: u64)
 }
 
 /// Takes out the versions of the key that ended at or before the floor.
-fn trim_in(map: &mut BTreeMap<Key, VersionList>, key: &Key, floor: u64)
-    requires { AreByKey map.old.entries }
-    ensures by_key { AreByKeyBut key.now map.new.entries }
-    ensures trimmed { joined map.new.entries ≡ trimmed_at floor key.now (joined map.old.entries) }
+fn trim_in(map: &mut HashMap<Key, VersionList>, key: &Key, floor: u64)
+    requires { AreByKey (in_key_order map.old.entries) }
+    ensures by_key { AreByKeyBut key.now (in_key_order map.new.entries) }
+    ensures trimmed { joined (in_key_order map.new.entries) ≡ trimmed_at floor key.now (joined (in_key_order map.old.entries)) }
 {
     if let Some(list) = map.get_mut(key) {
         list.trim(floor);
@@ -183,10 +182,10 @@ fn trim_in(map: &mut BTreeMap<Key, VersionList>, key: &Key, floor: u64)
 }
 
 /// Takes the key out where it has no version any more; the versions stay.
-fn drop_empty(map: &mut BTreeMap<Key, VersionList>, key: &Key)
-    requires { AreByKeyBut key.now map.old.entries }
-    ensures by_key { AreByKey map.new.entries }
-    ensures same { joined map.new.entries ≡ joined map.old.entries }
+fn drop_empty(map: &mut HashMap<Key, VersionList>, key: &Key)
+    requires { AreByKeyBut key.now (in_key_order map.old.entries) }
+    ensures by_key { AreByKey (in_key_order map.new.entries) }
+    ensures same { joined (in_key_order map.new.entries) ≡ joined (in_key_order map.old.entries) }
 {
     if is_empty_at(map, key) {
         let _ = map.remove(key);
@@ -194,8 +193,8 @@ fn drop_empty(map: &mut BTreeMap<Key, VersionList>, key: &Key)
 }
 
 /// Whether the key is there without a version.
-fn is_empty_at(map: &BTreeMap<Key, VersionList>, key: &Key) -> bool
-    ensures { IsTrue result ↔ (lookup (is_at (key_cmp key.now)) map.now.entries ≡ Some []) }
+fn is_empty_at(map: &HashMap<Key, VersionList>, key: &Key) -> bool
+    ensures { IsTrue result ↔ (lookup (same_key key.now) map.now.entries ≡ Some []) }
 {
     match map.get(key) {
         Some(list) => list.is_empty(),

@@ -1,13 +1,18 @@
 use Rattle.std.proofs.Common.{Some, None, ◌∙◌}
+use Rattle.ds_shard.specs.Histories.{in_key_order}
 use Rattle.ds_shard.proofs.KeyCalls.{current_there}
+use Rattle.ds_shard.proofs.KeyOrdered.{found_too}
 use Rattle.ds_shard.proofs.entity_versions.EntityVersions.current.Goals as goal
 
 pub returns-in-Some : goal.returns-in-Some
 returns-in-Some c =
+    let es = c.self.inside.by_key.entries in
     c.current.ensures
-    ∙ current_there c.args.key.now c.self.inside.by_key.entries c.self.invariant (Some c.in-Some.list.now)
-    c.in-Some.ensures.value c.args.self.now c.self.view_is
+    ∙ current_there c.args.key.now (in_key_order es) c.self.invariant (Some c.in-Some.list.now)
+    (found_too c.args.key.now es _ c.in-Some.ensures.value) c.args.self.now c.self.view_is
 
 pub returns-in-None : goal.returns-in-None
 returns-in-None c =
-    current_there c.args.key.now c.self.inside.by_key.entries c.self.invariant None c.in-None.ensures.value c.args.self.now c.self.view_is
+    let es = c.self.inside.by_key.entries in
+    current_there c.args.key.now (in_key_order es) c.self.invariant None (found_too c.args.key.now es _ c.in-None.ensures.value)
+    c.args.self.now c.self.view_is
