@@ -15,7 +15,7 @@ use Rattle.ds_query.specs.declared.query.Select.{Select}
 use Rattle.ds_query.specs.declared.query.Select.TheVariants as select
 use Rattle.ds_json_reading.specs.declared.refusal.Refusal.{Refusal}
 use Rattle.ds_json_reading.specs.declared.refusal.Refusal.TheVariants as refusal
-use Rattle.ds_json_reading.specs.Reading.{and_then, read_as, each_member_of, from, up_to}
+use Rattle.ds_json_reading.specs.Reading.{and_then, read_as, each_member_of, from, some_of, up_to}
 use Rattle.ds_json_reading.specs.Values.{value_of}
 
 -- ---- texts, truth values and numbers
