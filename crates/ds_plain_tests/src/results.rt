@@ -1,11 +1,12 @@
 //! The keys that queries find, shown as text.
 ghost use Rattle.ds_query.specs.Lawful.{IsLawfulNormal};
 
-use crate::asked::query;
+use crate::asked::{normal, query};
 use crate::written::entities;
 use ds_base::{Columns, Ident, Key, Names, NoMemory};
 use ds_engine::{extended, merge};
 use ds_entity::Entities;
+use ds_pages::page_of_results;
 use ds_plain::{Plain, answer, branch_lists, rows_between};
 use ds_query::{Branch, Normal, Place, Row, RowList, Window, normalize};
 use std::alloc::Global;
@@ -244,5 +245,26 @@ fn each_extended(alloc: Global, entities: &Entities, normal: &Normal) -> Result<
 #[test]
 fn extends_the_rows_of_a_branch(rt: HostRuntime) -> Result<(), Fail> {
     assert!(rt; are_extended(rt.alloc(), FEW, "in 5,4; asc")?);
+    Ok(())
+}
+
+/// The second of the results of three entities, which are handed over the other way round.
+fn second_of_three(alloc: Global) -> Result<bool, Fail> {
+    let entities = entities(alloc, "b:2 a:1 c:3")?;
+    let all = answer(
+        alloc,
+        &entities,
+        &normal(alloc, "asc")?,
+        &from(None, 0, None),
+    )?;
+    let mut rows = all.rows.into_vec();
+    rows.reverse();
+    let page = page_of_results(alloc, rows, &from(None, 1, Some(1)))?;
+    Ok(are_keys(alloc, page.rows.as_slice(), " b")?)
+}
+
+#[test]
+fn results_in_any_order_are_put_in_theirs(rt: HostRuntime) -> Result<(), Fail> {
+    assert!(rt; second_of_three(rt.alloc())?);
     Ok(())
 }
