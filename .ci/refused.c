@@ -9,12 +9,14 @@
  * REFUSED_LOAD=K,E     the same for a file's open and its reads, counted together; REFUSED_LOAD_MOST=N
  *
  * A program that brings a memory allocator of its own (one built with checks of memory) jumps to it from its `malloc`; that jump is led past here.
+ * Its checks ask where a thread's stack lies, and end the program where that has no memory: nothing is refused or counted within that call.
  */
 #define _GNU_SOURCE
 #include <dlfcn.h>
 #include <errno.h>
 #include <fcntl.h>
 #include <limits.h>
+#include <pthread.h>
 #include <stdarg.h>
 #include <stdatomic.h>
 #include <stdint.h>
@@ -32,6 +34,7 @@ struct counts {
 };
 static struct counts none, *counts = &none;
 static int is_meant;
+static __thread int asks_for_stack __attribute__((tls_model("initial-exec")));
 static uint64_t memory_at, memory_from, share, seed, read_at, write_at, load_at;
 static int read_error, write_error, load_error;
 static size_t read_most = SIZE_MAX, write_most = SIZE_MAX, load_most = SIZE_MAX;
@@ -44,7 +47,7 @@ static uint64_t mixed(uint64_t number) {
 }
 
 static int is_refused(void) {
-    if (!is_meant) return 0;
+    if (!is_meant || asks_for_stack) return 0;
     uint64_t at = atomic_fetch_add(&counts->memory, 1) + 1;
     int refused = at == memory_at || (memory_from && at >= memory_from) || (share && mixed(seed ^ mixed(at)) % 1000000 < share);
     if (refused) {
@@ -87,6 +90,15 @@ void *mmap(void *at, size_t size, int protection, int flags, int file, off_t fro
     static void *(*next)(void *, size_t, int, int, int, off_t);
     if (!next) next = dlsym(RTLD_NEXT, "mmap");
     return (flags & MAP_ANONYMOUS) && is_refused() ? MAP_FAILED : next(at, size, protection, flags, file, from);
+}
+
+int pthread_getattr_np(pthread_t thread, pthread_attr_t *into) {
+    static int (*next)(pthread_t, pthread_attr_t *);
+    if (!next) next = dlsym(RTLD_NEXT, "pthread_getattr_np");
+    asks_for_stack = 1;
+    int failed = next(thread, into);
+    asks_for_stack = 0;
+    return failed;
 }
 
 #ifdef __x86_64__
