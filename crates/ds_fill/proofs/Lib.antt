@@ -1,0 +1,2 @@
+mod LegalRuns
+mod NumberLaws
