@@ -1,17 +1,14 @@
 -- What the lines of the load ask.
-use Rattle.std.proofs.Common.{◌≡◌, ℕ, suc, ◌+◌, ◌<◌, ◌≤◌, pos, List, [], ◌∷◌, ◌++◌, refl, ap, sym, ◌∙◌, arith, Bool, true, false, cond}
+use Rattle.std.proofs.Common.{◌≡◌, ℕ, ◌+◌, ◌<◌, pos, List, [], ◌∷◌, refl, arith, false}
 use Rattle.std.proofs.Common.{Some, None, lt-ltb, le-leb, mod-lt}
-use Rattle.std.specs.Prelude.{codes, Ok, Err, Result, ◌%◌, ◌^◌}
-use Rattle.serde_json.specs.Data.{Data, object}
+use Rattle.std.specs.Prelude.{codes, Ok, ◌%◌, ◌^◌}
+use Rattle.serde_json.specs.Data.{Data}
 use Rattle.ds_base.specs.declared.value.Value.TheVariants.{Int}
-use Rattle.ds_base.specs.declared.column.Column.{Column}
 use Rattle.ds_query.specs.declared.query.Op.TheVariants as op
-use Rattle.ds_query.specs.declared.query.Filter.{Filter}
 use Rattle.ds_query.specs.declared.query.Select.TheVariants as select
 use Rattle.ds_request.specs.declared.call.Call.{Call}
 use Rattle.ds_request.specs.declared.call.Call.TheVariants as call
 use Rattle.ds_request.specs.declared.call.Request.{Request}
-use Rattle.ds_request.specs.declared.call.RequestRefused.{RequestRefused}
 use Rattle.ds_request.specs.Requests.{data_request_of}
 use Rattle.serde_json.specs.Data.{string, array, no_items, item}
 use Rattle.ds_json_printing.specs.Objects.{named, object_of}

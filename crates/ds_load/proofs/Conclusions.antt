@@ -1,8 +1,8 @@
 -- What the last reply of a load tells, where it tells that all items were counted.
-use Rattle.std.proofs.Common.{◌≡◌, ℕ, zero, suc, ◌+◌, ◌-◌, ◌<◌, ◌≤◌, ◌^◌, pos, List, [], ◌∷◌, ◌++◌, refl, ap, sym, ◌∙◌, arith, Bool, true}
-use Rattle.std.proofs.Common.{false, cond, inl, inr, map, length, Option, Some, None, subst, ◌⊎◌, append-nil, append_assoc, ne_eqb}
+use Rattle.std.proofs.Common.{◌≡◌, ℕ, zero, suc, ◌+◌, ◌<◌, ◌≤◌, ◌^◌, List, [], ◌∷◌, ◌++◌, refl, ap, sym, ◌∙◌, arith, true}
+use Rattle.std.proofs.Common.{cond, inl, inr, map, length, Option, None, subst, ◌⊎◌, append-nil, append_assoc, ne_eqb}
 use Rattle.std.proofs.Common.{eq-eqb}
-use Rattle.std.specs.Prelude.{Ok, Result, ◌==◌, ◌&&◌, ◌%◌, filter, flat_map, fold, codes, All}
+use Rattle.std.specs.Prelude.{◌==◌, ◌&&◌, ◌%◌, filter, flat_map, fold, codes}
 use Rattle.std.specs.List.{AllByRecursion, range_with_len}
 use Rattle.std.specs.List.Sorted.{IsPermutation}
 use Rattle.std.specs.Ordering.{nat_cmp, match_ordering}
@@ -16,8 +16,6 @@ use Rattle.ds_entity.specs.declared.results.Seen.TheVariants as seen
 use Rattle.ds_query.specs.declared.query.Select.TheVariants as select
 use Rattle.ds_indexdef.specs.declared.IndexDef.{IndexDef}
 use Rattle.ds_log.specs.declared.Commit.{Commit}
-use Rattle.ds_log.specs.declared.Entry.{Entry}
-use Rattle.ds_log.specs.Logs.{shard_list}
 use Rattle.ds_reply.specs.declared.reply.Body.{Body}
 use Rattle.ds_reply.specs.declared.reply.Body.TheVariants as body
 use Rattle.ds_reply.specs.declared.reply.Reply.{Reply}
@@ -26,19 +24,18 @@ use Rattle.ds_rounds.specs.Drafts.{IsUnbroken}
 use Rattle.ds_rounds.specs.Rounds.{NumberedLine, rounds_from, rounds_in, rounds_of_input}
 use Rattle.ds_rounds.proofs.LineLaws.{lines_in-newline, lines_in-nothing}
 use Rattle.ds_model.specs.Answers.{CountsWithin}
-use Rattle.ds_model.specs.Asked.{Reading, asked, client_asked}
+use Rattle.ds_model.specs.Asked.{asked, client_asked}
 use Rattle.ds_model.specs.Legal.{Legal, RoundsSteps, acknowledged, answered_lines}
 use Rattle.ds_model.specs.Results.{items_of, result}
-use Rattle.ds_model.specs.Sessions.{Session, first_sessions}
+use Rattle.ds_model.specs.Sessions.{first_sessions}
 use Rattle.ds_model.specs.Views.{global_view}
-use Rattle.ds_model.specs.Worlds.{World, world_of, shard_lists}
+use Rattle.ds_model.specs.Worlds.{World, world_of}
 use Rattle.ds_model.proofs.OkReplies.{asked-refuses}
 use Rattle.ds_load.specs.Input.{load_text, line_of, put_text, puts_text, query_text, settle_text}
 use Rattle.ds_load.specs.Items.{item_of}
 use Rattle.ds_load.specs.Matches.{matching}
 use Rattle.ds_load.specs.Telling.{sum_of}
-use Rattle.ds_load.proofs.Asked.{put_request}
-use Rattle.ds_load.proofs.Counts.{RiseFrom, SameTimes, SameTimes-permutation, put_same, placed, range_rises, rise-once, times}
+use Rattle.ds_load.proofs.Counts.{SameTimes, SameTimes-permutation, put_same, placed, range_rises, rise-once, times}
 use Rattle.ds_load.proofs.Ends.{IsRefusal}
 use Rattle.ds_load.proofs.Ends as ends
 use Rattle.ds_load.proofs.Found.{columns, found_items, matches, normal, told_of, window}

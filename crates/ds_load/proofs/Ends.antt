@@ -1,13 +1,10 @@
 -- The last round of a load: a settle and the query, which are one client's.
-use Rattle.std.proofs.Common.{◌≡◌, ℕ, zero, suc, ◌+◌, ◌<◌, ◌≤◌, pos, List, [], ◌∷◌, ◌++◌, refl, ap, sym, ◌∙◌, arith, Bool, true, false}
-use Rattle.std.proofs.Common.{cond, inl, inr, map, length, Option, Some, None, subst, ◌⊎◌, append-nil, ne_eqb}
-use Rattle.std.specs.Prelude.{Ok, Err, Result, ◌==◌, filter, flat_map, slice_get, codes}
+use Rattle.std.proofs.Common.{◌≡◌, ℕ, ◌+◌, ◌≤◌, List, [], ◌∷◌, ◌++◌, refl, ap, ◌∙◌, arith, Bool, true, false}
+use Rattle.std.proofs.Common.{cond, inl, inr, length, Option, Some, None, subst, ◌⊎◌, append-nil, ne_eqb}
+use Rattle.std.specs.Prelude.{Ok, Result, ◌==◌, filter, flat_map, slice_get, codes}
 use Rattle.json.specs.Print.{escape_byte}
 use Rattle.ds_entity.specs.declared.results.Item.{Item}
-use Rattle.ds_entity.specs.declared.results.Seen.{Seen}
 use Rattle.ds_entity.specs.declared.results.Seen.TheVariants as seen
-use Rattle.ds_indexdef.specs.declared.IndexDef.{IndexDef}
-use Rattle.ds_log.specs.declared.Entry.{Entry}
 use Rattle.ds_planner.specs.Missing.{Missing, missing_of}
 use Rattle.ds_query.specs.declared.field.Field.TheVariants as field
 use Rattle.ds_query.specs.declared.query.Select.{Select}
@@ -19,12 +16,12 @@ use Rattle.ds_reply.specs.declared.reply.Body.TheVariants as body
 use Rattle.ds_reply.specs.declared.reply.Reply.{Reply}
 use Rattle.ds_reply_lines.specs.ReplyLines.{reply_line}
 use Rattle.ds_rounds.specs.Rounds.{NumberedLine}
-use Rattle.ds_model.specs.Answers.{Answers, AskedAnswers, BodyAnswers, CallAnswers, CountsWithin, Finds, FoundOver, SearchAnswers}
-use Rattle.ds_model.specs.Answers.{SearchRefusedOrAnswered, UnlessRefused, page_over, window_of}
+use Rattle.ds_model.specs.Answers.{Answers, BodyAnswers, CountsWithin, FoundOver, SearchAnswers}
+use Rattle.ds_model.specs.Answers.{SearchRefusedOrAnswered, UnlessRefused}
 use Rattle.ds_model.specs.Asked.{Reading, Search, client_asked, client_of}
 use Rattle.ds_model.specs.Legal.{ClientSteps, RoundSteps, acknowledged, acknowledged_in}
 use Rattle.ds_model.specs.Refusals.{BeforeFirst, Behind, IfUnrefused, Nothing, PlaceRead, Places, Refused, Told, ancestor_refusal}
-use Rattle.ds_model.specs.Refusals.{cursor_refusal, first_refusal, form_refusal, missing_body, missing_refusal, search_refusal}
+use Rattle.ds_model.specs.Refusals.{cursor_refusal, first_refusal, form_refusal, missing_body, missing_refusal}
 use Rattle.ds_model.specs.Results.{items_of, result}
 use Rattle.ds_model.specs.Sessions.{Session, Transaction}
 use Rattle.ds_model.specs.Views.{global_view}

@@ -1,6 +1,6 @@
 -- What the query of the load finds among items, in whatever order they stand.
-use Rattle.std.proofs.Common.{◌≡◌, ℕ, suc, ◌+◌, ◌<◌, ◌≤◌, pos, List, [], ◌∷◌, ◌++◌, refl, ap, sym, ◌∙◌, arith, Bool, true, false, cond}
-use Rattle.std.proofs.Common.{Some, None, map, subst}
+use Rattle.std.proofs.Common.{◌≡◌, ℕ, ◌+◌, ◌<◌, pos, List, [], ◌∷◌, ◌++◌, refl, ap, sym, ◌∙◌, arith, Bool, true, false, cond}
+use Rattle.std.proofs.Common.{Some, None, map}
 use Rattle.std.proofs.Common.{lt-ltb, le-ltb, ne_eqb, eq-eqb, inl, inr, append-nil, append_assoc}
 use Rattle.std.specs.Prelude.{codes, ◌%◌, ◌==◌, ◌&&◌, ◌||◌, filter, flat_map, fold}
 use Rattle.std.specs.List.{range_with_len, list_any}
@@ -10,14 +10,12 @@ use Rattle.std.specs.declared.cmp.Ordering.{Ordering}
 use Rattle.std.specs.declared.cmp.Ordering.TheVariants.{Less, Equal, Greater}
 use Rattle.std.proofs.lemmas.Bool.{cases_eq, cases_lt}
 use Rattle.std.proofs.lemmas.List.{map-append}
-use Rattle.ds_base.specs.Sorting.{insert_by, sorted_by}
+use Rattle.ds_base.specs.Sorting.{insert_by}
 use Rattle.ds_base.specs.declared.column.Column.{Column}
-use Rattle.ds_base.specs.declared.index_value.IndexValue.{IndexValue}
 use Rattle.ds_base.specs.declared.index_value.IndexValue.TheVariants as class
 use Rattle.ds_entity.specs.declared.results.Item.{Item}
 use Rattle.ds_base.specs.declared.value.Value.TheVariants.{Int}
 use Rattle.ds_entity.specs.Entities.{EntityParts}
-use Rattle.ds_base.specs.KeyOrder.{same_key}
 use Rattle.ds_bytes.specs.Rows.{RowParts}
 use Rattle.ds_query.specs.declared.branch.Branch.{Branch}
 use Rattle.ds_query.specs.declared.branch.Normal.{Normal}

@@ -1,26 +1,23 @@
 -- A journal whose commits each put one item: its entries, what they leave, and the numbers of its items.
 use Rattle.std.proofs.Common.{◌≡◌, ℕ, zero, suc, ◌+◌, ◌-◌, ◌<◌, ◌≤◌, List, [], ◌∷◌, ◌++◌, refl, ap, sym, ◌∙◌, arith, Bool, true, false}
-use Rattle.std.proofs.Common.{cond, inl, inr, map, length, Option, Some, None, subst, append-nil, append_assoc, length-append, take}
-use Rattle.std.proofs.Common.{eq-eqb, ne_eqb, mod-lt}
-use Rattle.std.specs.Prelude.{◌==◌, ◌%◌, filter, flat_map, fold, not, slice_get, All, ⊤}
+use Rattle.std.proofs.Common.{cond, map, length, Option, Some, subst, append-nil, append_assoc, length-append}
+use Rattle.std.proofs.Common.{eq-eqb, mod-lt}
+use Rattle.std.specs.Prelude.{◌==◌, flat_map, fold, not, slice_get, All}
 use Rattle.std.specs.List.{AllByRecursion, range_with_len}
-use Rattle.std.specs.BTreeSet.{insert_key}
-use Rattle.std.proofs.lemmas.Bool.{cases_eq}
 use Rattle.std.proofs.lemmas.List.{take_all}
 use Rattle.std.proofs.lemmas.List.Elements.{All-head, All-tail}
 use Rattle.std.proofs.lemmas.List.{map-append}
 use Rattle.ds_base.specs.declared.key.Elem.{Elem}
 use Rattle.ds_base.specs.declared.key.Ident.{Ident}
 use Rattle.ds_base.specs.declared.key.Ident.TheVariants.{Id, Name}
-use Rattle.ds_entity.specs.Entities.{EntityParts}
-use Rattle.ds_base.specs.Keys.{KeyParts, root_of}
-use Rattle.ds_base.specs.KeyOrder.{same_key, key_cmp}
+use Rattle.ds_base.specs.Keys.{KeyParts}
+use Rattle.ds_base.specs.KeyOrder.{same_key}
 use Rattle.ds_log.specs.declared.Commit.{Commit}
 use Rattle.ds_log.specs.declared.Entry.{Entry}
 use Rattle.ds_log.specs.declared.Write.{Write}
-use Rattle.ds_log.specs.declared.Write.TheVariants.{Put, Delete}
+use Rattle.ds_log.specs.declared.Write.TheVariants.{Put}
 use Rattle.ds_log.specs.After.{after, apply_write, without}
-use Rattle.ds_log.specs.Logs.{commit_entries, entries_from, entry_writes, shard_list, writes_of}
+use Rattle.ds_log.specs.Logs.{commit_entries, entries_from, entry_writes}
 use Rattle.ds_log.specs.Shards.{shard_of}
 use Rattle.ds_model.specs.Answers.{CountsWithin}
 use Rattle.ds_model.specs.Views.{counted, global_view}

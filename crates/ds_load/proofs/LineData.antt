@@ -1,19 +1,13 @@
 -- The lines of the load as JSON.
-use Rattle.std.proofs.Common.{◌≡◌, ℕ, suc, ◌+◌, ◌<◌, ◌≤◌, ◌^◌, List, [], ◌∷◌, ◌++◌, refl, ap, sym, ◌∙◌, arith, Bool, true, false, cond}
-use Rattle.std.proofs.Common.{Some, None, append_assoc, length, length-append, le-leb, lit≤, lit<, subst, mod-lt}
-use Rattle.std.specs.Prelude.{codes, decimal, ◌%◌, Ok, Result, nat_le}
+use Rattle.std.proofs.Common.{◌≡◌, ℕ, ◌+◌, ◌<◌, ◌≤◌, ◌^◌, List, ◌++◌, refl, ap, sym, ◌∙◌, arith, cond}
+use Rattle.std.proofs.Common.{Some, append_assoc, length, length-append, le-leb, lit≤, lit<, subst, mod-lt}
+use Rattle.std.specs.Prelude.{codes, decimal, ◌%◌, Ok}
 use Rattle.std.proofs.lemmas.Fmt.{length-decimal-le}
 use Rattle.core.specs.Fmt.{digits}
 use Rattle.json.specs.Print.{escape_byte}
 use Rattle.json.proofs.Printed.Utf8.{IsUtf8-are_ascii}
-use Rattle.serde_json.specs.Data.{Data, string, array, Items, no_items, item}
 use Rattle.serde_json.specs.Read.{max_depth}
 use Rattle.serde_json.specs.Written.{compact_text}
-use Rattle.ds_reply.specs.declared.reply.Body.{Body}
-use Rattle.ds_json_printing.specs.Objects.{named, object_of}
-use Rattle.ds_json_printing.specs.Printing.{natural}
-use Rattle.ds_reply.specs.EntityPrinting.{entity_data}
-use Rattle.ds_request.specs.declared.call.Request.{Request}
 use Rattle.ds_request.specs.Requests.{line_data, data_request_of}
 use Rattle.ds_rounds.specs.Drafts.{IsUnbroken}
 use Rattle.ds_rounds.specs.Lines.{Kept, TooLong, content_of}
@@ -23,9 +17,8 @@ use Rattle.ds_journal_text.proofs.CommitsBack.{text_back}
 use Rattle.ds_journal_text.proofs.PlainData.{IsPlain}
 use Rattle.ds_journal_text.proofs.PlainTexts.{whole}
 use Rattle.ds_load.specs.Input.{put_text, settle_text, query_text}
-use Rattle.ds_load.specs.Items.{item_of, client_of_item}
-use Rattle.ds_load.proofs.Asked.{put_data, settle_data, query_data, put_request, settle_request, query_request, put_asked, settle_asked}
-use Rattle.ds_load.proofs.Asked.{query_asked}
+use Rattle.ds_load.specs.Items.{client_of_item}
+use Rattle.ds_load.proofs.Asked.{put_data, settle_data, query_data, put_request, settle_request, query_request, put_asked}
 use Rattle.ds_load.proofs.Rounds.{IsLine}
 
 -- ---- their texts

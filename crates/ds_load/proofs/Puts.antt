@@ -1,7 +1,7 @@
 -- What the replies to the lines of a load tell: each put that is acknowledged is a commit of its item, and nothing else is committed.
-use Rattle.std.proofs.Common.{◌≡◌, ℕ, zero, suc, ◌+◌, ◌-◌, ◌<◌, ◌≤◌, pos, List, [], ◌∷◌, ◌++◌, refl, ap, sym, ◌∙◌, arith, Bool, true}
-use Rattle.std.proofs.Common.{false, cond, inl, inr, map, length, Option, Some, None, subst, ◌⊎◌, append-nil, append_assoc, mod-lt}
-use Rattle.std.specs.Prelude.{Ok, Err, Result, ◌==◌, ◌%◌, filter, flat_map, slice_get, All, codes, ⊤}
+use Rattle.std.proofs.Common.{◌≡◌, ℕ, zero, suc, ◌+◌, ◌-◌, ◌<◌, pos, List, [], ◌∷◌, ◌++◌, refl, ap, sym, ◌∙◌, arith, Bool, true}
+use Rattle.std.proofs.Common.{false, inl, inr, map, length, Option, Some, None, subst, ◌⊎◌, append-nil, append_assoc, mod-lt}
+use Rattle.std.specs.Prelude.{Ok, Err, Result, ◌==◌, ◌%◌, filter, flat_map, slice_get}
 use Rattle.std.specs.List.{AllByRecursion, range_with_len}
 use Rattle.ds_entity.specs.declared.entity.Property.{Property}
 use Rattle.ds_base.specs.declared.value.Value.{Value}
@@ -9,7 +9,7 @@ use Rattle.ds_base.specs.declared.value.Value.TheVariants.{Int}
 use Rattle.ds_base.specs.Keys.{KeyParts}
 use Rattle.ds_log.specs.declared.Commit.{Commit}
 use Rattle.ds_log.specs.declared.Write.{Write}
-use Rattle.ds_log.specs.declared.Write.TheVariants.{Put, Delete}
+use Rattle.ds_log.specs.declared.Write.TheVariants.{Put}
 use Rattle.ds_request.specs.declared.call.Call.{Call}
 use Rattle.ds_request.specs.declared.call.Call.TheVariants as call
 use Rattle.ds_request.specs.declared.call.Request.{Request}
@@ -19,7 +19,7 @@ use Rattle.ds_reply.specs.declared.reply.Body.{Body}
 use Rattle.ds_reply.specs.declared.reply.Body.TheVariants as body
 use Rattle.ds_reply.specs.declared.reply.Reply.{Reply}
 use Rattle.ds_rounds.specs.Rounds.{NumberedLine}
-use Rattle.ds_model.specs.Answers.{Answers, CommitsAlone, WriteAnswers, CallAnswers, SearchAnswers}
+use Rattle.ds_model.specs.Answers.{Answers, WriteAnswers, CallAnswers, SearchAnswers}
 use Rattle.ds_model.specs.Asked.{Reading, Search, client_asked, client_of}
 use Rattle.ds_model.specs.Legal.{ClientSteps, RoundSteps, RoundsSteps, acknowledged, acknowledged_in, by_client, answered_lines}
 use Rattle.ds_model.specs.Refusals.{Places}
@@ -29,9 +29,9 @@ use Rattle.std.proofs.lemmas.List.{map-append}
 use Rattle.ds_model.proofs.AllOf.{all-filter}
 use Rattle.ds_model.proofs.OkReplies.{is_ok, OkAnswers, ReadingRefuses, ok_answers}
 use Rattle.ds_load.specs.Items.{item_of, key_of_item}
-use Rattle.ds_load.proofs.Asked.{put_request, settle_request, query_request}
+use Rattle.ds_load.proofs.Asked.{put_request}
 use Rattle.ds_load.proofs.Counts.{times, SameTimes, times-append}
-use Rattle.ds_load.proofs.Shares.{AreTold, Tells, parted, served, told-append, own, all_own}
+use Rattle.ds_load.proofs.Shares.{AreTold, Tells, parted, served, told-append, own}
 
 -- ---- the item that a commit puts
 

@@ -1,13 +1,13 @@
 -- The rounds of lines that an empty line ends, and of two lines behind it.
-use Rattle.std.proofs.Common.{◌≡◌, ℕ, suc, ◌+◌, ◌<◌, ◌≤◌, List, [], ◌∷◌, ◌++◌, refl, ap, sym, ◌∙◌, arith, Bool, true, false, cond, map}
-use Rattle.std.proofs.Common.{length, append-nil, append_assoc}
-use Rattle.std.specs.Prelude.{flat_map, ⊤}
+use Rattle.std.proofs.Common.{◌≡◌, ℕ, ◌+◌, ◌≤◌, List, [], ◌∷◌, ◌++◌, refl, ap, sym, ◌∙◌, arith, Bool, true, false}
+use Rattle.std.proofs.Common.{length, append_assoc}
+use Rattle.std.specs.Prelude.{flat_map}
 use Rattle.std.specs.List.{AllByRecursion}
 use Rattle.ds_rounds.specs.Drafts.{IsUnbroken}
 use Rattle.ds_rounds.specs.Lines.{Kept, content_of, is_blank, lines_in}
-use Rattle.ds_rounds.specs.Rounds.{NumberedLine, is_full, round_of, rounds_from, rounds_in, rounds_of_input}
+use Rattle.ds_rounds.specs.Rounds.{NumberedLine, is_full, round_of, rounds_from}
 use Rattle.ds_rounds.proofs.DraftLaws.{rounds_from-empty_line, rounds_from-full, rounds_from-open}
-use Rattle.ds_rounds.proofs.LineLaws.{lines_in-newline, lines_in-nothing}
+use Rattle.ds_rounds.proofs.LineLaws.{lines_in-newline}
 
 -- a line that isn't empty nor too long
 pub record IsLine (line : List ℕ) : Type 0 where

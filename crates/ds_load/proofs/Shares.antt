@@ -1,7 +1,7 @@
 -- What several take of a list, each what is its own: together they have each item once. And what as many tell as there are items, each at
 -- most one of them, is told of each.
-use Rattle.std.proofs.Common.{◌≡◌, ℕ, zero, suc, ◌+◌, ◌*◌, ◌<◌, ◌≤◌, List, [], ◌∷◌, ◌++◌, refl, ap, sym, ◌∙◌, arith, Bool, true, false}
-use Rattle.std.proofs.Common.{cond, inl, inr, map, length, ◌⊎◌, length-append, subst}
+use Rattle.std.proofs.Common.{◌≡◌, ℕ, suc, ◌+◌, ◌*◌, ◌≤◌, List, [], ◌∷◌, ◌++◌, refl, ap, sym, ◌∙◌, arith, Bool, true, false}
+use Rattle.std.proofs.Common.{cond, inl, inr, map, length, ◌⊎◌, subst}
 use Rattle.std.specs.Prelude.{◌==◌, filter, flat_map, All, ⊤}
 use Rattle.std.specs.List.{AllByRecursion}
 use Rattle.std.proofs.lemmas.List.{map-append}

@@ -1,5 +1,5 @@
 -- The line of the last reply: what it tells is the summary of the load.
-use Rattle.std.proofs.Common.{◌≡◌, ℕ, zero, suc, ◌+◌, ◌<◌, ◌≤◌, ◌^◌, pos, List, [], ◌∷◌, ◌++◌, refl, ap, sym, ◌∙◌, arith, Bool, true}
+use Rattle.std.proofs.Common.{◌≡◌, ℕ, zero, suc, ◌<◌, ◌≤◌, ◌^◌, List, [], ◌∷◌, ◌++◌, refl, ap, sym, ◌∙◌, arith, Bool, true}
 use Rattle.std.proofs.Common.{false, cond, inl, inr, map, length, drop, take, lit<, Option, Some, None, subst, append_assoc}
 use Rattle.std.proofs.Common.{length-append, ◌⊎◌, ◌-◌, Bor}
 use Rattle.std.specs.Prelude.{codes, decimal, slice_get, filter, ◌==◌, ◌%◌, option_map, unwrap_or, nat_eq, Result, Ok, Err, IfOk, IfSome}
@@ -13,7 +13,7 @@ use Rattle.std.proofs.lemmas.Fmt.{decimal_injective, decimal_is_IsNumeral, decim
 use Rattle.std.proofs.lemmas.List.{map-append}
 use Rattle.json.specs.Print.{escape_byte}
 use Rattle.json.proofs.Printed.Utf8.{IsUtf8-are_ascii}
-use Rattle.serde_json.specs.Data.{Data, string, array, Items, no_items, item, Members}
+use Rattle.serde_json.specs.Data.{Data, string, array, Members}
 use Rattle.serde_json.specs.Read.{max_depth}
 use Rattle.serde_json.specs.Written.{items_text, members_text}
 use Rattle.ds_entity.specs.declared.results.Item.{Item}

@@ -1,7 +1,6 @@
 -- The items of a load, and its query.
 use Rattle.std.specs.Prelude.{ℕ, ◌+◌, ◌%◌, pos, List, [], ◌∷◌, true, codes}
 use Rattle.ds_entity.specs.declared.entity.Property.{Property}
-use Rattle.ds_base.specs.declared.key.Elem.{Elem}
 use Rattle.ds_base.specs.declared.key.Ident.TheVariants.{Id}
 use Rattle.ds_base.specs.declared.value.Value.TheVariants.{Int}
 use Rattle.ds_base.specs.Keys.{KeyParts}
