@@ -1,5 +1,6 @@
 -- A run over a load that ended well, in the words of its replies.
-use Rattle.std.proofs.Common.{◌≡◌, ℕ, false, true, List, [], ◌∷◌, ◌++◌, refl, ap, sym, ◌∙◌, Option, Some, None, subst, append-nil, ◌⊎◌, inl, inr, ◌+◌}
+use Rattle.std.proofs.Common.{◌≡◌, ℕ, false, true, List, [], ◌∷◌, ◌++◌, refl, ap, sym, ◌∙◌, Option, Some, None, subst, append-nil, ◌⊎◌, inl}
+use Rattle.std.proofs.Common.{inr, ◌+◌}
 use Rattle.std.proofs.Common.{◌-◌, take, drop, length, length-drop, arith}
 use Rattle.std.specs.Prelude.{IfSome, IsSome, option_map}
 use Rattle.std.specs.Io.KnownBytes.{Appends}

@@ -76,8 +76,8 @@ const REFUSALS: &str = r#"{"client":3,"error":1,"line":1,"name":"BadJson"}
 {"client":3,"error":14,"line":13,"name":"NeedAncestor"}
 {"client":3,"error":15,"line":14,"name":"BadQuery","reason":"projection_equal"}
 {"client":3,"count":31,"error":16,"line":15,"name":"TooManySubqueries"}
-{"client":3,"constraint":"columns","error":17,"line":16,"name":"MissingIndex","suggestion":{"ancestor":false,"kind":"Task","properties":[]}}
-{"client":3,"constraint":"ancestor","error":17,"line":17,"name":"MissingIndex","suggestion":{"ancestor":false,"kind":"Task","properties":[]}}
+{"client":3,"constraint":"columns","error":17,"line":16,"name":"MissingIndex","suggestion":{"ancestor":false,"kind":"Job","properties":[]}}
+{"client":3,"constraint":"ancestor","error":17,"line":17,"name":"MissingIndex","suggestion":{"ancestor":false,"kind":"Job","properties":[]}}
 {"client":3,"error":18,"field":"start","line":18,"name":"BadCursor"}
 {"client":3,"error":19,"field":"end","line":19,"name":"CursorMismatch"}
 {"at":12,"client":3,"error":20,"line":20,"name":"BadGql"}
@@ -136,7 +136,7 @@ fn last_refusal(number: u64) -> Body {
 }
 
 fn missing_index(alloc: Global, constraint: Constraint) -> Result<Body, Fail> {
-    let kind = text(alloc, "Task")?;
+    let kind = text(alloc, "Job")?;
     let suggestion = IndexDef {
         kind,
         ancestor: false,
@@ -183,10 +183,15 @@ fn writes_refusals(rt: HostRuntime) -> Result<(), Fail> {
 // ---- values
 
 const ESCAPED: &str =
-    r#"{"client":3,"entity":{"key":[["Task","a"]],"properties":{"p\"\\":[null,-1,{"date":2000},{"rating":100},true,{"bytes":"AP/+"},"\b\f\n\r\t\u0001\u001f/é\"\\ and a text of more than sixteen bytes\\",{"key":["n",["Task","b"]]}]}},"line":1,"ok":"get","place":1}"#;
+    "{\"client\":3,\"entity\":{\"key\":[[\"Task\",\"a\"]],\"properties\":{\"p\\\"\\\\\":[null,-1,{\"date\":2000},{\"rating\":100\
+     },true,{\"bytes\":\"AP/+\"},\"\\b\\f\\n\\r\\t\\u0001\\u001f/é\\\"\\\\ and a text of more than sixteen bytes\\\\\",{\"key\":\
+     [\"n\",[\"Task\",\"b\"]]}]}},\"line\":1,\"ok\":\"get\",\"place\":1}";
 
 const BLOBS: &str =
-    r#"{"client":3,"entity":{"key":[["Task","a"]],"properties":{"u":{"unindexed":[{"text":"t"},{"blob":"AAAAAAAAAAAAAAAAAAAAAAAAAAAAAAAAAAAAAAAAAAAAAAAAAAAAAAAAAAAAAAAAAAAAAAAAAAAAAAAAAAAAAAAAAAAAAAAAAAAAAAAAAAAAAAAAAAAAAAAAAAAAAAAAAAAAAAAAAAAAAAAAAAAAAAAAAAAAAAAAAAAAAAAAAAAAAAAAAAAAAAAAAAAAAAAAAAAAAAAAAAAAAAAAAAAAAAAAAAAAAAAAAAAAAAAAAAAAAAAAAAAAAAAAAAAAAAAAAA=="}]}}},"line":1,"ok":"get","place":1}"#;
+    "{\"client\":3,\"entity\":{\"key\":[[\"Task\",\"a\"]],\"properties\":{\"u\":{\"unindexed\":[{\"text\":\"t\"},{\"blob\":\"AAA\
+     AAAAAAAAAAAAAAAAAAAAAAAAAAAAAAAAAAAAAAAAAAAAAAAAAAAAAAAAAAAAAAAAAAAAAAAAAAAAAAAAAAAAAAAAAAAAAAAAAAAAAAAAAAAAAAAAAAAAAAAAAAA\
+     AAAAAAAAAAAAAAAAAAAAAAAAAAAAAAAAAAAAAAAAAAAAAAAAAAAAAAAAAAAAAAAAAAAAAAAAAAAAAAAAAAAAAAAAAAAAAAAAAAAAAAAAAAAAAAAAAAAAAAAAAAA\
+     AAAAAAAAA==\"}]}}},\"line\":1,\"ok\":\"get\",\"place\":1}";
 
 const ONE_VALUE: &str =
     r#"{"client":3,"entity":{"key":[["Task","a"]],"properties":{"u":{"unindexed":"s"}}},"line":1,"ok":"get","place":1}"#;
@@ -276,7 +281,8 @@ const REPEATED: &str =
     r#"{"client":3,"line":1,"ok":"query","place":0,"results":[{"key":["n",["Task","r"]],"properties":{"a":-7,"b":false}}]}"#;
 
 const OF_BYTES: &str =
-    r#"{"client":3,"line":1,"ok":"query","place":0,"results":[{"key":["n",["Task","r"]],"properties":{"x":"é","y":{"bytes":"/w=="},"z":{"key":[["Task","k"]]}}}]}"#;
+    "{\"client\":3,\"line\":1,\"ok\":\"query\",\"place\":0,\"results\":[{\"key\":[\"n\",[\"Task\",\"r\"]],\"properties\":{\"x\":\
+     \"é\",\"y\":{\"bytes\":\"/w==\"},\"z\":{\"key\":[[\"Task\",\"k\"]]}}}]}";
 
 fn names_of(alloc: Global, names: &str) -> Result<Names, Fail> {
     let mut list = Names::new(alloc);

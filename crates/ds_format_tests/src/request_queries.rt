@@ -96,12 +96,15 @@ pub(crate) const QUERIES: [Case; 28] = [
     ),
     (
         "0 query 1",
-        r#"{"op":"query","namespace":"n.-_9","kind":"T","ancestor":["",["T",1]],"filters":[["a",">",1]],"orders":[["a","asc"],["b","desc"]],"select":@,"offset":2147483647,"limit":0,"start":"x","end":"","cursor":true}"#,
+        "{\"op\":\"query\",\"namespace\":\"n.-_9\",\"kind\":\"T\",\"ancestor\":[\"\",[\"T\",1]],\"filters\":[[\"a\",\">\",1]],\"\
+         orders\":[[\"a\",\"asc\"],[\"b\",\"desc\"]],\"select\":@,\"offset\":2147483647,\"limit\":0,\"start\":\"x\",\"end\":\"\"\
+         ,\"cursor\":true}",
         "\"entities\"\n\"keys\"\n[\"b\",\"__key__\"]\nnull",
     ),
     (
         "0 query 0",
-        r#"{"op":"query","namespace":@,"kind":null,"ancestor":null,"filters":null,"orders":null,"select":null,"offset":null,"limit":null,"start":null,"end":null,"cursor":null}"#,
+        "{\"op\":\"query\",\"namespace\":@,\"kind\":null,\"ancestor\":null,\"filters\":null,\"orders\":null,\"select\":null,\"of\
+         fset\":null,\"limit\":null,\"start\":null,\"end\":null,\"cursor\":null}",
         "null\n\"\"",
     ),
     (

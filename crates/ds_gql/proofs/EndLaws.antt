@@ -13,7 +13,8 @@ use Rattle.ds_gql.specs.declared.draft.Draft.{Draft}
 use Rattle.ds_tokens.specs.declared.token.Mark.{Mark}
 use Rattle.ds_tokens.specs.declared.token.Mark.TheVariants as mark
 use Rattle.ds_tokens.specs.Pieces.{Piece, fixed, is}
-use Rattle.ds_tokens.specs.Tokens.{Front, Token, tokens_from, tokens_of, front, is_blank, begins_word, is_word_byte, is_quote, is_double_quote}
+use Rattle.ds_tokens.specs.Tokens.{Front, Token, tokens_from, tokens_of, front, is_blank, begins_word, is_word_byte, is_quote}
+use Rattle.ds_tokens.specs.Tokens.{is_double_quote}
 use Rattle.ds_tokens.specs.Tokens.{lookup, keywords, word_by, word_of, word, quoted_name, closing, string_by, string_front, integer_of}
 use Rattle.ds_tokens.specs.Tokens.{integer_by, integer_front, numbered_front, named_front, binding, sign}
 use Rattle.ds_gql.specs.Steps.{step, empty, complete}

@@ -1,6 +1,7 @@
 -- Of the numbers of a group's writers those up to a place, and their commits.
 use Rattle.std.proofs.Common.{◌≡◌, ℕ, zero, suc, ◌+◌, ◌<◌, ◌≤◌, Bool, true, false, cond, List, [], ◌∷◌, ◌++◌, length, take, drop, get_or}
-use Rattle.std.proofs.Common.{refl, ap, sym, ◌∙◌, arith, Option, Some, None, append_assoc, length-append, filter, le-leb, leb-true, Bor, IfNone, IfSome}
+use Rattle.std.proofs.Common.{refl, ap, sym, ◌∙◌, arith, Option, Some, None, append_assoc, length-append, filter, le-leb, leb-true, Bor}
+use Rattle.std.proofs.Common.{IfNone, IfSome}
 use Rattle.std.specs.Prelude.{fold, slice_get, nat_le}
 use Rattle.std.specs.Option.{option_copied}
 use Rattle.ds_log.specs.ShardCommits.{CommitsParts}

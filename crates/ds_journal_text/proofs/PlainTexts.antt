@@ -1,5 +1,6 @@
 -- The compact text of plain data is UTF-8, and no newline stands in that of any data.
-use Rattle.std.proofs.Common.{◌≡◌, ℕ, zero, suc, ◌+◌, ◌/◌, ◌%◌, ◌^◌, ◌<◌, ◌==◌, ◌&&◌, not, pos, negsuc, List, [], ◌∷◌, ◌++◌, Bool, true, false, cond}
+use Rattle.std.proofs.Common.{◌≡◌, ℕ, zero, suc, ◌+◌, ◌/◌, ◌%◌, ◌^◌, ◌<◌, ◌==◌, ◌&&◌, not, pos, negsuc, List, [], ◌∷◌, ◌++◌, Bool, true}
+use Rattle.std.proofs.Common.{false, cond}
 use Rattle.std.proofs.Common.{refl, sym, subst, arith, inl, inr, ne_eqb}
 use Rattle.std.specs.Prelude.{IsUtf8, decimal}
 use Rattle.core.specs.Fmt.{digits, digits_onto, digit_glyph}

@@ -2,7 +2,8 @@
 ghost use Rattle.std.specs.Prelude.{◌∷◌, ◌++◌, [], false};
 ghost use Rattle.json.specs.Print.{quoted};
 ghost use Rattle.serde_json.specs.Written.{compact_text, items_text};
-ghost use Rattle.ds_json_printing.specs.Printing.{natural, integer, base64_data, key_data, value_data, value_items, values_data, index_value_data};
+ghost use Rattle.ds_json_printing.specs.Printing.{natural, integer, base64_data, key_data, value_data, value_items, values_data};
+ghost use Rattle.ds_json_printing.specs.Printing.{index_value_data};
 
 use crate::keys::write_key;
 use crate::output::Output;

@@ -5,7 +5,8 @@ ghost use Rattle.serde_json.specs.Data.{array, item, no_items};
 ghost use Rattle.serde_json.specs.View.{view, items_view};
 ghost use Rattle.ds_base.specs.Keys.{ends_in_id};
 ghost use Rattle.ds_json_reading.specs.Reading.{Reads, and_then, each_of};
-ghost use Rattle.ds_json_reading.specs.Keys.{ident_of, elem_of, key_of, lawful_key, writable_key_of, completed, is_incomplete, entity_key_of};
+ghost use Rattle.ds_json_reading.specs.Keys.{ident_of, elem_of, key_of, lawful_key, writable_key_of, completed, is_incomplete};
+ghost use Rattle.ds_json_reading.specs.Keys.{entity_key_of};
 
 use crate::form::Form;
 use crate::lists::{read_rest, take_two};

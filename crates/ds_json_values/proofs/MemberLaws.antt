@@ -1,5 +1,6 @@
 -- An object that is being read.
-use Rattle.std.proofs.Common.{◌≡◌, ℕ, zero, suc, ◌-◌, ◌<◌, ◌≤◌, List, [], length, Option, Some, None, option_and_then, String, Global, string_bytes, string_cmp, refl, sym, ap, subst, ◌∙◌, arith}
+use Rattle.std.proofs.Common.{◌≡◌, ℕ, zero, suc, ◌-◌, ◌<◌, ◌≤◌, List, [], length, Option, Some, None, option_and_then, String, Global}
+use Rattle.std.proofs.Common.{string_bytes, string_cmp, refl, sym, ap, subst, ◌∙◌, arith}
 use Rattle.std.specs.BTreeMap.{insert_entry}
 use Rattle.json.specs.Token.{Token}
 use Rattle.json.specs.Json as json

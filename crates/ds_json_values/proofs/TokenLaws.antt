@@ -1,5 +1,6 @@
 -- What a value is, by the first of its tokens.
-use Rattle.std.proofs.Common.{◌≡◌, ℕ, zero, ◌-◌, ◌<◌, List, ◌∷◌, length, Bool, Option, Some, None, option_map, String, Global, string_bytes, refl, sym, ap, subst, ◌∙◌, rules}
+use Rattle.std.proofs.Common.{◌≡◌, ℕ, zero, ◌-◌, ◌<◌, List, ◌∷◌, length, Bool, Option, Some, None, option_map, String, Global, string_bytes}
+use Rattle.std.proofs.Common.{refl, sym, ap, subst, ◌∙◌, rules}
 use Rattle.json.specs.Token.{Token}
 use Rattle.json.specs.Json as json
 use Rattle.json.specs.Json.{value, items, members, parse_map}

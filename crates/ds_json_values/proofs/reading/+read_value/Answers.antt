@@ -1,4 +1,5 @@
-use Rattle.std.proofs.Common.{◌≡◌, ◌-◌, ◌<◌, [], ◌∷◌, length, Some, None, String, Vec, BTreeMap, Global, string_bytes, sym, ap, subst, ◌∙◌, arith, rules}
+use Rattle.std.proofs.Common.{◌≡◌, ◌-◌, ◌<◌, [], ◌∷◌, length, Some, None, String, Vec, BTreeMap, Global, string_bytes, sym, ap, subst, ◌∙◌}
+use Rattle.std.proofs.Common.{arith, rules}
 use Rattle.json.specs.Token.{Token}
 use Rattle.json.specs.Json.{after_end_array, read_key, items, members, value}
 use Rattle.json.specs.Reads.{token_of}
@@ -12,7 +13,9 @@ use Rattle.ds_json_values.specs.Outcomes.{Refuses, Gives}
 use Rattle.ds_json_values.proofs.ItemLaws.{items_turn, items_stop, items_over}
 use Rattle.ds_json_values.proofs.MemberLaws.{members_turn, members_stop, members_over, no_key, behind_those}
 use Rattle.ds_json_values.proofs.OutcomeLaws.{given, not_given}
-use Rattle.ds_json_values.proofs.TokenLaws.{view-String, view-Number, view-Bool, view-Null, string_first, number_first, number_refused, boolean_first, null_first, array_first, array_refused, array_too_deep, object_first, object_refused, object_too_deep}
+use Rattle.ds_json_values.proofs.TokenLaws.{view-String, view-Number, view-Bool, view-Null, string_first, number_first, number_refused}
+use Rattle.ds_json_values.proofs.TokenLaws.{boolean_first, null_first, array_first, array_refused, array_too_deep, object_first}
+use Rattle.ds_json_values.proofs.TokenLaws.{object_refused, object_too_deep}
 use Rattle.ds_json_values.proofs.reading.+read_value.Goals as goal
 
 pub read_items-returns-in_default-clause-gives : goal.read_items-returns-in_default-clause-gives

@@ -1,4 +1,5 @@
-use Rattle.std.proofs.Common.{◌≡◌, ℕ, List, [], ◌∷◌, ◌++◌, ◌==◌, length, map, refl, ap, sym, ◌∙◌, subst, Bor, option_map, Option, None, Some, true}
+use Rattle.std.proofs.Common.{◌≡◌, ℕ, List, [], ◌∷◌, ◌++◌, ◌==◌, length, map, refl, ap, sym, ◌∙◌, subst, Bor, option_map, Option, None}
+use Rattle.std.proofs.Common.{Some, true}
 use Rattle.std.specs.Prelude.{IfNone}
 use Rattle.std.proofs.lemmas.List.{map-append}
 use Rattle.ds_reply_lines.specs.ReplyLines.{whole_lines}

@@ -2,7 +2,8 @@ use Rattle.std.proofs.Common.{◌≡◌, ◌+◌, ◌-◌, ◌<◌, false, lengt
 use Rattle.ds_tokens.specs.Tokens.{is_quote}
 use Rattle.ds_tokens.proofs.ClosingLemmas.{closing-plain, closing-pair, closing-ends, closing-none, other_byte}
 use Rattle.ds_tokens.proofs.lexer.strings.closing.Goals as goal
-use Rattle.ds_tokens.proofs.lexer.strings.closing.Goals.{else-at-bytes-via-then-at-bytes+else-bytes-at-eq39, else-at-bytes-via-else-at-bytes}
+use Rattle.ds_tokens.proofs.lexer.strings.closing.Goals.{else-at-bytes-via-then-at-bytes+else-bytes-at-eq39}
+use Rattle.ds_tokens.proofs.lexer.strings.closing.Goals.{else-at-bytes-via-else-at-bytes}
 
 pub loop-at-preserved-then-bytes-at-ne39 : goal.loop-at-preserved-then-bytes-at-ne39
 loop-at-preserved-then-bytes-at-ne39 c =
