@@ -23,9 +23,9 @@ use ds_base::{Buffer, Key, NoMemory, TryCopy};
 use ds_entity::Entity;
 use ds_journal::Draft;
 use ds_log::Write;
-use ds_output::{body_of, placed, prepare_key, tell_last};
-use ds_protocol::{draft_of_write, make_room, next_above};
-use ds_reply::{Body, Reply, WriteAt};
+use ds_output::{body_of, make_room_for_write, placed, prepare_key, tell_last};
+use ds_protocol::{draft_of_write, next_above};
+use ds_reply::{Body, WriteAt};
 use ds_store::{Names, NewCause, NewRefused, Store};
 use std::alloc::{AllocError, Global};
 use std::sync::Wait;
@@ -49,7 +49,6 @@ struct PreparedNew {
 fn prepare_commit(
     alloc: Global,
     client: u32,
-    number: u64,
     write: Write,
     keep: usize,
     text: &mut Buffer,
@@ -60,15 +59,9 @@ fn prepare_commit(
     ensures kept { text.old.spare ≤ text.new.spare }
 {
     let body = body_of(alloc, &write, WriteAt::Commit(u64::MAX))?;
-    let longest = Reply {
-        client,
-        line: number,
-        body,
-    };
-    if !make_room(&longest, keep, text) {
+    if !make_room_for_write(write.key(), keep, text) {
         return Err(AllocError);
     }
-    let body = longest.body;
     let draft = draft_of_write(alloc, client, write)?;
     Ok(Prepared { draft, body })
 }
@@ -163,7 +156,7 @@ impl<J: Names> State<J> {
             drop(write);
             return self.say_unissued(number, id, keep);
         }
-        let prepared = prepare_commit(self.alloc, self.client, number, write, keep, &mut self.text);
+        let prepared = prepare_commit(self.alloc, self.client, write, keep, &mut self.text);
         let Ok(Prepared { draft, body }) = prepared else {
             return self.say_no_memory(number, keep);
         };
