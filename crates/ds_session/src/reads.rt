@@ -32,6 +32,7 @@ pub(crate) fn group_and_shard(alloc: Global, key: &Key, shards: u32) -> Result<(
     requires { (1 ≤ shards) × (shards ≤ most_shards) }
     ensures group { IfOk result (λ both. both.0 ≡ root_of key.now) }
     ensures shard { IfOk result (λ both. both.1 ≡ shard_of (root_of key.now) shards) }
+    ensures below { IfOk result (λ both. both.1 < shards) }
 {
     let group = key.root(alloc)?;
     let shard = shard_of(alloc, &group, shards)?;
@@ -85,7 +86,7 @@ impl<J: Names> State<J> {
             return self.say_no_memory(number, keep);
         }
         let at = touch_place(rt, store, &mut self.pass, &self.transaction, &group);
-        match store.get(rt, &mut self.pass, key, at) {
+        match store.get_in(rt, &mut self.pass, shard, key, at) {
             Ok(got) => {
                 let Got {
                     entity,

@@ -47,6 +47,26 @@ impl<J: Names, H: Wait + Drop> Store<J, H> {
         ensures read { OnErr result (HasRead pass.old pass.new) }
     {
         let shard = self.shard_of_key(key)?;
+        self.get_in(rt, pass, shard, key, at)
+    }
+
+    /// The same in the key's shard, which the caller knows already.
+    pub fn get_in<R: Wait>(
+        &self,
+        rt: &R,
+        pass: &mut Pass<J>,
+        shard: u32,
+        key: &Key,
+        at: Option<u64>,
+    ) -> Result<Got, GetRefused>
+        requires shard { shard ≡ shard_of (root_of key.now) self.now.shards }
+        requires below { shard < self.now.shards }
+        requires at { IfSome at (λ place. place ≤ pass.old.place) }
+        ensures got { IfOk result (λ g. IsGot self.now.shards pass.old pass.new key.now at g.entity g.place g.entries) }
+        ensures expired { IfErr result (λ e. WhereExpired (λ x. IsExpired self.now.shards J.window pass.old pass.new (root_of key.now) at
+            x.snapshot x.applied x.commit) e) }
+        ensures read { OnErr result (HasRead pass.old pass.new) }
+    {
         let stand = self.stand(rt, pass, shard, at)?;
         let found = pass.look_up(self.alloc, shard as usize, stand.entries, self.window, key)?;
         match found {

@@ -1,4 +1,4 @@
-use Rattle.std.proofs.Common.{◌≡◌, refl, ap, subst, ◌∙◌, Some}
+use Rattle.std.proofs.Common.{◌≡◌, ◌<◌, refl, ap, subst, ◌∙◌, Some}
 use Rattle.ds_base.specs.Keys.{root_of}
 use Rattle.ds_log.specs.Shards.{shard_of}
 use Rattle.ds_model.specs.Groups.{with_transaction}
@@ -12,27 +12,33 @@ use Rattle.ds_session.proofs.StandingLaws.{asked_at, expired_commit, expired_sai
 use Rattle.ds_session.proofs.StateLaws.{later_from, none_from, unrefused_parts, within_parts}
 use Rattle.ds_session.proofs.state.State.get.Goals as goal
 
+pub get_in-requires-clause-shard : goal.get_in-requires-clause-shard
+get_in-requires-clause-shard g c = c.in-Ok.ensures.shard ∙ ap (shard_of (root_of c.args.key.now)) c.shards.ensures.value
+
+pub get_in-requires-clause-below : goal.get_in-requires-clause-below
+get_in-requires-clause-below g c = subst (λ n. c.in-Ok.shard < n) c.shards.ensures.value c.in-Ok.ensures.below
+
 pub returns-then-not-tell : goal.returns-then-not-tell
 returns-then-not-tell g c =
-    let h = read_through c.self.inside.pass c.touch_place-at.new.pass c.get.new.pass c.touch_place-at.ensures.read
-    c.in-Ok-get.ensures.got.read.read in
+    let h = read_through c.self.inside.pass c.touch_place-at.new.pass c.get_in.new.pass c.touch_place-at.ensures.read
+    c.in-Ok-get_in.ensures.got.read.read in
     none_from _ _ _ _ _ _ c.self.view_is _ _ _ c.requires.within refl
     (ap (λ o. with_transaction o c.self.inside.seen) c.make_room.ensures.same) h
     (c.tell.ensures.untold c.if-not-tell.true) c.tell.ensures.kept
 
 pub expire-requires-clause-within : goal.expire-requires-clause-within
 expire-requires-clause-within g c =
-    let h = read_through c.self.inside.pass c.touch_place-at.new.pass c.get.new.pass c.touch_place-at.ensures.read
+    let h = read_through c.self.inside.pass c.touch_place-at.new.pass c.get_in.new.pass c.touch_place-at.ensures.read
     c.in-Err-Expired.ensures.read in
-    within_same c.self.inside.transaction.transaction c.make_room.new.self.transaction c.self.inside.seen c.self.inside.pass c.get.new.pass
-    c.make_room.ensures.same h (within_parts _ _ c.self.view_is c.requires.within)
+    within_same c.self.inside.transaction.transaction c.make_room.new.self.transaction c.self.inside.seen c.self.inside.pass
+    c.get_in.new.pass c.make_room.ensures.same h (within_parts _ _ c.self.view_is c.requires.within)
 
 pub say_no_memory-requires-in-Err-NoMemory-clause-within : goal.say_no_memory-requires-in-Err-NoMemory-clause-within
 say_no_memory-requires-in-Err-NoMemory-clause-within g c =
-    let h = read_through c.self.inside.pass c.touch_place-at.new.pass c.get.new.pass c.touch_place-at.ensures.read
+    let h = read_through c.self.inside.pass c.touch_place-at.new.pass c.get_in.new.pass c.touch_place-at.ensures.read
     c.in-Err-NoMemory.ensures.read in
-    within_same c.self.inside.transaction.transaction c.make_room.new.self.transaction c.self.inside.seen c.self.inside.pass c.get.new.pass
-    c.make_room.ensures.same h (within_parts _ _ c.self.view_is c.requires.within)
+    within_same c.self.inside.transaction.transaction c.make_room.new.self.transaction c.self.inside.seen c.self.inside.pass
+    c.get_in.new.pass c.make_room.ensures.same h (within_parts _ _ c.self.view_is c.requires.within)
 
 pub returns-else-not-tell : goal.returns-else-not-tell
 returns-else-not-tell g c =
@@ -41,8 +47,8 @@ returns-else-not-tell g c =
     let numbered : c.in-Ok.shard ≡ shard_of group c.args.store.now.shards =
     c.in-Ok.ensures.shard ∙ ap (shard_of group) c.shards.ensures.value in
     let within = within_parts _ _ c.self.view_is c.requires.within in
-    let is = c.in-Ok-get.ensures.got in
-    let w = world_seen g.J.Names.definitions c.args.store.now.shards (Some g.J.Names.window) c.get.new.pass in
+    let is = c.in-Ok-get_in.ensures.got in
+    let w = world_seen g.J.Names.definitions c.args.store.now.shards (Some g.J.Names.window) c.get_in.new.pass in
     rw (← c.self.view_is)
     (got_replied g.J.Names.definitions c.args.store.now.shards g.J.Names.window _ _ c.touch_place-at.new.pass c.args.number c.args.keep
     c.args.key.now c.touch_place-at.result within
@@ -50,11 +56,11 @@ returns-else-not-tell g c =
     (asked_at c.self.inside.transaction.transaction c.make_room.new.self.transaction c.self.inside.seen c.self.inside.pass
     c.touch_place-at.new.pass c.touch_place-at.result c.in-Ok.group group c.make_room.ensures.same named within
     c.touch_place-at.ensures.stands)
-    c.in-Ok-get.got.entity c.in-Ok-get.got.place c.in-Ok-get.got.entries is refl
+    c.in-Ok-get_in.got.entity c.in-Ok-get_in.got.place c.in-Ok-get_in.got.entries is refl
     (group_seen w c.self.inside.seen c.see_entries.new.self c.self.inside.transaction.transaction c.touch.new.self.transaction
-    c.make_room.new.self.transaction c.in-Ok.group group c.in-Ok-get.got.place c.in-Ok.shard c.in-Ok-get.got.entries
+    c.make_room.new.self.transaction c.in-Ok.group group c.in-Ok-get_in.got.place c.in-Ok.shard c.in-Ok-get_in.got.entries
     c.make_room.ensures.same named numbered is.read.entries_are c.touch.ensures
-    (c.see_entries.ensures ∙ ap (saw_entries c.in-Ok.shard c.in-Ok-get.got.entries) c.see_place.ensures))
+    (c.see_entries.ensures ∙ ap (saw_entries c.in-Ok.shard c.in-Ok-get_in.got.entries) c.see_place.ensures))
     (c.tell.ensures.told c.if-not-tell.false) c.tell.ensures.kept)
 
 pub returns-in-Err-Expired : goal.returns-in-Err-Expired
@@ -78,15 +84,16 @@ returns-in-Err-Expired g c =
     ∙ unrefused_parts g.J.Names.definitions _ _ (call.Get c.args.key.now) c.self.view_is c.requires.unrefused in
     later_from _ _ _ _ _ _ c.self.view_is _ _ _ _ refl (ap (λ o. with_transaction o seen) same) refl (read_itself c.self.inside.pass)
     (c.expire.ensures.replied c.self.inside.pass is.place _ _ within
-    (read_through c.self.inside.pass p c.get.new.pass c.touch_place-at.ensures.read c.in-Err-Expired.ensures.read) is.inside
+    (read_through c.self.inside.pass p c.get_in.new.pass c.touch_place-at.ensures.read c.in-Err-Expired.ensures.read) is.inside
     (expired_commit g.J.Names.definitions c.args.store.now.shards g.J.Names.window (with_transaction has seen) c.self.inside.pass p
-    c.get.new.pass group c.touch_place-at.result x.snapshot x.applied x.commit c.in-Ok.shard numbered is)
+    c.get_in.new.pass group c.touch_place-at.result x.snapshot x.applied x.commit c.in-Ok.shard numbered is)
     (expired_said g.J.Names.definitions c.args.store.now.shards g.J.Names.window (with_transaction has seen) c.self.inside.pass p
-    c.get.new.pass group c.touch_place-at.result x.snapshot x.applied x.commit c.in-Ok.shard numbered is c.args.self.now.client
+    c.get_in.new.pass group c.touch_place-at.result x.snapshot x.applied x.commit c.in-Ok.shard numbered is c.args.self.now.client
     c.args.key.now refl within c.touch_place-at.ensures.read unrefused c.touch_place-at.ensures.inside asked))
 
 pub returns-in-Err-NoMemory : goal.returns-in-Err-NoMemory
 returns-in-Err-NoMemory g c =
     later_from _ _ _ _ _ _ c.self.view_is _ _ _ _ refl (ap (λ o. with_transaction o c.self.inside.seen) c.make_room.ensures.same) refl
-    (read_through c.self.inside.pass c.touch_place-at.new.pass c.get.new.pass c.touch_place-at.ensures.read c.in-Err-NoMemory.ensures.read)
+    (read_through c.self.inside.pass c.touch_place-at.new.pass c.get_in.new.pass c.touch_place-at.ensures.read
+    c.in-Err-NoMemory.ensures.read)
     (c.say_no_memory-in-Err-NoMemory.ensures.replied _ _)
