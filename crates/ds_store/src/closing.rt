@@ -15,6 +15,7 @@ use crate::store::Store;
 use ds_draw::{Seat, Seats};
 use ds_log::Journal;
 use ds_store_hubs::{Names, SeatRoom};
+use std::mem::forget;
 use std::sync::{Mutex, Wait};
 use std::thread;
 
@@ -29,7 +30,8 @@ pub struct Closed {
 
 impl<J: Names, H: Wait + Drop> Store<J, H> {
     /// Closes the store, and uses its passes up, which are all that were made with it: all that they saw is in the journal, their own
-    /// commits are its commits, each once, and the ids that they drew are all below the counter, each once. It takes no memory.
+    /// commits are its commits, each once, and the ids that they drew are all below the counter, each once. It takes no memory. A program
+    /// ends with its store, so the memory of the shards is left to the end of the process: the system takes it back at once.
     pub fn close<R: Wait>(self, rt: &R, passes: Passes<J>) -> Closed
         requires { length passes ≡ self.passes }
         ensures { HaveEnded self.shards passes result.journal result.next }
@@ -71,12 +73,13 @@ impl<J: Names, H: Wait + Drop> Store<J, H> {
         }
     }
 
-    /// Uses up a store whose journal isn't asked for any more, with its passes. It waits for the readers that read. There is nothing that a
-    /// clause could say: nothing is handed back, and `close` is the call that tells what was committed.
+    /// Uses up a store whose journal isn't asked for any more, with its passes. The memory of the shards is left to the end of the process,
+    /// as after `close`. There is nothing that a clause could say: nothing is handed back, and `close` is the call that tells what was
+    /// committed.
     pub fn end<R: Wait>(self, _rt: &R, _passes: Passes<J>) {
         let Store {
             journal: _journal,
-            shards: _shards,
+            shards,
             words: _words,
             definitions: _definitions,
             window: _,
@@ -85,6 +88,7 @@ impl<J: Names, H: Wait + Drop> Store<J, H> {
             changed: _changed,
             alloc: _,
         } = self;
+        forget(shards);
     }
 }
 
@@ -107,7 +111,8 @@ fn confirm_pass<J: Names, H: Wait + Drop, R: Wait>(rt: &R, desk: &JournalDesk<J,
     desk.writer.writer.confirm(rt, &pass.journal);
 }
 
-/// Shows that all entries that the passes saw begin the shards' lists of the journal, and ends the shards' hubs.
+/// Shows that all entries that the passes saw begin the shards' lists of the journal. The shards' memory isn't given back: to free both
+/// copies of each row by row would take a good part of a run.
 fn confirm_shards<J: Names, H: Wait + Drop, R: Wait>(
     rt: &R,
     desk: &JournalDesk<J, H>,
@@ -123,6 +128,7 @@ fn confirm_shards<J: Names, H: Wait + Drop, R: Wait>(
     for shard in shards {
         let shard = shard.into_inner();
         confirm_shard(rt, desk, &shard, number, passes);
+        forget(shard);
         number += 1;
     }
 }
