@@ -12,6 +12,7 @@ use ds_log::{Commit, Entries, Entry, ShardCommits, shard_entries};
 use ds_shard::ShardState;
 use std::alloc::{AllocError, Global};
 use std::collections::VecDeque;
+use std::sync::Wait;
 
 /// So many entries of a shard are never reached: a journal has at most 2^48 commits of at most 500 writes.
 const MOST_ENTRIES: u64 = 1 << 61;
@@ -60,8 +61,41 @@ pub fn take_in(waiting: &mut VecDeque<Entry>, commits: &mut ShardCommits, entrie
     }
 }
 
+/// Publishes what is pending and so many of the entries that wait, the first ones. A refusal is want of memory; it may then have published
+/// what was pending, and added some.
+///
+/// Behind an entry that is kept aside for want of memory none is added, so what is pending is then published first.
+pub fn publish_waiting<R: Wait>(
+    rt: &R,
+    waiting: &mut VecDeque<Entry>,
+    writer: &mut Writer<Entry, ShardState>,
+    count: u64,
+) -> Result<(), NoMemory>
+    requires { count ≤ length waiting.old.items }
+    ensures same { (writer.new.hub ≡ writer.old.hub) × (writer.new.start ≡ writer.old.start) }
+    ensures kept { (writer.new.published ++ writer.new.pending) ++ waiting.new.items ≡ (writer.old.published ++ writer.old.pending) ++
+        waiting.old.items }
+    ensures published { OnOk result (length writer.new.published
+        ≡ (length writer.old.published + length writer.old.pending) + count) }
+{
+    publish_parked(rt, writer)?;
+    add_waiting(waiting, writer, count)?;
+    writer.publish(rt)
+}
+
+/// Publishes what is pending where the last of it is kept aside. A refusal is want of memory, and publishes nothing.
+fn publish_parked<R: Wait>(rt: &R, writer: &mut Writer<Entry, ShardState>) -> Result<(), NoMemory>
+    ensures same { (writer.new.hub ≡ writer.old.hub) × (writer.new.start ≡ writer.old.start) }
+    ensures kept { writer.new.published ++ writer.new.pending ≡ writer.old.published ++ writer.old.pending }
+{
+    if !writer.is_parked() {
+        return Ok(());
+    }
+    writer.publish(rt)
+}
+
 /// Adds so many of the entries that wait to what is pending, the first ones. A refusal is want of memory; it may then have added some.
-pub fn add_waiting(
+fn add_waiting(
     waiting: &mut VecDeque<Entry>,
     writer: &mut Writer<Entry, ShardState>,
     count: u64,

@@ -17,7 +17,7 @@ mod opened;
 mod seat_room;
 mod showing;
 
-pub use arriving::{add_waiting, later_entries, take_in};
+pub use arriving::{later_entries, publish_waiting, take_in};
 pub use journal_state::JournalState;
 pub use names::Names;
 pub use opened::{Opened, OpenedShard, open};
