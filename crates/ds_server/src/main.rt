@@ -7,6 +7,7 @@
 use ds_io::{NoGate, StdFiles, StdSink, StdSource};
 use ds_serve::{Status, serve};
 use std::io::{ErrorKind, Write};
+use std::mem::forget;
 use std::process::ExitCode;
 use std::{env, io};
 
@@ -27,7 +28,10 @@ fn main(rt: HostRuntime) -> ExitCode {
         &mut output,
         &NoGate,
     );
-    end(&rt, run.status)
+    let status = run.status;
+    // The system takes a process's memory back at once; the journal would be freed commit by commit.
+    forget(run);
+    end(&rt, status)
 }
 
 /// The words behind the program's name. An error of the kind `InvalidData` tells that one isn't UTF-8; any other is want of
