@@ -1,4 +1,5 @@
 pub mod AncestorPaths
+pub mod Apart
 pub mod BoundLaws
 mod BoundSums
 pub mod Bounded

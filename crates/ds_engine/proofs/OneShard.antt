@@ -19,7 +19,7 @@ use Rattle.ds_pages.proofs.PageLaws.{drop-seen}
 use Rattle.ds_model.specs.Bounds.{given}
 use Rattle.ds_model.specs.Results.{branch_results, united}
 use Rattle.ds_engine.specs.Searches.{all_entities, page_over, rows_of_shards}
-use Rattle.ds_engine.proofs.ShardPages.{alone}
+use Rattle.ds_engine.proofs.ShardPages.{alone, one_of}
 
 -- the page of the first rows, as many as are skipped and taken, is that of all
 cut : (columns : List Column) (w : Window) (rs : List RowParts) (rows : List Row) (m : RowPage)
@@ -34,11 +34,6 @@ cut columns w rs rows m are some next =
     next ∙ ap (last_of w.start) are
     ∙ fold-map (λ (place : Option Place) (row : Row). Some row.place) (placed columns) w.start seen in
     λ i. record { rows = given i; next = last i }
-
-one_of : {A : Type 0} (xs : List A) → length xs ≡ 1 → (x : A) × (xs ≡ x ∷ [])
-one_of [] one = absurd (omega (arith, one))
-one_of (x ∷ []) one = (x, refl)
-one_of (x ∷ y ∷ xs) one = absurd (omega (arith, one))
 
 pub one_page : (n : Normal) (w : Window) (views : List (List EntityParts)) (rows : List Row) (m : RowPage) → IsLawfulNormal n
     → n.several ≡ false → length views ≡ 1 → rows ≡ map (placed n.merged) (rows_of_shards n w views)

@@ -7,6 +7,7 @@ use Rattle.std.proofs.lemmas.List.Elements.{All-head, All-tail, All-nil, All-con
 use Rattle.ds_base.specs.declared.column.Column.{Column}
 use Rattle.ds_entity.specs.declared.results.Item.{Item}
 use Rattle.ds_entity.specs.Entities.{EntityParts}
+use Rattle.ds_base.specs.Sorting.{sorted_by}
 use Rattle.ds_base.specs.SortingLaws.{sorted_by-IsPermutation}
 use Rattle.ds_bytes.specs.Rows.{RowParts}
 use Rattle.ds_query.specs.declared.query.Select.{Select}
@@ -19,16 +20,16 @@ use Rattle.ds_query.specs.Lawful.{AreAlike, IsLawfulNormal, IsPlaceless, SuitsSe
 use Rattle.ds_pages.specs.declared.row_page.RowPage.{RowPage}
 use Rattle.ds_pages.specs.Extended.{extended}
 use Rattle.ds_pages.specs.Pages.{first_rows, page_of, page_of_rows, plus_limit, same_mark, with_places}
-use Rattle.ds_pages.specs.Places.{parts_of, placed}
+use Rattle.ds_pages.specs.Places.{compare_rows, parts_of, placed}
 use Rattle.ds_model.specs.Bounds.{given}
 use Rattle.ds_model.specs.Results.{branch_results, items_of, result, united}
 use Rattle.ds_model.proofs.AllOf.{all_of, all-flat_map}
 use Rattle.ds_model.proofs.ResultOrder.{long_extended}
 use Rattle.ds_model.proofs.RowOrder.{IsLongRow, full_row-total, full_row-same, sorted-full}
 use Rattle.ds_engine.proofs.PartFirsts.{AreParts, firsts}
-use Rattle.ds_engine.proofs.ShardResults.{shards_page}
+use Rattle.ds_engine.proofs.ShardResults.{shards_apart, shards_page}
 use Rattle.ds_engine.proofs.UnitedResults.{given_page, given_rows}
-use Rattle.ds_engine.specs.Searches.{AreOfShards, IsResultOf, all_entities, item_in, names_of, page_over}
+use Rattle.ds_engine.specs.Searches.{AreOfShards, IsResultOf, all_entities, item_in, page_over}
 use Rattle.ds_engine.specs.Searches.{rows_of_shards, shard_among}
 use Rattle.ds_engine.proofs.InAnyOrder.{either_order}
 use Rattle.ds_engine.proofs.InShards.{items_in_shards}
@@ -116,14 +117,37 @@ alone n w q views single one =
     each [] = refl
     each (e ∷ es) = λ i. append-nil (given q w.start w.end (plus_limit w.offset w.limit) e) i ++ each es i
 
+pub one_of : {A : Type 0} (xs : List A) → length xs ≡ 1 → (x : A) × (xs ≡ x ∷ [])
+one_of [] one = absurd (omega (arith, one))
+one_of (x ∷ []) one = (x, refl)
+one_of (x ∷ y ∷ xs) one = absurd (omega (arith, one))
+
+columns_of_one : (n : Normal) (q : Branch) → IsLawfulNormal n → n.several ≡ false → n.branches ≡ q ∷ [] → q.columns ≡ n.merged
+columns_of_one n q lawful single one =
+    All-head (λ (b : Branch). b.columns ≡ n.merged) q []
+    (subst (λ bs. All (λ (b : Branch). b.columns ≡ n.merged) bs) one (lawful.single_columns single))
+
+-- of what the shards give of one branch, in order, each is the first of its mark
+all_first : (n : Normal) (w : Window) (q : Branch) (views : List (List EntityParts)) → IsLawfulNormal n → n.several ≡ false
+    → n.branches ≡ q ∷ [] → AreOfShards (length views) 0 views
+    → sorted_by (compare_rows n.merged) (rows_of_shards n w views) ≡ first_rows n.merged (projected q.select) (rows_of_shards n w views)
+all_first n w q views lawful single one own =
+    let rows : List RowParts = flat_map (given q w.start w.end (plus_limit w.offset w.limit)) views in
+    let are = alone n w q views single one in
+    let columns = columns_of_one n q lawful single one in
+    ap (sorted_by (compare_rows n.merged)) are
+    ∙ ap (λ cs. sorted_by (compare_rows cs) rows) (sym columns)
+    ∙ sym (shards_apart q w.start w.end (shard_among (length views)) (plus_limit w.offset w.limit) views
+    (as_parts (length views) 0 views own))
+    ∙ ap (λ cs. first_rows cs (projected q.select) rows) columns
+    ∙ ap (first_rows n.merged (projected q.select)) (sym are)
+
 single_page : (n : Normal) (w : Window) (q : Branch) (views : List (List EntityParts)) → IsLawfulNormal n → n.several ≡ false
     → q ≡ get_or n.branches 0 q → AreOfShards (length views) 0 views
     → page_of_rows n.merged (projected q.select) w (rows_of_shards n w views) ≡ with_places n.merged (result n w (all_entities views))
 single_page n w q views lawful single first own =
     let one : n.branches ≡ q ∷ [] = only n.branches q (lawful.single single) first in
-    let columns : q.columns ≡ n.merged =
-    All-head (λ (b : Branch). b.columns ≡ n.merged) q []
-    (subst (λ bs. All (λ (b : Branch). b.columns ≡ n.merged) bs) one (lawful.single_columns single)) in
+    let columns : q.columns ≡ n.merged = columns_of_one n q lawful single one in
     let results : List RowParts = branch_results q w.start w.end (all_entities views) in
     ap (page_of_rows n.merged (projected q.select) w) (alone n w q views single one)
     ∙ ap (λ cs. page_of_rows cs (projected q.select) w (flat_map (given q w.start w.end (plus_limit w.offset w.limit)) views)) (sym columns)
@@ -137,19 +161,6 @@ single_page n w q views lawful single first own =
     (flat_map (λ b. branch_results b w.start w.end (all_entities views)) n.branches)))) (sym single)
 
 -- ---- a query
-
-pub shards_page_is : (n : Normal) (w : Window) (q : Branch) (views : List (List EntityParts)) → IsLawfulNormal n → SuitsSeveral n.several w
-    → q ≡ get_or n.branches 0 q → AreOfShards (length views) 0 views
-    → page_of_rows n.merged (names_of n q) w (rows_of_shards n w views) ≡ with_places n.merged (result n w (all_entities views))
-shards_page_is n w q views lawful suits first own = by n.several refl where
-  by : (b : Bool) → n.several ≡ b
-      → page_of_rows n.merged (names_of n q) w (rows_of_shards n w views) ≡ with_places n.merged (result n w (all_entities views))
-  by true several =
-      ap (λ s. page_of_rows n.merged (cond s [] (projected q.select)) w (rows_of_shards n w views)) several
-      ∙ several_page n w views lawful suits several
-  by false single =
-      ap (λ s. page_of_rows n.merged (cond s [] (projected q.select)) w (rows_of_shards n w views)) single
-      ∙ single_page n w q views lawful single first own
 
 -- rows without their places
 pub parts-placed : (columns : List Column) (rs : List RowParts) → map parts_of (map (placed columns) rs) ≡ rs
@@ -172,17 +183,27 @@ selected_alike n q P lawful first here = from n.branches lawful.alike first wher
       let of_b : All (AreAlike b) (b ∷ bs) = All-head (λ a. All (AreAlike a) (b ∷ bs)) b bs alike in
       each (b ∷ bs) (subst (λ a. All (AreAlike a) (b ∷ bs)) (sym is) of_b)
 
--- the page of what the shards give is that over the entities of all
-pub page_of_shards : (n : Normal) (w : Window) (q : Branch) (views : List (List EntityParts)) (names : List (List ℕ)) (given : List Row)
-    (page : RowPage)
-    → IsLawfulNormal n → SuitsSeveral n.several w → q ≡ get_or n.branches 0 q → names ≡ names_of n q
-    → given ≡ map (placed n.merged) (rows_of_shards n w views)
-    → page ≡ page_of_rows n.merged names w (map parts_of given)
+-- the page of what the shards give of several branches is that over the entities of all
+pub page_of_several : (n : Normal) (w : Window) (views : List (List EntityParts)) (given : List Row) (page : RowPage) → IsLawfulNormal n
+    → SuitsSeveral n.several w → n.several ≡ true → given ≡ map (placed n.merged) (rows_of_shards n w views)
+    → page ≡ page_of_rows n.merged [] w (map parts_of given) → page ≡ page_over n w (all_entities views)
+page_of_several n w views given page lawful suits several all is =
+    is ∙ ap (λ rs. page_of_rows n.merged [] w (map parts_of rs)) all
+    ∙ ap (page_of_rows n.merged [] w) (parts-placed n.merged (rows_of_shards n w views))
+    ∙ several_page n w views lawful suits several
+
+-- and so is that of one branch, of which no result is given twice
+pub page_of_single : (n : Normal) (w : Window) (views : List (List EntityParts)) (given : List Row) (page : RowPage) → IsLawfulNormal n
+    → n.several ≡ false → given ≡ map (placed n.merged) (rows_of_shards n w views)
+    → page ≡ with_places n.merged (page_of n.merged w (sorted_by (compare_rows n.merged) (map parts_of given)))
     → AreOfShards (length views) 0 views → page ≡ page_over n w (all_entities views)
-page_of_shards n w q views names given page lawful suits first named all is own =
-    is ∙ (λ i. page_of_rows n.merged (named i) w (map parts_of (all i)))
-    ∙ ap (page_of_rows n.merged (names_of n q) w) (parts-placed n.merged (rows_of_shards n w views))
-    ∙ shards_page_is n w q views lawful suits first own
+page_of_single n w views given page lawful single all is own =
+    let q = one_of n.branches (lawful.single single) in
+    let found : List RowParts = rows_of_shards n w views in
+    is ∙ ap (λ rs. with_places n.merged (page_of n.merged w (sorted_by (compare_rows n.merged) (map parts_of rs)))) all
+    ∙ ap (λ rs. with_places n.merged (page_of n.merged w (sorted_by (compare_rows n.merged) rs))) (parts-placed n.merged found)
+    ∙ ap (λ rs. with_places n.merged (page_of n.merged w rs)) (all_first n w q.0 views lawful single q.1 own)
+    ∙ single_page n w q.0 views lawful single (sym (ap (λ bs. get_or bs 0 q.0) q.1)) own
 
 -- that page, and what is told of its rows by their shards, are what the query finds
 pub found_in_shards : (n : Normal) (w : Window) (q : Branch) (views : List (List EntityParts)) (page : RowPage) (results : List Item)

@@ -1,6 +1,6 @@
 -- A query of one branch over shards: the first results of each shard tell the first results of all.
 use Rattle.std.proofs.Common.{◌≡◌, ℕ, ◌+◌, List, [], ◌∷◌, ◌++◌, map, drop, take, refl, sym, ap, ◌∙◌}
-use Rattle.std.proofs.Common.{Bool, true, Option, Some, None}
+use Rattle.std.proofs.Common.{Bool, true, false, Option, Some, None}
 use Rattle.std.specs.Prelude.{filter, flat_map}
 use Rattle.std.specs.Cmp.Lexicographic.{pointwise_decides}
 use Rattle.std.specs.List.{AllByRecursion}
@@ -32,6 +32,7 @@ use Rattle.ds_model.specs.Rows.{rows, entity_rows, is_found, is_within, first_va
 use Rattle.ds_model.proofs.AllOf.{all_of, all-append, all-filter, all-map, all-flat_map, all-sorted}
 use Rattle.ds_model.proofs.ResultOrder.{long_branch}
 use Rattle.ds_model.proofs.RowOrder.{IsLongRow, full_row_cmp, full_row-total, full_row-same, sorted-full}
+use Rattle.ds_engine.proofs.Apart.{Apart, apart_firsts, apart_parts, apart_sorted, apart_taken}
 use Rattle.ds_engine.proofs.PartFirsts.{firsts, AreParts, kept_all, taken_all, first_of_parts}
 use Rattle.ds_engine.proofs.UnitedFirsts.{all_firsts}
 
@@ -183,6 +184,52 @@ module _ (q : Branch) (start end : Option Place) where
         ∙ ap (λ rs. firsts same [] (sorted_by order rs)) (first_each shards)
         ∙ ap (firsts same [])
         (sym (sorted-full q.columns (flat_map (given q start end None) shards) (all_given_long None shards)))
+
+    -- what a shard gives is of its groups
+    own_given : (most : Option ℕ) (k : ℕ) (es : List EntityParts) → AllByRecursion (λ (e : EntityParts). shard e.key ≡ k) es
+        → AllByRecursion (λ (r : RowParts). shard r.key ≡ k) (given q start end most es)
+    own_given most k es own = by most where
+      all : AllByRecursion (λ (r : RowParts). shard r.key ≡ k) (branch_results q start end es)
+      all =
+          kept_all same (λ (r : RowParts). shard r.key ≡ k) [] (sorted_by (compare_rows q.columns) (found es)) tt
+          (all-sorted (λ (r : RowParts). shard r.key ≡ k) (compare_rows q.columns) (found es)
+          (all-filter (λ (r : RowParts). shard r.key ≡ k) (is_between q.columns start end) (rows q es)
+          (rows_of_keys (λ g. shard g ≡ k) q es own)))
+
+      by : (m : Option ℕ) → AllByRecursion (λ (r : RowParts). shard r.key ≡ k) (given q start end m es)
+      by None = all
+      by (Some n) = taken_all (λ (r : RowParts). shard r.key ≡ k) n (branch_results q start end es) all
+
+    given_parts : (most : Option ℕ) (first : ℕ) (shards : List (List EntityParts)) → AreOfShards shard first shards
+        → AreParts (λ (r : RowParts). shard r.key) first (map (given q start end most) shards)
+    given_parts most first [] are = tt
+    given_parts most first (es ∷ shards) are = (own_given most first es are.0, given_parts most (first + 1) shards are.1)
+
+    given_apart : (most : Option ℕ) (es : List EntityParts) → Apart same (given q start end most es)
+    given_apart None es = apart_firsts same [] (sorted_by (compare_rows q.columns) (found es)) tt
+    given_apart (Some n) es = apart_taken same n (branch_results q start end es) (given_apart None es)
+
+    flip : (x y : RowParts) → same x y ≡ same y x
+    flip x y = by (same x y) (same y x) (turned x y) (turned y x) where
+      turned : (x y : RowParts) → same x y ≡ true → same y x ≡ true
+      turned x y e =
+          let both = mark_parts q.columns (projected q.select) x y e in
+          mark_from q.columns (projected q.select) y x (sym both.0) (sym both.1)
+
+      by : (a b : Bool) → (a ≡ true → b ≡ true) → (b ≡ true → a ≡ true) → a ≡ b
+      by true b to back = sym (to refl)
+      by false true to back = back refl
+      by false false to back = refl
+
+    -- No result comes from two shards, and none twice from one: those of all shards, in order, are the first of their marks.
+    pub shards_apart : (most : Option ℕ) (shards : List (List EntityParts)) → AreOfShards shard 0 shards
+        → first_rows q.columns (projected q.select) (flat_map (given q start end most) shards)
+        ≡ sorted_by (compare_rows q.columns) (flat_map (given q start end most) shards)
+    shards_apart most shards are =
+        apart_sorted same flip (compare_rows q.columns) (flat_map (given q start end most) shards)
+        (apart_parts same (given q start end most) (λ (r : RowParts). shard r.key)
+        (λ x y e. ap shard (mark_parts q.columns (projected q.select) x y e).0) (given_apart most) 0 shards
+        (given_parts most 0 shards are))
 
 -- ---- pages
 

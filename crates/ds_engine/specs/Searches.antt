@@ -12,7 +12,6 @@ use Rattle.ds_query.specs.declared.branch.Branch.{Branch}
 use Rattle.ds_query.specs.declared.branch.Normal.{Normal}
 use Rattle.ds_query.specs.declared.branch.Window.{Window}
 use Rattle.ds_query.specs.declared.row.Place.{Place}
-use Rattle.ds_query.specs.Filters.{projected}
 use Rattle.ds_log.specs.Shards.{shard_of}
 use Rattle.ds_pages.specs.Extended.{extended}
 use Rattle.ds_pages.specs.Pages.{plus_limit, with_places}
@@ -74,10 +73,6 @@ shard_rows n w entities = flat_map (branch_rows n w entities) n.branches
 -- what they give of all shards
 abbrev pub rows_of_shards : Normal → Window → List (List EntityParts) → List RowParts
 rows_of_shards n w = flat_map (shard_rows n w)
-
--- the names whose values tell two results of one key apart: those that a query of one branch projects
-abbrev pub names_of : Normal → Branch → List (List ℕ)
-names_of n q = cond n.several [] (projected q.select)
 
 -- ---- what is told of a row
 

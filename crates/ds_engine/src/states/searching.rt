@@ -1,11 +1,10 @@
 //! A query over shards.
 ghost use Rattle.std.specs.Prelude.{◌≡◌, ◌+◌, ◌≤◌, [], All, IsTrue, map, length, IfOk, false};
 ghost use Rattle.ds_base.specs.Limits.{most_shards};
-ghost use Rattle.ds_query.specs.Filters.{projected};
 ghost use Rattle.ds_query.specs.Lawful.{IsLawfulNormal, SuitsSeveral};
 ghost use Rattle.ds_pages.specs.Places.{IsPlaced, placed};
 ghost use Rattle.ds_engine.specs.Plans.{ArePlansFor};
-ghost use Rattle.ds_engine.specs.Searches.{AreOfShards, IsResultOf, all_entities, look_ups, most_of, names_of, page_over, rows_of_shards};
+ghost use Rattle.ds_engine.specs.Searches.{AreOfShards, IsResultOf, all_entities, look_ups, most_of, page_over, rows_of_shards};
 ghost use Rattle.ds_engine.specs.Searches.{search_bound};
 ghost use Rattle.ds_engine.specs.Snapshots.{entities_in};
 
@@ -17,9 +16,9 @@ use ds_base::{Names, NoMemory};
 use ds_entity::Results;
 use ds_indexdef::Defs;
 use ds_io::Steps;
-use ds_pages::{RowPage, cut, page_of_rows};
+use ds_pages::{RowPage, cut, page_of_results, page_of_rows};
 use ds_planner::ScanPlan;
-use ds_query::{Branch, Normal, Place, Row, Select, Window};
+use ds_query::{Normal, Place, Row, Window};
 use std::alloc::Global;
 use std::sync::ledger::Ledger;
 
@@ -133,7 +132,7 @@ fn is_alone(normal: &Normal, snapshots: &[ShardSnapshot<'_>]) -> bool
     !normal.several && snapshots.len() == 1
 }
 
-/// The page of rows in any order, of which several may be one result.
+/// The page of rows in any order. Where one branch is asked no result is given twice, as each is of one shard.
 fn page_of_all(
     alloc: Global,
     snapshots: &[ShardSnapshot<'_>],
@@ -148,21 +147,9 @@ fn page_of_all(
     ensures { AreOfShards (length (map entities_in snapshots.now)) 0 (map entities_in snapshots.now)
         → IfOk result (λ page. page ≡ page_over normal.now window.now (all_entities (map entities_in snapshots.now))) }
 {
-    let none = Names::new(alloc);
-    let names = names_of(normal, &normal.branches.as_slice()[0], &none);
-    page_of_rows(alloc, rows, &normal.merged, names, window)
-}
-
-/// The names whose values tell two results of one key apart.
-fn names_of<'a>(normal: &Normal, branch: &'a Branch, none: &'a Names) -> &'a Names
-    requires { none.now ≡ [] }
-    ensures { result.now ≡ names_of normal.now branch.now }
-{
     if normal.several {
-        return none;
-    }
-    match &branch.select {
-        Select::Projection(names) => names,
-        _ => none,
+        page_of_rows(alloc, rows, &normal.merged, &Names::new(alloc), window)
+    } else {
+        page_of_results(alloc, rows, window)
     }
 }
