@@ -1,6 +1,6 @@
 -- Lists of which no two items are the same: of each mark the first are all.
-use Rattle.std.proofs.Common.{◌≡◌, ℕ, zero, suc, ◌+◌, ◌<◌, Bool, true, false, ◌||◌, List, [], ◌∷◌, ◌++◌, map, fold, take, refl, sym, ap, subst}
-use Rattle.std.proofs.Common.{◌∙◌, append_assoc, append-nil, arith}
+use Rattle.std.proofs.Common.{◌≡◌, ℕ, zero, suc, ◌+◌, ◌<◌, Bool, true, false, ◌||◌, List, [], ◌∷◌, ◌++◌, map, fold, take, refl, sym, ap}
+use Rattle.std.proofs.Common.{◌∙◌, append_assoc, append-nil, arith, subst}
 use Rattle.std.specs.Prelude.{flat_map, ⊤}
 use Rattle.std.specs.List.{AllByRecursion, list_any}
 use Rattle.std.specs.Ordering.{match_ordering}
@@ -106,11 +106,13 @@ module _ {X : Type 0} (same : X → X → Bool) where
       by true is = absurd (apart (alike x y is))
       by false is = refl
 
-    of_another : (x : X) (k : ℕ) (ys : List X) → place x < k → AllByRecursion (λ y. place y ≡ k) ys → AllByRecursion (λ y. same y x ≡ false) ys
+    of_another : (x : X) (k : ℕ) (ys : List X) → place x < k → AllByRecursion (λ y. place y ≡ k) ys
+        → AllByRecursion (λ y. same y x ≡ false) ys
     of_another x k [] less a = tt
     of_another x k (y ∷ ys) less a = (other y x (λ e. let b = a.0 in absurd (omega (arith, less, b, e))), of_another x k ys less a.1)
 
-    behind : (x : X) (k : ℕ) (vs : List V) → place x < k → AreParts place k (map f vs) → AllByRecursion (λ y. same y x ≡ false) (flat_map f vs)
+    behind : (x : X) (k : ℕ) (vs : List V) → place x < k → AreParts place k (map f vs)
+        → AllByRecursion (λ y. same y x ≡ false) (flat_map f vs)
     behind x k [] less a = tt
     behind x k (v ∷ vs) less a =
         all-append (λ y. same y x ≡ false) (f v) (flat_map f vs) (of_another x k (f v) less a.0)

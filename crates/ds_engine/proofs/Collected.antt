@@ -10,6 +10,7 @@ use Rattle.ds_base.specs.declared.column.Column.{Column}
 use Rattle.ds_bytes.specs.Rows.{RowParts}
 use Rattle.ds_query.specs.declared.row.Row.{Row}
 use Rattle.ds_query.specs.declared.row.Place.{Place}
+use Rattle.ds_query.specs.Lawful.{names_differ}
 use Rattle.ds_zigzag.specs.Walks.{IsWalked, steps_to_end, steps_up_to}
 use Rattle.ds_zigzag.specs.Spans.{is_below, is_above, is_within, count_between}
 use Rattle.ds_zigzag.specs.CommonStrings.{IsNextCommon, HasNoNextCommon}
@@ -25,10 +26,10 @@ use Rattle.ds_pages.proofs.FirstLaws.{with_item, with_item-map}
 use Rattle.ds_pages.proofs.MarkLaws.{is_same-placed}
 use Rattle.ds_planner.proofs.Members.{both}
 use Rattle.ds_engine.specs.Common.{AreCommonRows, IsCommonAfter}
-use Rattle.ds_engine.specs.Kept.{have_no_values, with_one}
+use Rattle.ds_engine.specs.Kept.{are_projected, with_one}
 use Rattle.ds_engine.specs.Places.{bytes_of, is_wanted, walk_steps}
 use Rattle.ds_scan.proofs.MemberLists.{all_member}
-use Rattle.ds_engine.proofs.KeyRows.{new_row}
+use Rattle.ds_engine.proofs.ToldRows.{new_row}
 use Rattle.ds_engine.proofs.Walking.{kept_at, none_kept, next_kept, all_kept, enough_kept}
 
 -- no more were kept than are wanted
@@ -39,7 +40,8 @@ AreFew (Some most) n = n ≤ most
 module _ (columns : List Column) (names : List (List ℕ)) (after : Option (List ℕ)) (lists : List (List (List ℕ))) (most : Option ℕ) where
   -- the rows that were collected up to where the walk stands
   pub record AreCollected (keeps_all : Bool) (slots : List (Option ℕ)) (last : Option (List ℕ)) (rows : List Row) : Type 0 where
-    pub all_are : keeps_all ≡ have_no_values columns
+    pub all_are : keeps_all ≡ are_projected names columns
+    pub differ : names_differ columns ≡ true
     pub onward : (x : List ℕ) → IsTrue (is_above last x) → IsTrue (is_above after x)
     pub slots_are : slots ≡ map (slot_of columns) names
     pub kept : (sorted : List RowParts) → AreCommonRows columns after lists sorted → rows
@@ -55,11 +57,13 @@ module _ (columns : List Column) (names : List (List ℕ)) (after : Option (List
   none_few None = tt
   none_few (Some m) = omega arith
 
-  pub begun : (keeps_all : Bool) (slots : List (Option ℕ)) (last : Option (List ℕ)) (rows : List Row) → keeps_all ≡ have_no_values columns
+  pub begun : (keeps_all : Bool) (slots : List (Option ℕ)) (last : Option (List ℕ)) (rows : List Row)
+      → keeps_all ≡ are_projected names columns → names_differ columns ≡ true
       → slots ≡ map (slot_of columns) names → last ≡ after → rows ≡ []
       → AreCollected keeps_all slots last rows
-  begun keeps_all slots last rows all_are slots_are stands none = record {
+  begun keeps_all slots last rows all_are differ slots_are stands none = record {
     all_are = all_are;
+    differ = differ;
     onward = λ x above. subst (λ o. IsTrue (is_above o x)) stands above;
     slots_are = slots_are;
     kept = λ sorted are. none ∙ sym (ap (map (placed columns)) (ap (λ o. kept_at columns names o sorted) stands
@@ -92,6 +96,7 @@ module _ (columns : List Column) (names : List (List ℕ)) (after : Option (List
       → AreCollected keeps_all' slots' (Some a) rows'
   stepped keeps_all keeps_all' slots slots' last rows rows' a row are next p at_a put same same_all wanted = record {
     all_are = same_all ∙ are.all_are;
+    differ = are.differ;
     onward = λ x above. are.onward x (further last x next.above above);
     slots_are = same ∙ are.slots_are;
     kept = λ sorted common.
@@ -103,17 +108,17 @@ module _ (columns : List Column) (names : List (List ℕ)) (after : Option (List
     above : is_above last (place_of columns (parts_of row)) ≡ true
     above = subst (λ bs. is_above last bs ≡ true) (sym at_a ∙ ap (λ (r : Row). r.place.bytes) p.place) next.above
 
-    one_kept : (all : Bool) (sorted : List RowParts) → AreCommonRows columns after lists sorted → have_no_values columns ≡ all
+    one_kept : (all : Bool) (sorted : List RowParts) → AreCommonRows columns after lists sorted → are_projected names columns ≡ all
         → rows ≡ map (placed columns) (kept_at columns names last sorted)
         → with_one all slots rows row
         ≡ map (placed columns) (with_item (same_mark columns names) (kept_at columns names last sorted) (parts_of row))
-    one_kept false sorted common none so_far =
+    one_kept false sorted common told so_far =
         (λ i. with_item (is_same (are.slots_are i)) (so_far i) (p.place i))
         ∙ with_item-map (placed columns) (is_same (map (slot_of columns) names)) (same_mark columns names) (is_same-placed columns names)
         (kept_at columns names last sorted) (parts_of row)
-    one_kept true sorted common none so_far =
+    one_kept true sorted common told so_far =
         let kept = kept_at columns names last sorted in
-        let new = new_row columns names none last sorted (parts_of row)
+        let new = new_row columns names told are.differ last sorted (parts_of row)
         (λ x m. (all_member (IsCommonAfter columns after lists) sorted x common.common m).row) p.lawful above in
         (λ i. so_far i ++ p.place i ∷ [])
         ∙ sym (map_push (placed columns) kept (parts_of row))

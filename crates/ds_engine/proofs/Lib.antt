@@ -8,7 +8,6 @@ pub mod Columns
 pub mod CommonRows
 pub mod Counted
 pub mod EntityRows
-pub mod KeyRows
 pub mod KeySets
 pub mod LowBytes
 pub mod Ranged
@@ -33,6 +32,7 @@ pub mod RowLoops
 pub mod ShardPages
 pub mod ShardResults
 pub mod SlotLaws
+pub mod ToldRows
 pub mod UnitedFirsts
 pub mod UnitedResults
 pub mod OneShard

@@ -1,11 +1,12 @@
 -- Rows that are kept as they are reached.
-use Rattle.std.specs.Prelude.{◌≡◌, ℕ, Bool, true, false, List, [], ◌∷◌, ◌++◌, Option, cond}
+use Rattle.std.specs.Prelude.{◌≡◌, ℕ, Bool, true, false, ◌||◌, List, [], ◌∷◌, ◌++◌, Option, cond}
 use Rattle.std.specs.List.{list_all, list_any}
 use Rattle.ds_base.specs.Keys.{KeyParts}
 use Rattle.ds_base.specs.KeyOrder.{same_key}
 use Rattle.ds_base.specs.declared.column.Column.{Column}
 use Rattle.ds_query.specs.declared.row.Row.{Row}
 use Rattle.ds_base.specs.KeyColumn.{is_key_name}
+use Rattle.ds_query.specs.Reasons.{has_name}
 use Rattle.ds_pages.specs.FirstRows.{with_row}
 
 -- whether all are kept, or of each mark the first; where the projected values stand among those of a row; and the rows
@@ -14,9 +15,9 @@ pub record KeptParts : Type 0 where
   pub slots : List (Option ℕ)
   pub rows : List Row
 
--- Rows of these columns have no values, so that a row is its key.
-abbrev pub have_no_values : List Column → Bool
-have_no_values = list_all (λ c. is_key_name c.name)
+-- Each value of a row of these columns is projected, so that a row is told by its mark; where there are no values a row is its key.
+abbrev pub are_projected : List (List ℕ) → List Column → Bool
+are_projected names = list_all (λ c. is_key_name c.name || has_name names c.name)
 
 -- those of two lists that count: where all are kept the first
 abbrev pub kept_rows : Bool → List Row → List Row → List Row

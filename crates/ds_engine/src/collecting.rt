@@ -1,8 +1,9 @@
 //! The walk over the strings that the scans of a plan have in common.
-ghost use Rattle.std.specs.Prelude.{◌≡◌, ◌+◌, ◌<◌, ◌≤◌, [], List, ℕ, All, length, map, Some, None, IfOk, OnErr};
+ghost use Rattle.std.specs.Prelude.{◌≡◌, ◌+◌, ◌<◌, ◌≤◌, [], List, ℕ, All, IsTrue, length, map, Some, None, IfOk, OnErr};
 ghost use Rattle.std.specs.Option.{option_copied};
 ghost use Rattle.ds_bytes.specs.Rows.{RowParts};
 ghost use Rattle.ds_query.specs.Filters.{projected};
+ghost use Rattle.ds_query.specs.Lawful.{names_differ};
 ghost use Rattle.ds_cursor.specs.RowsOfColumns.{IsRowOf};
 ghost use Rattle.ds_zigzag.specs.CommonStrings.{IsCommon};
 ghost use Rattle.ds_zigzag.specs.Walks.{steps_to_end};
@@ -34,6 +35,7 @@ pub(crate) fn first_common<S: Scan, L: Ledger>(
 ) -> Result<RowList, NoMemory>
     requires some { 0 < length scans.old }
     requires its_ledger { L.name ≡ S.ledger }
+    requires differ { IsTrue (names_differ branch.now.columns) }
     requires rows { (x : List ℕ) → IsCommon (map S.strings scans.old) x → IsRowOf branch.now.columns x }
     ensures rows { IfOk result (λ found. (sorted : List RowParts)
         → AreCommonRows branch.now.columns (bytes_of (option_copied start.entry)) (map S.strings scans.old) sorted

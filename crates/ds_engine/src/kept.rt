@@ -2,7 +2,8 @@
 ghost use Rattle.std.specs.Prelude.{◌≡◌, length, map, [], ◌∷◌, ◌++◌, IfOk, OnOk};
 ghost use Rattle.ds_base.specs.KeyColumn.{is_key_name};
 ghost use Rattle.ds_pages.specs.Slots.{slot_of};
-ghost use Rattle.ds_engine.specs.Kept.{have_no_values, with_one, with_key, AreKeys};
+ghost use Rattle.ds_query.specs.Reasons.{has_name};
+ghost use Rattle.ds_engine.specs.Kept.{are_projected, with_one, with_key, AreKeys};
 
 use ds_base::{Column, Key, NoMemory, TextString, TryCopy, is_key_name};
 use ds_pages::FirstRows;
@@ -11,9 +12,9 @@ use std::alloc::Global;
 use std::collections::HashSet;
 use std::marker::Model;
 
-/// Rows in the order in which they were reached, of each mark the first. Where rows have no values a row is its key, and as no row is
-/// reached twice no mark is either: then all are kept, and none is compared with those before it. Where nothing is projected a mark is a
-/// key, and a set of keys tells which are known.
+/// Rows in the order in which they were reached, of each mark the first. Where each value is projected, or there are none, a row is told by
+/// its mark, and as no row is reached twice no mark is either: then all are kept, and none is compared with those before it. Where nothing
+/// is projected a mark is a key, and a set of keys tells which are known.
 #[derive(Drop)]
 pub(crate) struct KeptRows {
     alloc: Global,
@@ -50,14 +51,14 @@ impl KeptRows {
         columns: &[Column],
         names: &[TextString],
     ) -> Result<KeptRows, NoMemory>
-        ensures all { IfOk result (λ k. k.keeps_all ≡ have_no_values columns.now) }
+        ensures all { IfOk result (λ k. k.keeps_all ≡ are_projected names.now columns.now) }
         ensures slots { IfOk result (λ k. k.slots ≡ map (slot_of columns.now) names.now) }
         ensures none { IfOk result (λ k. k.rows ≡ []) }
     {
         let firsts = FirstRows::new(alloc, columns, names)?;
         Ok(KeptRows {
             alloc,
-            keeps_all: have_no_values(columns),
+            keeps_all: are_projected(names, columns),
             by_key: names.is_empty(),
             whole: Vec::new(alloc),
             keys: HashSet::new(alloc),
@@ -138,9 +139,15 @@ fn put_new(keys: &mut HashSet<Key>, rows: &mut Vec<Row>, key: Key, row: Row) -> 
     }
 }
 
-/// Whether the rows of these columns have no values: `__key__` is the only column, or there is none.
-fn have_no_values(columns: &[Column]) -> bool
-    ensures { result ≡ have_no_values columns.now }
+/// Whether each column is `__key__` or projected.
+fn are_projected(names: &[TextString], columns: &[Column]) -> bool
+    ensures { result ≡ are_projected names.now columns.now }
 {
-    columns.iter().all(|column| is_key_name(&column.name))
+    columns.iter().all(|column| is_key_name(&column.name) || has_name(names, &column.name))
+}
+
+fn has_name(names: &[TextString], name: &TextString) -> bool
+    ensures { result ≡ has_name names.now name.now }
+{
+    names.iter().any(|other| name.text() == other.text())
 }

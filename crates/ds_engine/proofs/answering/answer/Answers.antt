@@ -13,6 +13,9 @@ use Rattle.ds_engine.proofs.Ranged.{plan_strings_are, plan_passed_are, as_many_s
 use Rattle.ds_engine.proofs.RowLoops.{ok_both, ok_then}
 use Rattle.ds_engine.proofs.answering.answer.Goals as goal
 
+pub first_common-requires-clause-differ : goal.first_common-requires-clause-differ
+first_common-requires-clause-differ g c = c.requires.lawful.names_differ
+
 pub first_common-requires-clause-rows : goal.first_common-requires-clause-rows
 first_common-requires-clause-rows g c = λ x common.
     let q = c.args.branch.now in

@@ -12,7 +12,7 @@ use Rattle.ds_zigzag.specs.Walks.{IsWalked}
 use Rattle.ds_pages.specs.Pages.{last_of}
 use Rattle.ds_pages.specs.Places.{IsPlaced}
 use Rattle.ds_pages.specs.Slots.{slot_of}
-use Rattle.ds_engine.specs.Kept.{have_no_values}
+use Rattle.ds_engine.specs.Kept.{are_projected}
 use Rattle.ds_engine.specs.Places.{bytes_of, is_wanted}
 use Rattle.ds_engine.proofs.Collected.{AreCollected, IsAtLast, begun, stepped, ended, full, fewer_left, at_next, walked_on, walked_within}
 use Rattle.ds_engine.proofs.Collected.{steps_at_end, steps_when_full, always_err, all_with, one_longer, none_wanted}
@@ -26,7 +26,9 @@ answers-init g c = record {
   collected = begun c.args.branch.now.columns (projected c.args.branch.now.select) (bytes_of (option_copied c.args.start))
       (map g.S.Scan.strings c.args.scans.now) c.args.most c.in_ok-firsts.firsts.keeps_all c.in_ok-firsts.firsts.slots c.in_ok-walk.walk.last
       c.in_ok-firsts.firsts.rows
-      (c.in_ok-firsts.ensures.all ∙ ap have_no_values c.as_slice.ensures)
+      (c.in_ok-firsts.ensures.all
+      ∙ (λ i. are_projected ((c.as_slice-2.ensures ∙ c.projected-names.ensures) i) (c.as_slice.ensures i)))
+      c.requires.differ
       (c.in_ok-firsts.ensures.slots ∙ (λ i. map (slot_of (c.as_slice.ensures i)) ((c.as_slice-2.ensures ∙ c.projected-names.ensures) i)))
       (c.in_ok-walk.ensures.stands ∙ c.bytes_of.ensures) c.in_ok-firsts.ensures.none;
   passed = refl;
