@@ -1,5 +1,5 @@
 //! The rows of an answer, kept as they are reached.
-ghost use Rattle.std.specs.Prelude.{◌≡◌, length, map, [], ◌∷◌, ◌++◌, IfOk, OnOk};
+ghost use Rattle.std.specs.Prelude.{◌≡◌, length, map, [], ◌∷◌, ◌++◌, ◌||◌, IfOk, OnOk};
 ghost use Rattle.ds_base.specs.KeyColumn.{is_key_name};
 ghost use Rattle.ds_pages.specs.Slots.{slot_of};
 ghost use Rattle.ds_query.specs.Reasons.{has_name};
@@ -143,7 +143,13 @@ fn put_new(keys: &mut HashSet<Key>, rows: &mut Vec<Row>, key: Key, row: Row) -> 
 fn are_projected(names: &[TextString], columns: &[Column]) -> bool
     ensures { result ≡ are_projected names.now columns.now }
 {
-    columns.iter().all(|column| is_key_name(&column.name) || has_name(names, &column.name))
+    columns.iter().all(|column| is_projected(names, column))
+}
+
+fn is_projected(names: &[TextString], column: &Column) -> bool
+    ensures { result ≡ (is_key_name column.now.name || has_name names.now column.now.name) }
+{
+    is_key_name(&column.name) || has_name(names, &column.name)
 }
 
 fn has_name(names: &[TextString], name: &TextString) -> bool
