@@ -341,7 +341,8 @@ under_told a k p q = same_bool (not (is_below (key_bytes k) (key_front a)) && is
       to h =
           let two = both (not (is_below (key_bytes k) (key_front a))) (is_below (key_bytes k) (key_front a ++ beyond)) h in
           let low : is_below (key_bytes k) (key_front a ++ []) ≡ false =
-          ap (λ (bs : List ℕ). is_below (key_bytes k) bs) (append-nil (key_front a)) ∙ not_was (is_below (key_bytes k) (key_front a)) two.0 in
+          ap (λ (bs : List ℕ). is_below (key_bytes k) bs) (append-nil (key_front a))
+          ∙ not_was (is_below (key_bytes k) (key_front a)) two.0 in
           let begins = between (key_front a) [] beyond (key_bytes k) low two.1 in
           (ancestor_begins a k (key_of_bytes a p) q (key_some a p)).1 (
             rest (key_front a) (key_bytes k),

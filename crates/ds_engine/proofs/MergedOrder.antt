@@ -175,7 +175,8 @@ module _ (pairs : List Pair) where
           let columns : own (c ∷ cs) ≡ own cs = ap (λ b. cond (not b) (c ∷ own cs) (own cs)) is in
           let none : has_column cs c.name ≡ false = not_from (has_column cs c.name) parts.0 in
           ap (λ ds. map (value_of (front ++ ds) (fv ++ ws)) (c ∷ cs)) columns
-          ∙ (λ i. else_asked ((behind c.name front (own cs) fv ws long new.0 ∙ none_named c.name (own cs) ws (unnamed-filter unpaired c.name cs none)) i)
+          ∙ (λ i. else_asked
+          ((behind c.name front (own cs) fv ws long new.0 ∙ none_named c.name (own cs) ws (unnamed-filter unpaired c.name cs none)) i)
           (asked_value pairs c.name)
           ∷ rest ws long (long' ∙ ap (λ (ds : List Column). length ds) columns) parts.1 new.1 i)
           ∙ sym (ap (λ b. cond b (unwrap_or (asked_value pairs c.name) Null ∷ beside cs ws) (head_of ws ∷ beside cs (tail_of ws))) is)
@@ -242,7 +243,8 @@ module _ (pairs : List Pair) where
     by : (b : Bool) → bytes_eq c.name p.property ≡ b → has_pair ps c.name ≡ false
         → (bytes_eq c.name p.property || has_pair ps c.name) ≡ false
     by true same rest =
-        absurd (true≢false (sym (ap is_key_name (sym (name_decides c.name p.property same)) ∙ key) ∙ not_from (is_key_name p.property) parts.0))
+        absurd (true≢false
+        (sym (ap is_key_name (sym (name_decides c.name p.property same)) ∙ key) ∙ not_from (is_key_name p.property) parts.0))
     by false other rest = ap (λ b. b || has_pair ps c.name) other ∙ rest
 
   key_same : list_all (λ (p : Pair). not (is_key_name p.property)) pairs ≡ true → (cs : List Column)
@@ -250,7 +252,8 @@ module _ (pairs : List Pair) where
   key_same none [] = refl
   key_same none (c ∷ cs) = by (has_pair pairs c.name) refl (is_key_name c.name) refl (key_same none cs) where
     by : (b : Bool) → has_pair pairs c.name ≡ b → (k : Bool) → is_key_name c.name ≡ k → key_descends cs ≡ key_descends (own cs)
-        → ((is_key_name c.name && c.descending) || key_descends cs) ≡ key_descends (cond (not (has_pair pairs c.name)) (c ∷ own cs) (own cs))
+        → ((is_key_name c.name && c.descending) || key_descends cs)
+        ≡ key_descends (cond (not (has_pair pairs c.name)) (c ∷ own cs) (own cs))
     by true is true key rest = absurd (true≢false (sym is ∙ unpaired_key c key pairs none))
     by true is false key rest =
         ap (λ k. (k && c.descending) || key_descends cs) key ∙ rest

@@ -1,5 +1,5 @@
--- Of each mark the first, in a list that was joined from parts of which no two have a mark in common: as many of the first ones as are asked
--- for come out the same where each part is cut to as many of its own.
+-- Of each mark the first, in a list that was joined from parts of which no two have a mark in common: as many of the first ones as are
+-- asked for come out the same where each part is cut to as many of its own.
 use Rattle.std.proofs.Common.{◌≡◌, ℕ, zero, suc, ◌+◌, ◌≤◌, ◌<◌, ◌==◌, List, [], ◌∷◌, ◌++◌, length, map, fold, take, refl, sym, ap, subst}
 use Rattle.std.proofs.Common.{◌∙◌}
 use Rattle.std.proofs.Common.{Bool, true, false, cond, not, ◌||◌, append_assoc, append-nil, length-append, arith}

@@ -84,7 +84,8 @@ next columns i c kd values rest row below at_i other is = by is.left is.whole (i
         long = omega (arith, long);
         first = All-head IsLawfulValue v vs lawful;
         others = All-tail IsLawfulValue v vs lawful;
-        bytes = bytes ∙ append_assoc (encoding c.descending v) (columns_bytes (directions (drop (i + 1) columns)) vs) (key_encoding kd row.key);
+        bytes = bytes
+            ∙ append_assoc (encoding c.descending v) (columns_bytes (directions (drop (i + 1) columns)) vs) (key_encoding kd row.key);
       }
 
 module _ (columns : List Column) (i : ℕ) (c : Column) (kd : Bool) (values : List IndexValue) (rest : List ℕ) (row : RowParts)

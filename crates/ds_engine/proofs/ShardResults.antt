@@ -205,9 +205,12 @@ module _ (q : Branch) (start end : Option Place) where
     given_parts most first [] are = tt
     given_parts most first (es ∷ shards) are = (own_given most first es are.0, given_parts most (first + 1) shards are.1)
 
+    results_apart : (es : List EntityParts) → Apart same (branch_results q start end es)
+    results_apart es = apart_firsts same [] (sorted_by (compare_rows q.columns) (found es)) tt
+
     given_apart : (most : Option ℕ) (es : List EntityParts) → Apart same (given q start end most es)
-    given_apart None es = apart_firsts same [] (sorted_by (compare_rows q.columns) (found es)) tt
-    given_apart (Some n) es = apart_taken same n (branch_results q start end es) (given_apart None es)
+    given_apart None es = results_apart es
+    given_apart (Some n) es = apart_taken same n (branch_results q start end es) (results_apart es)
 
     flip : (x y : RowParts) → same x y ≡ same y x
     flip x y = by (same x y) (same y x) (turned x y) (turned y x) where

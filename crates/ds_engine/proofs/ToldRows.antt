@@ -171,7 +171,8 @@ module _ (columns : List Column) (names : List (List ℕ)) (told : are_projected
       let f = filter_member (reached columns names last) sorted m.0
       (among m.0 (first_member (same_mark columns names) [] (filter (reached columns names last) sorted) m.0 m.1.0)) in
       let e : row ≡ m.0 = same_row row m.0 lawful (rows m.0 f.0) m.1.1 in
-      let there : is_above last (place_of columns m.0) ≡ true = subst (λ (r : RowParts). is_above last (place_of columns r) ≡ true) e above in
+      let there : is_above last (place_of columns m.0) ≡ true =
+      subst (λ (r : RowParts). is_above last (place_of columns r) ≡ true) e above in
       true_false ⊥ (reached columns names last m.0) f.1 (ap not there)) where
         among : (x : RowParts) → Member x [] ⊎ Member x (filter (reached columns names last) sorted)
             → Member x (filter (reached columns names last) sorted)

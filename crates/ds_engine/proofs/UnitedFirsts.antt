@@ -280,7 +280,8 @@ module _ {X : Type 0} (same : X → X → Bool) (itself : (x : X) → same x x �
       → first_items (flat_map f items) ≡ first_items (flat_map g items)
   parts_same f g [] each = refl
   parts_same f g (a ∷ items) each =
-      part_same (f a) (g a) (flat_map f items) each.0 ∙ part_same-behind (g a) (flat_map f items) (flat_map g items) (parts_same f g items each.1)
+      part_same (f a) (g a) (flat_map f items) each.0
+      ∙ part_same-behind (g a) (flat_map f items) (flat_map g items) (parts_same f g items each.1)
 
   -- the first of each mark of a list that was cut to these are they again
   pub again : (xs : List X) → first_items (first_items xs) ≡ first_items xs
@@ -290,4 +291,5 @@ module _ {X : Type 0} (same : X → X → Bool) (itself : (x : X) → same x x �
   pub all_firsts : {A : Type 0} (f : A → List X) (items : List A)
       → first_items (flat_map f items) ≡ first_items (flat_map (λ a. first_items (f a)) items)
   all_firsts f items =
-      parts_same f (λ a. first_items (f a)) items (all_of (λ a. first_items (f a) ≡ first_items (first_items (f a))) (λ a. sym (again (f a))) items)
+      parts_same f (λ a. first_items (f a)) items
+      (all_of (λ a. first_items (f a) ≡ first_items (first_items (f a))) (λ a. sym (again (f a))) items)

@@ -96,7 +96,8 @@ module _ (merged : List Column) (q : Branch) (lawful : IsLawfulBranch q)
   all_between (r ∷ rs) = ap (λ zs. r ∷ zs) (all_between rs)
 
   results_are : (es : List EntityParts)
-      → branch_results q None None es ≡ firsts (same_mark q.columns (projected q.select)) [] (sorted_by (full_row_cmp q.columns) (rows q es))
+      → branch_results q None None es
+      ≡ firsts (same_mark q.columns (projected q.select)) [] (sorted_by (full_row_cmp q.columns) (rows q es))
   results_are es =
       ap (firsts (same_mark q.columns (projected q.select)) [])
       (ap (sorted_by (compare_rows q.columns)) (all_between (rows q es)) ∙ sorted-full q.columns (rows q es) (long_branch q es))

@@ -54,8 +54,8 @@ returns-in-None-clause-rows g c = λ sorted are.
     c.in_ok-found.ensures.none_is_left) in
     c.finish.ensures
     ∙ ended c.args.branch.now.columns (projected c.args.branch.now.select) (bytes_of (option_copied c.args.start))
-    (map g.S.Scan.strings c.args.scans.now) c.args.most c.answers.firsts.keeps_all c.answers.firsts.slots last c.answers.firsts.rows c.answers.invariant.collected
-    none sorted are
+    (map g.S.Scan.strings c.args.scans.now) c.args.most c.answers.firsts.keeps_all c.answers.firsts.slots last c.answers.firsts.rows
+    c.answers.invariant.collected none sorted are
 
 pub row_of-requires : goal.row_of-requires
 row_of-requires g c =
@@ -107,7 +107,8 @@ answers-preserved g c =
       number = c.next.follows.holds-at-none.0 ∙ c.answers.invariant.number ∙ sym (length-map c.answers.scans g.S.Scan.strings)
           ∙ ap length (sym same)
           ∙ length-map c.next.new.scans g.S.Scan.strings;
-      collected = subst (λ o. AreCollected columns names after lists c.args.most c.put.new.self.keeps_all c.put.new.self.slots o c.put.new.self.rows) (sym stands)
+      collected = subst (λ o. AreCollected columns names after lists c.args.most c.put.new.self.keeps_all c.put.new.self.slots o
+          c.put.new.self.rows) (sym stands)
           (stepped columns names after lists c.args.most c.answers.firsts.keeps_all c.put.new.self.keeps_all c.answers.firsts.slots
           c.put.new.self.slots last c.answers.firsts.rows
           c.put.new.self.rows place
@@ -125,8 +126,8 @@ answers-preserved g c =
           last (Some place) (map g.S.Scan.strings c.next.new.scans) (map g.S.Scan.passed c.next.new.scans) c.answers.steps c.next.new.steps
           c.answers.invariant.walked (on after c.args.steps.now) same c.next.ensures.same_passed);
       at_last = subst (λ o. IsAtLast c.args.most c.put.new.self.rows o c.args.steps.now c.next.new.steps) (sym stands)
-          (at_next c.args.most c.answers.firsts.keeps_all c.answers.firsts.slots c.answers.firsts.rows c.put.new.self.rows c.in_ok-row-in-Some.row place
-          c.args.steps.now c.next.new.steps
+          (at_next c.args.most c.answers.firsts.keeps_all c.answers.firsts.slots c.answers.firsts.rows c.put.new.self.rows
+          c.in_ok-row-in-Some.row place c.args.steps.now c.next.new.steps
           wanted c.in_ok-put-in-Some.ensures.rows c.in_ok-row-in-Some.ensures.place);
       placed = subst (All (IsPlaced columns)) (sym c.in_ok-put-in-Some.ensures.rows)
           (all_with (IsPlaced columns) c.answers.firsts.keeps_all c.answers.firsts.slots c.answers.firsts.rows c.in_ok-row-in-Some.row
