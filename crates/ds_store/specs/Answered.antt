@@ -111,7 +111,7 @@ pub record IsExpired (shards window : ℕ) (before after : PassParts) (group : K
   pub commit_is : commit ≡ last_commit (list_of after.lists (shard_of group shards))
   pub stands : commit ≤ after.place
 
--- One entry was applied, or there was none to apply up to the place that was looked at.
+-- Entries were applied, or there was none to apply up to the place that was looked at.
 abbrev pub AppliedCount : Bool → ℕ → ℕ → ℕ → Type 0
 AppliedCount true before up_to count = (before < count) × (count ≤ up_to)
 AppliedCount false before up_to count = up_to ≤ count

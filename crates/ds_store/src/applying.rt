@@ -1,5 +1,5 @@
 //! Applying entries, and meeting what other passes have seen.
-ghost use Rattle.std.specs.Prelude.{◌≡◌, ◌<◌, ◌≤◌, ◌++◌, ◌∷◌, [], IfOk, OnErr, OnOk, length};
+ghost use Rattle.std.specs.Prelude.{◌≡◌, ◌<◌, ◌≤◌, ◌++◌, ◌∷◌, [], IfOk, MatchOption, OnErr, OnOk, length};
 ghost use Rattle.ds_model.specs.Sessions.{count_of};
 ghost use Rattle.ds_shard.specs.Shards.{last_commit};
 ghost use Rattle.ds_store.specs.Answered.{HasApplied, HasSettled, AreAtLeast};
@@ -15,6 +15,9 @@ use ds_store_hubs::Names;
 use std::alloc::AllocError;
 use std::sync::Wait;
 use std::thread;
+
+/// So many entries at most are applied at once for an applier: readers are waited for once, and the shard's lock isn't held for long.
+const MOST_AT_ONCE: u64 = 64;
 
 impl<J: Names, H: Wait + Drop> Store<J, H> {
     /// Applies the next entry of a shard, below the number of shards: `moved` says whether, at the place that it looked at, the shard's
@@ -33,7 +36,22 @@ impl<J: Names, H: Wait + Drop> Store<J, H> {
         if desk.number != shard {
             return Err(AllocError);
         }
-        self.apply_with(rt, pass, &mut desk)
+        self.apply_with(rt, pass, &mut desk, 1)
+    }
+
+    /// Applies the next entries of a shard, at most 64 at once, unless another thread works on the shard: what an applier asks, which then
+    /// goes on to another shard. `None` tells of such a thread, or of want of memory. It may also come without a cause: who is told it
+    /// by all shards asks `apply_one`, which waits.
+    pub fn apply_if_free<R: Wait>(&self, rt: &R, pass: &mut Pass<J>, shard: u32) -> Option<Applied>
+        requires { shard < self.now.shards }
+        ensures { MatchOption result (HasRead pass.old pass.new)
+            (λ a. HasApplied self.now.shards pass.old pass.new shard a.moved a.count a.place a.commit) }
+    {
+        let mut desk = self.shards[shard as usize].try_lock()?;
+        if desk.number != shard {
+            return None;
+        }
+        self.apply_with(rt, pass, &mut desk, MOST_AT_ONCE).ok()
     }
 
     /// The same, with the shard's desk.
@@ -42,7 +60,9 @@ impl<J: Names, H: Wait + Drop> Store<J, H> {
         rt: &R,
         pass: &mut Pass<J>,
         desk: &mut ShardDesk<J, H>,
+        most: u64,
     ) -> Result<Applied, NoMemory>
+        requires { 1 ≤ most }
         ensures applied { IfOk result (λ a. HasApplied desk.old.shards pass.old pass.new desk.old.number a.moved a.count a.place a.commit) }
         ensures read { OnErr result (HasRead pass.old pass.new) }
     {
@@ -52,7 +72,7 @@ impl<J: Names, H: Wait + Drop> Store<J, H> {
         let place = desk.journal.len();
         pass.stand(place);
         desk.show(rt, pass);
-        let moved = desk.apply_next(rt)?;
+        let moved = desk.apply_next(rt, most)?;
         desk.show(rt, pass);
         let commit = desk.last();
         pass.stand(commit);

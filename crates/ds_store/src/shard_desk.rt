@@ -13,7 +13,7 @@ use ds_base::NoMemory;
 use ds_hub::{HeldWriter, Reader};
 use ds_log::{Entry, ShardCommits};
 use ds_shard::ShardState;
-use ds_store_hubs::{JournalState, Names, add_waiting, later_entries, take_in};
+use ds_store_hubs::{JournalState, Names, later_entries, publish_waiting, take_in};
 use std::alloc::Global;
 use std::collections::VecDeque;
 use std::marker::PhantomData;
@@ -102,8 +102,7 @@ impl<J: Names, H: Wait + Drop> ShardDesk<J, H> {
         pass.see_shard(rt, self.number as usize, &mut self.writer.writer);
     }
 
-    /// Applies the entries up to the `count`-th, by one publish; those behind them stay waiting. `Err` is want of memory; then none is
-    /// published.
+    /// Applies the entries up to the `count`-th; those behind them stay waiting. `Err` is want of memory; it may then have applied some.
     pub(crate) fn apply_up_to<R: Wait>(&mut self, rt: &R, count: u64) -> Result<(), NoMemory>
         requires { count ≤ length (shard_list self.old.journal.known self.old.number self.old.shards) }
         ensures same { (self.new.number ≡ self.old.number) × (self.new.shards ≡ self.old.shards) × (self.new.journal ≡ self.old.journal) }
@@ -114,13 +113,13 @@ impl<J: Names, H: Wait + Drop> ShardDesk<J, H> {
             return Ok(());
         }
         let missing = missing.saturating_sub(self.writer.writer.pending());
-        add_waiting(&mut self.waiting, &mut self.writer.writer, missing)?;
-        self.writer.writer.publish(rt)
+        publish_waiting(rt, &mut self.waiting, &mut self.writer.writer, missing)
     }
 
-    /// Applies the next entry that isn't published yet, if there is one, and says whether there was. `Err` is want of memory; then none is
-    /// published.
-    pub(crate) fn apply_next<R: Wait>(&mut self, rt: &R) -> Result<bool, NoMemory>
+    /// Applies the next entries that aren't published yet, if there are any, and says whether there were: those that are pending, else
+    /// the first of those that wait, `most` at most. `Err` is want of memory; then none is applied.
+    pub(crate) fn apply_next<R: Wait>(&mut self, rt: &R, most: u64) -> Result<bool, NoMemory>
+        requires { 1 ≤ most }
         ensures same { (self.new.number ≡ self.old.number) × (self.new.shards ≡ self.old.shards) × (self.new.journal ≡ self.old.journal) }
         ensures moved { IfOk result (λ moved. MatchBool moved (length self.old.writer.writer.published < length
             self.new.writer.writer.published)
@@ -129,9 +128,21 @@ impl<J: Names, H: Wait + Drop> ShardDesk<J, H> {
         if !self.is_behind() {
             return Ok(false);
         }
-        let missing = 1u64.saturating_sub(self.writer.writer.pending());
-        add_waiting(&mut self.waiting, &mut self.writer.writer, missing)?;
-        self.writer.writer.publish(rt)?;
+        let count = few(
+            self.writer.writer.pending(),
+            self.waiting.len() as u64,
+            most,
+        );
+        publish_waiting(rt, &mut self.waiting, &mut self.writer.writer, count)?;
         Ok(true)
     }
+}
+
+/// How many of the entries that wait are applied next: none where some are pending, else as many as are asked for at most.
+fn few(pending: u64, waiting: u64, most: u64) -> u64
+    requires { 1 ≤ most }
+    ensures within { result ≤ waiting }
+    ensures some { 0 < pending + waiting → 0 < pending + result }
+{
+    if pending > 0 { 0 } else { waiting.min(most) }
 }
