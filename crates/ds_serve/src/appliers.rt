@@ -79,9 +79,30 @@ fn apply_all<J: Names, Rt: Wait, H: Wait + Drop>(
     unreachable!()
 }
 
-/// Applies the next entry of each shard, and says whether there was one. Want of memory counts as none: it is tried again after the next
-/// commit.
+/// Applies the next entries of each shard, and says whether there were any. A shard on which another thread works is passed over, and
+/// waited for only where no other one had an entry. Want of memory counts as none: it is tried again after the next commit.
 fn apply_each<J: Names, Rt: Wait, H: Wait + Drop>(
+    rt: &Rt,
+    store: &Store<J, H>,
+    pass: &mut Pass<J>,
+) -> bool
+    requires { IsIdle pass.old }
+    ensures { IsIdle pass.new }
+{
+    if apply_free(rt, store, pass) {
+        return true;
+    }
+    let mut moved = false;
+    for shard in 0..store.shards() {
+        if has_applied(rt, store, pass, shard) {
+            moved = true;
+        }
+    }
+    moved
+}
+
+/// Applies the next entries of each shard on which no other thread works, and says whether there were any.
+fn apply_free<J: Names, Rt: Wait, H: Wait + Drop>(
     rt: &Rt,
     store: &Store<J, H>,
     pass: &mut Pass<J>,
@@ -91,11 +112,28 @@ fn apply_each<J: Names, Rt: Wait, H: Wait + Drop>(
 {
     let mut moved = false;
     for shard in 0..store.shards() {
-        if has_applied(rt, store, pass, shard) {
+        if has_applied_free(rt, store, pass, shard) {
             moved = true;
         }
     }
     moved
+}
+
+/// Applies the next entries of a shard unless another thread works on it, and says whether it did.
+fn has_applied_free<J: Names, Rt: Wait, H: Wait + Drop>(
+    rt: &Rt,
+    store: &Store<J, H>,
+    pass: &mut Pass<J>,
+    shard: u32,
+) -> bool
+    requires idle { IsIdle pass.old }
+    requires shard { shard < store.now.shards }
+    ensures { IsIdle pass.new }
+{
+    match store.apply_if_free(rt, pass, shard) {
+        Some(applied) => applied.moved,
+        None => false,
+    }
 }
 
 /// Applies the next entry of a shard, and says whether it did.
