@@ -1,10 +1,10 @@
 //! The store with one thread: commits, reads of old and new places, applies, and what another caller meets.
-ghost use Rattle.std.specs.Prelude.{◌≡◌, length, IfOk};
+ghost use Rattle.std.specs.Prelude.{◌≡◌, ◌<◌, length, IfOk};
 
 use ds_base::{Counts, NoMemory};
 use ds_store::{Names, Pass, Store};
 use ds_store_trials::calls::{
-    apply, commit, conflict, draw, expired, found, get, get_at, number, settle,
+    apply, apply_free, commit, conflict, draw, expired, found, get, get_at, number, settle,
 };
 use ds_store_trials::made::{alone, key, touching};
 use ds_store_trials::told::{FIRST_ID, Told};
@@ -104,6 +104,29 @@ pub(crate) fn applied<J: Names, R: Wait, H: Wait + Drop>(
     commit(rt, store, one, alone(alloc, "b", 2)?, told);
     let answer = settle(rt, store, one, told);
     told.expect(answer == Some((3, 3, 3)), "the settle");
+    applied_at_once(rt, alloc, store, one, told)
+}
+
+/// An applier takes several entries at once.
+fn applied_at_once<J: Names, R: Wait, H: Wait + Drop>(
+    rt: &R,
+    alloc: Global,
+    store: &Store<J, H>,
+    one: &mut Pass<J>,
+    told: &mut Told,
+) -> Result<(), NoMemory>
+    requires { 0 < store.now.shards }
+{
+    commit(rt, store, one, alone(alloc, "a", 3)?, told);
+    commit(rt, store, one, alone(alloc, "b", 3)?, told);
+    told.expect(
+        apply_free(rt, store, one, 0) == Some((true, 5, 5, 5)),
+        "two entries at once",
+    );
+    told.expect(
+        apply_free(rt, store, one, 0) == Some((false, 5, 5, 5)),
+        "none behind them",
+    );
     Ok(())
 }
 

@@ -127,6 +127,22 @@ pub fn apply<J: Names, R: Wait, H: Wait + Drop>(
     }
 }
 
+/// The same of the entries that an applier takes at once; `None` also where another thread works on the shard.
+/// What it gives is compared by tests, so it has no clause.
+pub fn apply_free<J: Names, R: Wait, H: Wait + Drop>(
+    rt: &R,
+    store: &Store<J, H>,
+    pass: &mut Pass<J>,
+    shard: u32,
+) -> Option<(bool, u64, u64, u64)>
+    requires { shard < store.now.shards }
+{
+    match store.apply_if_free(rt, pass, shard) {
+        Some(a) => Some((a.moved, a.count, a.place, a.commit)),
+        None => None,
+    }
+}
+
 /// Settles, and keeps the counts: the place, the entries of all shards together, and the greatest commit of them.
 /// What it gives is compared by tests, so it has no clause.
 pub fn settle<J: Names, R: Wait, H: Wait + Drop>(
