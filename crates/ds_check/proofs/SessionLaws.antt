@@ -1,5 +1,5 @@
 -- The sessions of all clients, as they are kept.
-use Rattle.std.proofs.Common.{◌≡◌, ℕ, zero, suc, ◌+◌, ◌<◌, ◌≤◌, List, [], ◌∷◌, ◌++◌, length, map, take, drop, get_or, refl, ap, sym, ◌∙◌}
+use Rattle.std.proofs.Common.{◌≡◌, ℕ, zero, suc, ◌+◌, ◌<◌, ◌≤◌, List, [], ◌∷◌, ◌++◌, length, map, get_or, ap, sym, ◌∙◌}
 use Rattle.std.proofs.Common.{subst, arith, Option, Some, None, All}
 use Rattle.std.specs.Prelude.{max, fold, replicate, slice_get, slice_set, Ok}
 use Rattle.std.proofs.lemmas.List.{length-map, length-replicate}
@@ -16,35 +16,20 @@ use Rattle.ds_reply.specs.declared.reply.Body.{Body}
 use Rattle.ds_model.specs.Legal.{acknowledged_in}
 use Rattle.ds_told.specs.Told.{ToldParts, above_in, draws_of, drawn_told, ids_of, printed_in}
 use Rattle.ds_told.specs.declared.draws.Draws.{Draws}
+use Rattle.ds_judging_reads.proofs.Raising.{got-mapped, length-slice, set-mapped}
 use Rattle.ds_check.proofs.DrawnLaws.{noted_drawn}
-use Rattle.ds_check.specs.Deciding.{Decides, IsSessionIn, IsTheAnswer, NoAnswer, seen_by}
+use Rattle.ds_judging_reads.specs.Deciding.{Decides, IsSessionIn, IsTheAnswer, NoAnswer, seen_by}
 use Rattle.ds_check.specs.Walks.{AreSessions, IfAsk, IsNoted, IsRight, IsTaken, IsWrong}
-use Rattle.ds_check.specs.declared.sessions.Session as sessions
+use Rattle.ds_judging_reads.specs.declared.sessions.Session as sessions
 use Rattle.ds_check.specs.declared.steps.Step.{Step}
 use Rattle.ds_check.specs.declared.steps.Step.TheVariants.{Meet, Ask}
 
 -- ---- one of a list
 
-pub got-mapped : {A B : Type 0} (f : A → B) (xs : List A) (i : ℕ) (x : A) → i < length xs → x ≡ get_or xs i x
-    → slice_get (map f xs) i ≡ Some (f x)
-got-mapped f [] i x below is = absurd (omega (arith, below))
-got-mapped f (y ∷ xs) zero x below is = ap (λ z. Some (f z)) (sym is)
-got-mapped f (y ∷ xs) (suc i) x below is = got-mapped f xs i x (omega (arith, below)) is
-
 pub got_some : {A B : Type 0} (f : A → B) (xs : List A) (i : ℕ) (x : A) → Some x ≡ slice_get xs i → slice_get (map f xs) i ≡ Some (f x)
 got_some f [] i x is = cc
 got_some f (y ∷ xs) zero x is = let same : x ≡ y = cc in ap (λ z. Some (f z)) (sym same)
 got_some f (y ∷ xs) (suc i) x is = got_some f xs i x is
-
-set-mapped : {A B : Type 0} (f : A → B) (xs : List A) (i : ℕ) (x : A) → map f (slice_set xs i x) ≡ slice_set (map f xs) i (f x)
-set-mapped f [] i x = refl
-set-mapped f (y ∷ xs) zero x = refl
-set-mapped f (y ∷ xs) (suc i) x = ap (λ ys. f y ∷ ys) (set-mapped f xs i x)
-
-pub length-slice : {A : Type 0} (xs : List A) (i : ℕ) (x : A) → length (slice_set xs i x) ≡ length xs
-length-slice [] i x = refl
-length-slice (y ∷ xs) zero x = refl
-length-slice (y ∷ xs) (suc i) x = ap suc (length-slice xs i x)
 
 all-set : {A : Type 0} (P : A → Type 0) (xs : List A) (i : ℕ) (x : A) → P x → All P xs → All P (slice_set xs i x)
 all-set P [] i x here all = all
@@ -153,34 +138,6 @@ module _ (w : World) (items : List sessions.Session) (told : ToldParts) (a : Ask
   pub is_wrong : NoAnswer (λ b after. BodyAnswers w (seen_by s) (was_read a) b after) a.client a.number line
       → IsWrong w (map seen_by items) a line
   is_wrong none = record { session = seen_by s; own = got-mapped seen_by items a.client s below is; none = none }
-
--- ---- raised one by one
-
-pub raised_more : (g : Session) (olds news : List sessions.Session) (all : List Session) (i : ℕ) (s t : sessions.Session)
-    → i < length olds → s ≡ get_or olds i s → seen_by t ≡ raised_by g (seen_by s)
-    → map seen_by olds ≡ map (raised_by g) (take i all) ++ drop i all → news ≡ slice_set olds i t
-    → map seen_by news ≡ map (raised_by g) (take (i + 1) all) ++ drop (i + 1) all
-raised_more g olds news all i s t below is raised so_far set =
-    ap (map seen_by) set
-    ∙ set-mapped seen_by olds i t
-    ∙ ap (slice_set (map seen_by olds) i) raised
-    ∙ ap (λ xs. slice_set xs i (raised_by g (seen_by s))) so_far
-    ∙ by all i (sym (ap (λ xs. slice_get xs i) so_far) ∙ got-mapped seen_by olds i s below is)
-    ∙ ap (λ k. map (raised_by g) (take k all) ++ drop k all) (let k : suc i ≡ i + 1 = omega arith in k)
-  where
-    by : (zs : List Session) (j : ℕ) → slice_get (map (raised_by g) (take j zs) ++ drop j zs) j ≡ Some (seen_by s)
-        → slice_set (map (raised_by g) (take j zs) ++ drop j zs) j (raised_by g (seen_by s)) ≡ map (raised_by g) (take (suc j) zs) ++ drop
-        (suc j) zs
-    by [] zero at = cc
-    by [] (suc j) at = cc
-    by (z ∷ zs) zero at = let same : z ≡ seen_by s = cc in ap (λ (x : Session). raised_by g x ∷ zs) (sym same)
-    by (z ∷ zs) (suc j) at = ap (λ xs. raised_by g z ∷ xs) (by zs j at)
-
-pub raised_seen : (g : Session) (s x : sessions.Session) (new : Session) → new ≡ raised_by g x.seen → s ≡ x
-    → record new { transaction = x.transaction.transaction } ≡ raised_by g (seen_by s)
-raised_seen g s x new is same =
-    ap (λ (v : Session). record v { transaction = x.transaction.transaction }) is
-    ∙ ap (λ (y : sessions.Session). raised_by g (seen_by y)) (sym same)
 
 -- the sessions behind a step
 pub sessions_next : (shards : ℕ) (w : World) (ss next : List Session) (told later : ToldParts) (lines : List (List ℕ)) (answered count : ℕ)

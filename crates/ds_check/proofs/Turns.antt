@@ -16,7 +16,7 @@ use Rattle.ds_reply.specs.declared.reply.Reply.{Reply}
 use Rattle.ds_reply.specs.Replies.{reply_text}
 use Rattle.ds_request.specs.declared.call.Request.{Request}
 use Rattle.ds_rounds.specs.Rounds.{NumberedLine}
-use Rattle.ds_check.specs.Deciding.{HasCounter}
+use Rattle.ds_judging_reads.specs.Deciding.{HasCounter}
 use Rattle.ds_check.specs.declared.steps.Step.{Step}
 use Rattle.ds_check.specs.declared.steps.Step.TheVariants as step
 use Rattle.ds_check.specs.Walks.{AreReplies, IsFirstWrong, IsReply, Stands, Walk, asks, drawn_steps}

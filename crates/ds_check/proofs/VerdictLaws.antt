@@ -32,7 +32,7 @@ use Rattle.ds_reply_lines.proofs.RepliesBack.{replies_lines}
 use Rattle.ds_reply_lines.proofs.Splitting.{ended-whole, whole-ended}
 use Rattle.ds_told.specs.Told.{AreIssued, ToldParts, above_in, ids_of, printed_in}
 use Rattle.ds_told.proofs.Accepted.{All-first, All-second, accepted_above, accepted_below, printed_above, printed_within}
-use Rattle.ds_check.specs.Deciding.{HasCounter}
+use Rattle.ds_judging_reads.specs.Deciding.{HasCounter}
 use Rattle.ds_check.specs.Verdicts.{AcknowledgesAll, AllAnswer, Answer, Course, HasLines, IsLegalText, IsVerdict, Meet, Turn, ended_lines}
 use Rattle.ds_check.specs.Verdicts.{turns_of}
 use Rattle.ds_check.specs.Walks.{AllNoted, AreAllCommits, AreIssuedIn, AreReplies, IsFirstWrong, IsJudged, IsReply, IsWalked, Walk, asks}

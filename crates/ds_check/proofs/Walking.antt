@@ -16,7 +16,7 @@ use Rattle.ds_reply.specs.declared.reply.Body.{Body}
 use Rattle.ds_reply.specs.declared.reply.Reply.{Reply}
 use Rattle.ds_reply.specs.Replies.{reply_text}
 use Rattle.ds_told.specs.Told.{ToldParts, above_in, ids_of, printed_in}
-use Rattle.ds_check.specs.Deciding.{HasCounter, IsTheAnswer}
+use Rattle.ds_judging_reads.specs.Deciding.{HasCounter, IsTheAnswer}
 use Rattle.ds_check.specs.declared.steps.Step.{Step}
 use Rattle.ds_check.specs.declared.steps.Step.TheVariants.{Meet, Ask}
 use Rattle.ds_check.specs.Walks.{AreReplies, IsFirstWrong, IsNoted, IsReply, IsRight, IsTold, IsWalked, IsWrong, Stands, Walk, asks}

@@ -1,5 +1,2 @@
-pub mod Committing
-pub mod Deciding
-pub mod Judging
 pub mod Verdicts
 pub mod Walks

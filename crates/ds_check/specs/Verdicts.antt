@@ -13,7 +13,7 @@ use Rattle.ds_reply.specs.declared.reply.Reply.{Reply}
 use Rattle.ds_reply.specs.Replies.{reply_text, replies_text}
 use Rattle.ds_rounds.specs.Drafts.{IsUnbroken}
 use Rattle.ds_rounds.specs.Rounds.{NumberedLine}
-use Rattle.ds_check.specs.Deciding.{HasCounter}
+use Rattle.ds_judging_reads.specs.Deciding.{HasCounter}
 use Rattle.ds_check.specs.declared.checking.Verdict.{Verdict}
 use Rattle.ds_check.specs.declared.checking.Verdict.TheVariants as verdict
 

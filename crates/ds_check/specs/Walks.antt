@@ -15,7 +15,7 @@ use Rattle.ds_reply.specs.Replies.{reply_text}
 use Rattle.ds_told.specs.Told.{AreIssued, ToldParts, above_in, ids_of, printed_in}
 use Rattle.ds_told.specs.declared.told.Tally.{Tally}
 use Rattle.ds_told.specs.declared.told.Tally.TheVariants as tally
-use Rattle.ds_check.specs.Deciding.{HasCounter, IsTheAnswer, NoAnswer}
+use Rattle.ds_judging_reads.specs.Deciding.{HasCounter, IsTheAnswer, NoAnswer}
 use Rattle.ds_check.specs.declared.checking.Verdict.{Verdict}
 use Rattle.ds_check.specs.declared.checking.Verdict.TheVariants as verdict
 use Rattle.ds_check.specs.declared.steps.Step.{Step}

@@ -3,18 +3,17 @@ ghost use Rattle.std.specs.Prelude.{◌≡◌, ◌≤◌, ◌↔◌, All, IfOk, 
 ghost use Rattle.ds_base.specs.Limits.{most_shards};
 ghost use Rattle.ds_rounds.specs.Rounds.{rounds_of_input};
 ghost use Rattle.ds_model.specs.Sessions.{first_sessions};
-ghost use Rattle.ds_check.specs.Deciding.{IsHeld, world_run};
+ghost use Rattle.ds_judging_reads.specs.Deciding.{IsHeld, world_run};
 ghost use Rattle.ds_check.specs.Verdicts.{IsLegalText, IsVerdict};
 ghost use Rattle.ds_check.specs.Walks.{IsJudged, MayBeTaken, asks, of_tally};
 
-use crate::lawful::journal_is_held;
 use crate::steps::{Step, asks, steps_of};
-use crate::turn::Run;
 use crate::walk::wrong_reply;
 use ds_asked::asked_of_input;
 use ds_base::NoMemory;
 use ds_history::History;
 use ds_indexdef::Defs;
+use ds_judging_reads::{Run, journal_is_held};
 use ds_log::Journal;
 use ds_reply_lines::whole_lines;
 use ds_told::{Tally, Told};

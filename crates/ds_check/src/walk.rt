@@ -2,21 +2,19 @@
 ghost use Rattle.std.specs.Prelude.{◌≡◌, ◌<◌, [], Some, map, length, slice_get, All, IfOk};
 ghost use Rattle.ds_asked.specs.AskedLines.{MayBeAnswered};
 ghost use Rattle.ds_model.specs.Sessions.{first_sessions};
-ghost use Rattle.ds_check.specs.Deciding.{IsHeld, seen_by, world_run};
+ghost use Rattle.ds_judging_reads.specs.Deciding.{IsHeld, seen_by, world_run};
 ghost use Rattle.ds_check.specs.Walks.{AreSessions, IfAsk, IsFound, IsReplied, IsTaken, MayBeTaken, Walked, asks};
 
-use crate::judging::judge;
-use crate::sessions::{Session, first_sessions, meet};
 use crate::steps::Step;
-use crate::turn::Run;
 use ds_asked::Asked;
 use ds_base::NoMemory;
+use ds_judging::judge;
+use ds_judging_reads::{Run, Session, first_sessions, meet};
 use ds_told::{Draws, Told};
 use std::alloc::Global;
 
 /// The number of the first line whose reply is wrong; none where all are answers, and then what they tell is noted. There is a reply for
-/// each
-/// line. A refusal is want of memory.
+/// each line. A refusal is want of memory.
 pub(crate) fn wrong_reply(
     alloc: Global,
     run: &Run<'_>,

@@ -1,0 +1,14 @@
+pub mod CountLaws
+pub mod CountSteps
+pub mod Decisions
+pub mod FoundLaws
+pub mod GetLaws
+pub mod GetSteps
+pub mod LawfulItems
+pub mod LawfulViews
+pub mod OnePlace
+pub mod Raising
+pub mod Saying
+pub mod SearchLaws
+pub mod SeenLaws
+pub mod Telling
