@@ -48,8 +48,8 @@ use Rattle.ds_judging_reads.proofs.GetLaws.{IsPlaceTold, expired_told, none_some
 use Rattle.ds_judging_reads.proofs.LawfulItems.{items_lawful}
 use Rattle.ds_judging_reads.proofs.LawfulViews.{global_lawful, strong_lawful}
 use Rattle.ds_judging_reads.proofs.OnePlace.{one_refusal, one_window}
-use Rattle.ds_judging_reads.proofs.FoundLaws.{IsSmall, as_found, by_pairs, data_of, expired_as, finds_told, found_as, found_counts, found_error}
-use Rattle.ds_judging_reads.proofs.FoundLaws.{found_place, found_plain, same_told, told_found, unless}
+use Rattle.ds_judging_reads.proofs.FoundLaws.{IsSmall, as_found, by_pairs, data_of, expired_as, finds_told, found_as, found_counts}
+use Rattle.ds_judging_reads.proofs.FoundLaws.{found_error, found_place, found_plain, same_told, told_found, unless}
 pub use Rattle.ds_judging_reads.proofs.FoundLaws.{HasAncestor, all_by_key, ancestor_of, by_key, refused_in, told_page, unrefused_in}
 
 -- ---- decisions

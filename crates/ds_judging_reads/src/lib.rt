@@ -2,9 +2,9 @@
 //!
 //! It stands on the definitions (`ds_model`), on the protocol's two sides without any store (`ds_protocol`), on `ds_plain` for what a query
 //! finds, on `ds_history` for the journal that replies are held against, and on `ds_reply_lines` for the lines of replies. Of the
-//! definitions begin with `specs/Deciding` (when a reply is the answer, and no other one has its line). Of the code begin with `turn`, a line
-//! with its reply, and `sessions`, what each client has seen; then `reads` (gets, queries and statements) and `counts` (settle and apply).
-//! `lawful` has what the types of a search and of a journal keep. Writes and transactions are judged in `ds_judging`.
+//! definitions begin with `specs/Deciding` (when a reply is the answer, and no other one has its line). Of the code begin with `turn`, a
+//! line with its reply, and `sessions`, what each client has seen; then `reads` (gets, queries and statements) and `counts` (settle and
+//! apply). `lawful` has what the types of a search and of a journal keep. Writes and transactions are judged in `ds_judging`.
 #![tactic(auto)]
 
 pub mod counts;
