@@ -25,6 +25,8 @@ from torfyllan import Blob, Entity, Key, Many, Server, ServerFailed, Text, Torfy
 from torfyllan.shards import FIRST_DRAWN, even_namespace, even_start, hash_of, key_bytes
 
 TOP = pathlib.Path(HERE).parents[1]
+# What a shell runs in the background ignores an interrupt, and so would what these tests start.
+signal.signal(signal.SIGINT, signal.default_int_handler)
 
 
 class Entities(unittest.TestCase):
