@@ -9,7 +9,7 @@ use std::alloc::{AllocError, Global};
 const MOST_ROWS: usize = 2000;
 
 /// A table whose rows are the numbers below 2,000, as two bytes, with what is known of it: which of them are alive, and which
-/// stamps may come.
+/// stamps may come. Its calls keep that and have no clause beside it: tests compare what they give.
 #[derive(Drop)]
 pub struct Numbered {
     pub table: Table,
