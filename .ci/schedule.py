@@ -2,13 +2,15 @@
 import heapq
 import os
 import re
+import time
 
 TOP = os.path.dirname(os.path.dirname(os.path.realpath(__file__)))
 TIMES = os.path.join(TOP, ".ci", "times")
 ROW = re.compile(r"^(\w+) ([0-9.]+) ", re.M)
-# What a crate is taken for that the table doesn't have, in seconds, and the time below which it was proved before.
+# What a crate is taken for that the table doesn't have, in seconds.
 UNKNOWN = 60.0
-KEPT = 4.0
+# How much of a processor's time a second and further processor saves a crate, which the gate gives to those that no other crate waits for.
+GAIN = 0.5
 
 
 def known_seconds():
@@ -21,48 +23,54 @@ def known_seconds():
 
 
 class Schedule:
-    """A build under way: which crates are left, and how this machine's pace compares with the table's."""
+    """A build under way: when each crate would be proved by the table, and how this machine's pace compares with that."""
 
     def __init__(self, crates, workers):
         self.crates = crates
         self.workers = workers
         known = known_seconds()
         self.seconds = {name: known.get(name) or UNKNOWN for name in crates}
-        self.begun = {}
         self.done = set()
-        self.took = self.should_have = 0.0
+        self.began = time.monotonic()
+        self.ends = self.planned()
 
-    def begin(self, name, now):
-        self.begun[name] = now
+    def planned(self):
+        """When each crate would be proved, in seconds from the beginning, where those with the longest chain behind them are proved first."""
+        chain = {}
+        for name in reversed(list(self.crates)):
+            chain[name] = self.seconds[name] + max((chain[it] for it in chain if name in self.crates[it]), default=0.0)
+        ends, running, now = {}, [], 0.0
+        while len(ends) < len(self.crates):
+            begun = {name for _, name, _ in running}.union(ends)
+            ready = [it for it, lower in self.crates.items() if it not in begun and all(low in ends for low in lower)]
+            for place, name in enumerate(sorted(ready, key=lambda it: -chain[it])):
+                idle = self.workers - sum(jobs for _, _, jobs in running)
+                if idle:
+                    jobs = max(1, min(4, idle // (len(ready) - place)))
+                    heapq.heappush(running, (now + self.seconds[name] / (1 + GAIN * (jobs - 1)), name, jobs))
+            now, name, _ = heapq.heappop(running)
+            ends[name] = now
+        return ends
 
-    def end(self, name, now):
+    def told(self, name, outcome):
+        """What is told behind the outcome of a crate, which counts as done where it is proved, or was before."""
+        if outcome == "NOT PROVED":
+            return ""
         self.done.add(name)
-        took = now - self.begun[name]
-        if took > KEPT:
-            self.took += took
-            self.should_have += self.seconds[name]
+        if outcome == "is kept":
+            self.seconds[name] = 0.0
+            self.ends = self.planned()
+        count = len(self.crates)
+        left = f"; {minutes(self.left())} left" if len(self.done) < count else ""
+        return f" ({len(self.done)} of {count}){left}"
 
-    @property
-    def pace(self):
-        """Seconds here for a second of the table. It begins at one, and what was proved here counts more and more."""
-        return (self.took + 60) / (self.should_have + 60)
+    def elapsed(self):
+        return time.monotonic() - self.began
 
-    def left(self, now):
-        """Seconds until the last crate is proved, as the crates that are left would be taken in their order by so many workers."""
-        ends = {name: now for name in self.done}
-        free = []
-        for name, begun in self.begun.items():
-            if name not in self.done:
-                ends[name] = max(now + 1, begun + self.seconds[name] * self.pace)
-                heapq.heappush(free, ends[name])
-        while len(free) < self.workers:
-            heapq.heappush(free, now)
-        for name, lower in self.crates.items():
-            if name not in ends:
-                start = max([heapq.heappop(free), *(ends[low] for low in lower)])
-                ends[name] = start + self.seconds[name] * self.pace
-                heapq.heappush(free, ends[name])
-        return max(ends.values(), default=now) - now
+    def left(self):
+        """Seconds until the last crate is proved. The pace is at first that of the table, and what was proved here counts more and more."""
+        reached = max((self.ends[name] for name in self.done), default=0.0)
+        return (max(self.ends.values()) - reached) * (self.elapsed() + 60) / (reached + 60)
 
 
 def minutes(seconds):
