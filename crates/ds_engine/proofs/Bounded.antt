@@ -144,3 +144,15 @@ module _ (q : Branch) (defs : List IndexDef) (scans : List PlannedScan) (stamp :
         let steps = subst (λ b. now ≤ begun + walk_steps b (length scans) (bytes_of start) (bytes_of stop) strings passed) e here in
         let all = up_to stop in
         within_stop stop (ap (λ b. cond b stop None) same) (omega (arith, steps, all))
+
+  -- the same where they are told by their number and the last place
+  pub told_within : (most : Option ℕ) (begun now count : ℕ) (last : Option Place) (rows : List Row) → count ≡ length rows
+      → last ≡ last_of None rows → rows ≡ map (placed q.columns) (rows_given most)
+      → now ≤ begun + walk_steps (is_wanted most count) (length scans) (bytes_of start) (bytes_of last) strings passed
+      → now ≤ begun + bound q start end most stamp versions
+  told_within most begun now count last rows long at_last are within =
+      done_within most begun now rows are
+      (subst (λ o. now ≤ begun + walk_steps (is_wanted most (length rows)) (length scans) (bytes_of start) (bytes_of o) strings passed)
+      at_last
+      (subst (λ n. now ≤ begun + walk_steps (is_wanted most n) (length scans) (bytes_of start) (bytes_of last) strings passed) long
+      within))

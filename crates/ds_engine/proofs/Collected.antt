@@ -1,11 +1,11 @@
 -- What was collected on the way over the strings that scans have in common.
 use Rattle.std.proofs.Common.{◌≡◌, ◌⊎◌, inl, inr, ℕ, ◌+◌, ◌≤◌, ◌<◌, List, [], ◌∷◌, ◌++◌, length, map, take, get_or, Bool, true, false}
 use Rattle.std.proofs.Common.{◌&&◌, cond, refl, sym, ap, ◌∙◌, subst, Option, Some, None, Result, Ok, Err, arith, length-append}
-use Rattle.std.specs.Prelude.{OnErr, All, Contains, IsTrue}
+use Rattle.std.specs.Prelude.{OnErr, Contains, IsTrue}
 use Rattle.std.specs.List.{list_any}
 use Rattle.std.proofs.lemmas.Bool.Decides.{nat_tests}
 use Rattle.std.proofs.lemmas.List.{length-map, take_all, map_push}
-use Rattle.std.proofs.lemmas.List.Elements.{All-head, All-push}
+use Rattle.std.proofs.lemmas.List.Elements.{All-head}
 use Rattle.ds_base.specs.declared.column.Column.{Column}
 use Rattle.ds_bytes.specs.Rows.{RowParts}
 use Rattle.ds_query.specs.declared.row.Row.{Row}
@@ -163,14 +163,6 @@ module _ (columns : List Column) (names : List (List ℕ)) (after : Option (List
         kept ∙ ap (map (placed columns)) (enough_kept columns names after lists sorted common last m here)
 
 -- ---- one row more
-
-pub all_with : (P : Row → Type 0) (all : Bool) (slots : List (Option ℕ)) (rows : List Row) (row : Row) → All P rows → P row
-    → All P (with_one all slots rows row)
-all_with P true slots rows row h p = All-push P rows row h p
-all_with P false slots rows row h p = by (list_any (is_same slots row) rows) where
-  by : (b : Bool) → All P (cond b rows (rows ++ row ∷ []))
-  by true = h
-  by false = All-push P rows row h p
 
 pub one_longer : (all : Bool) (slots : List (Option ℕ)) (rows : List Row) (row : Row)
     → length (with_one all slots rows row) ≤ length rows + 1

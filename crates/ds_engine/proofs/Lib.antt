@@ -1,5 +1,6 @@
 pub mod AncestorPaths
 pub mod Apart
+pub mod Behinds
 pub mod BoundLaws
 mod BoundSums
 pub mod Bounded
@@ -8,7 +9,9 @@ pub mod Columns
 pub mod CommonRows
 pub mod Counted
 pub mod EntityRows
+pub mod KeptLaws
 pub mod KeySets
+pub mod Skipping
 pub mod LowBytes
 pub mod Ranged
 pub mod Readings

@@ -1,12 +1,15 @@
 -- A query of one branch over one shard: that gives the first results in their order, each once, and the window cuts them.
-use Rattle.std.proofs.Common.{◌≡◌, List, [], ◌∷◌, ◌++◌, length, map, drop, refl, sym, ap, ◌∙◌, append-nil, arith}
-use Rattle.std.proofs.Common.{false, cond, Option, Some}
-use Rattle.std.specs.Prelude.{flat_map}
+use Rattle.std.proofs.Common.{◌≡◌, List, [], ◌∷◌, ◌++◌, length, map, drop, get_or, refl, sym, ap, ◌∙◌, append-nil, arith, subst}
+use Rattle.std.proofs.Common.{ℕ, false, cond, Option, Some, None}
+use Rattle.std.specs.Prelude.{All, flat_map}
+use Rattle.std.proofs.lemmas.List.Elements.{All-head}
+use Rattle.std.proofs.lemmas.List.Sums.{sum_by-cons}
 use Rattle.std.proofs.lemmas.List.{drop-map}
 use Rattle.std.proofs.lemmas.List.Folds.{fold-map}
 use Rattle.ds_base.specs.declared.column.Column.{Column}
 use Rattle.ds_entity.specs.Entities.{EntityParts}
 use Rattle.ds_bytes.specs.Rows.{RowParts}
+use Rattle.ds_query.specs.declared.branch.Branch.{Branch}
 use Rattle.ds_query.specs.declared.branch.Normal.{Normal}
 use Rattle.ds_query.specs.declared.branch.Window.{Window}
 use Rattle.ds_query.specs.declared.row.Place.{Place}
@@ -18,7 +21,9 @@ use Rattle.ds_pages.specs.Places.{placed}
 use Rattle.ds_pages.proofs.PageLaws.{drop-seen}
 use Rattle.ds_model.specs.Bounds.{given}
 use Rattle.ds_model.specs.Results.{branch_results, united}
-use Rattle.ds_engine.specs.Searches.{all_entities, page_over, rows_of_shards}
+use Rattle.ds_engine.specs.BoundSums.{bound_at, bound_of_all, bound_over}
+use Rattle.ds_engine.specs.Searches.{all_entities, most_of, page_over, rows_of_shards, search_bound, IsCutOf}
+use Rattle.ds_engine.specs.Snapshots.{SnapshotParts, asked_in}
 use Rattle.ds_engine.proofs.ShardPages.{alone, one_of}
 
 -- the page of the first rows, as many as are skipped and taken, is that of all
@@ -53,3 +58,32 @@ one_page n w views rows m lawful single one are some next =
     ∙ (λ i. flat_map (λ b. branch_results b w.start w.end (all_entities (sym v.1 i))) (sym q.1 i))
     ∙ ap (λ b. cond b (first_rows n.merged [] (united n (all_entities views)))
     (flat_map (λ b. branch_results b w.start w.end (all_entities views)) n.branches)) (sym single))
+
+-- the same where the shard is handed out alone
+pub page_of_one : (n : Normal) (w : Window) (q : Branch) (v : List EntityParts) (m : RowPage) → IsLawfulNormal n → n.several ≡ false
+    → n.branches ≡ q ∷ [] → IsCutOf w (map (placed q.columns) (given q w.start w.end (most_of n w) v)) m
+    → m ≡ page_over n w (all_entities (v ∷ []))
+page_of_one n w q v m lawful single one page =
+    one_page n w (v ∷ []) (map (placed n.merged) (rows_of_shards n w (v ∷ []))) m lawful single refl refl
+    (page.rows ∙ ap (drop w.offset) same) (page.next ∙ ap (last_of w.start) same) where
+      columns : q.columns ≡ n.merged
+      columns = All-head (λ (b : Branch). b.columns ≡ n.merged) q [] (subst (λ (bs : List Branch). All (λ (b : Branch). b.columns
+          ≡ n.merged) bs) one (lawful.single_columns single))
+
+      same : map (placed q.columns) (given q w.start w.end (most_of n w) v) ≡ map (placed n.merged) (rows_of_shards n w (v ∷ []))
+      same =
+          (λ i. map (placed (columns i)) (given q w.start w.end (cond (single i) None (plus_limit w.offset w.limit)) v))
+          ∙ ap (map (placed n.merged)) (sym (alone n w q (v ∷ []) single one
+          ∙ append-nil (given q w.start w.end (plus_limit w.offset w.limit) v)))
+
+pub is_one : {A : Type 0} (xs : List A) (x : A) → length xs ≡ 1 → x ≡ get_or xs 0 x → xs ≡ x ∷ []
+is_one [] x one is = absurd (omega (arith, one))
+is_one (y ∷ []) x one is = ap (λ z. z ∷ []) (sym is)
+is_one (y ∷ z ∷ xs) x one is = absurd (omega (arith, one))
+
+pub bound_of_one : (n : Normal) (w : Window) (most : Option ℕ) (q : Branch) (s : SnapshotParts) (snapshots : List SnapshotParts)
+    → n.branches ≡ q ∷ [] → snapshots ≡ s ∷ [] → search_bound n w most snapshots ≡ bound_at q w.start w.end most (asked_in s)
+bound_of_one n w most q s snapshots branches shards =
+    let one = sum_by-cons (bound_over w.start w.end most (asked_in s ∷ [])) q [] in
+    let two = sum_by-cons (bound_at q w.start w.end most) (asked_in s) [] in
+    (λ i. bound_of_all w.start w.end most (map asked_in (shards i)) (branches i)) ∙ omega (arith, one, two)

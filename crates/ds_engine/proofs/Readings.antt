@@ -1,5 +1,5 @@
 -- A row that is read back column by column.
-use Rattle.std.proofs.Common.{◌≡◌, ℕ, ◌+◌, ◌≤◌, ◌<◌, List, [], ◌∷◌, ◌++◌, length, drop, get_or, Bool, true, false, sym, ap, subst}
+use Rattle.std.proofs.Common.{◌≡◌, ℕ, ◌+◌, ◌≤◌, ◌<◌, List, [], ◌∷◌, ◌++◌, length, drop, get_or, Bool, true, false, refl, sym, ap}
 use Rattle.std.proofs.Common.{◌∙◌, arith, append_assoc, append-nil}
 use Rattle.std.specs.Prelude.{All}
 use Rattle.std.proofs.lemmas.List.{drop_all, drop_more}
@@ -17,9 +17,8 @@ use Rattle.ds_base.specs.KeyColumn.{is_key_name, key_descends}
 use Rattle.ds_query.specs.declared.row.Row.{Row}
 use Rattle.ds_cursor.specs.RowsOfColumns.{directions, IsRowOf}
 use Rattle.ds_cursor.proofs.RowLemmas.{directions-key, directions-value}
-use Rattle.ds_model.specs.Rows.{place_of}
-use Rattle.ds_pages.specs.Places.{IsPlaced, parts_of}
-use Rattle.ds_engine.specs.Reading.{ValueStands, KeyStands}
+use Rattle.ds_pages.specs.Places.{IsPlaced, placed}
+use Rattle.ds_engine.specs.Reading.{ValueStands, KeyStands, StandBehind}
 
 -- ---- what stands at the front
 
@@ -141,32 +140,40 @@ key_left columns i kd values rest row past is = by is.left is.whole (is.long ∙
       by [] whole long bytes = (whole ∙ append-nil values, bytes)
       by (v ∷ vs) whole long bytes = absurd (omega arith)
 
-pub key_stands : (columns : List Column) (i : ℕ) (bytes : List ℕ) (values : List IndexValue) (rest : List ℕ) → length columns ≤ i
-    → (r : IsRowOf columns bytes) → IsLeft columns i (key_descends columns) values rest r.row → KeyStands (key_descends columns) rest
-key_stands columns i bytes values rest past r is =
-    record { key = r.row.key; lawful = r.key; written = (key_left columns i (key_descends columns) values rest r.row past is).1 }
+pub all_read : (columns : List Column) (i : ℕ) (values : List IndexValue) (rest : List ℕ) (row : RowParts) → length columns ≤ i
+    → IsLeft columns i (key_descends columns) values rest row → StandBehind columns values rest row
+all_read columns i values rest row past is =
+    let left = key_left columns i (key_descends columns) values rest row past is in
+    record { read = left.0; stands = left.1 }
 
-pub row_read : (columns : List Column) (i : ℕ) (bytes : List ℕ) (values : List IndexValue) (rest : List ℕ) (key : KeyParts) (row : Row)
-    → length columns ≤ i → (r : IsRowOf columns bytes) → IsLeft columns i (key_descends columns) values rest r.row
-    → ((k : KeyParts) → IsLawfulKey k → rest ≡ key_encoding (key_descends columns) k → key ≡ k)
-    → row ≡ record { key = key; values = values; place = record { bytes = bytes } } → IsPlaced columns row
-row_read columns i bytes values rest key row past r is read made =
-    let left = key_left columns i (key_descends columns) values rest r.row past is in
-    let same : parts_of row ≡ r.row =
-    (λ t. record {
-      values = (ap (λ (x : Row). x.values) made ∙ sym left.0) t;
-      key = (ap (λ (x : Row). x.key) made
-          ∙ read r.row.key r.key left.1) t;
-    }) in
-    record {
-      lawful = record {
-        long = ap (λ (x : RowParts). length x.values) same ∙ r.long;
-        values = λ k d below. value_of_bytes _ (subst (λ (x : RowParts). All IsLawfulValue x.values) (sym same) r.values k d below);
-        key = key_of_bytes (parts_of row).key (subst (λ (x : RowParts). IsLawfulKey x.key) (sym same) r.key);
-      };
-      place = made ∙ (λ t. record {
-        key = ap (λ (x : Row). x.key) (sym made) t;
-        values = ap (λ (x : Row). x.values) (sym made) t;
-        place = record { bytes = (r.written ∙ ap (λ (x : RowParts). place_of columns x) (sym same)) t };
-      });
-    }
+-- before all columns nothing is read
+pub none_read : (columns : List Column) (bytes : List ℕ) (values : List IndexValue) → values ≡ [] → (r : IsRowOf columns bytes)
+    → IsLeft columns 0 (key_descends columns) values bytes r.row
+none_read columns bytes values none r = record {
+  left = r.row.values;
+  whole = ap (λ (vs : List IndexValue). vs ++ r.row.values) (sym none);
+  long = r.long;
+  lawful = r.values;
+  bytes = r.written;
+}
+
+pub key_stands : (columns : List Column) (bytes : List ℕ) (values : List IndexValue) (key : List ℕ) (r : IsRowOf columns bytes)
+    → StandBehind columns values key r.row → KeyStands (key_descends columns) key
+key_stands columns bytes values key r stand = record { key = r.row.key; lawful = r.key; written = stand.stands }
+
+pub row_made : (columns : List Column) (bytes : List ℕ) (values : List IndexValue) (stood : List ℕ) (key : KeyParts) (row : Row)
+    (r : IsRowOf columns bytes) → StandBehind columns values stood r.row → key ≡ r.row.key
+    → row ≡ record { key = key; values = values; place = record { bytes = bytes } } → row ≡ placed columns r.row
+row_made columns bytes values stood key row r stand same made =
+    made ∙ (λ t. record { key = same t; values = sym stand.read t; place = record { bytes = r.written t } })
+
+-- the row that stands in bytes has its place there
+pub is_placed : (columns : List Column) (bytes : List ℕ) (r : IsRowOf columns bytes) → IsPlaced columns (placed columns r.row)
+is_placed columns bytes r = record {
+  lawful = record {
+    long = r.long;
+    values = λ k d below. value_of_bytes _ (r.values k d below);
+    key = key_of_bytes r.row.key r.key;
+  };
+  place = refl;
+}

@@ -1,42 +1,76 @@
 -- Rows that are kept as they are reached.
-use Rattle.std.specs.Prelude.{◌≡◌, ℕ, Bool, true, false, ◌||◌, List, [], ◌∷◌, ◌++◌, Option, cond}
+use Rattle.std.specs.Prelude.{◌≡◌, ◌+◌, ◌<◌, ◌≤◌, ℕ, Bool, true, false, not, ◌||◌, List, [], ◌∷◌, ◌++◌, All, Option, Some, None, cond, drop}
+use Rattle.std.specs.Prelude.{length, nat_eq}
 use Rattle.std.specs.List.{list_all, list_any}
-use Rattle.ds_base.specs.Keys.{KeyParts}
-use Rattle.ds_base.specs.KeyOrder.{same_key}
+use Rattle.std.specs.Cmp.Lexicographic.{pointwise}
 use Rattle.ds_base.specs.declared.column.Column.{Column}
-use Rattle.ds_query.specs.declared.row.Row.{Row}
-use Rattle.ds_base.specs.KeyColumn.{is_key_name}
+use Rattle.ds_base.specs.KeyColumn.{is_key_name, key_descends}
+use Rattle.ds_base.specs.KeyOrder.{same_key}
+use Rattle.ds_bytes.specs.Encoding.{key_encoding}
 use Rattle.ds_query.specs.Reasons.{has_name}
+use Rattle.ds_query.specs.declared.row.Row.{Row}
 use Rattle.ds_pages.specs.FirstRows.{with_row}
-
--- whether all are kept, or of each mark the first; where the projected values stand among those of a row; and the rows
-pub record KeptParts : Type 0 where
-  pub keeps_all : Bool
-  pub slots : List (Option ℕ)
-  pub rows : List Row
+use Rattle.ds_pages.specs.Marks.{is_same}
+use Rattle.ds_pages.specs.Pages.{last_of}
+use Rattle.ds_pages.specs.Places.{IsPlaced}
+use Rattle.ds_engine.specs.declared.kept.KeptRows.{KeptRows}
 
 -- Each value of a row of these columns is projected, so that a row is told by its mark; where there are no values a row is its key.
 abbrev pub are_projected : List (List ℕ) → List Column → Bool
 are_projected names = list_all (λ c. is_key_name c.name || has_name names c.name)
 
--- those of two lists that count: where all are kept the first
-abbrev pub kept_rows : Bool → List Row → List Row → List Row
-kept_rows keeps_all whole firsts = cond keeps_all whole firsts
+-- whether a row is left out: where all are taken it isn't, and else where a row of its mark was taken
+abbrev pub is_known : Bool → List (Option ℕ) → List Row → Row → Bool
+is_known true slots rows row = false
+is_known false slots rows row = list_any (is_same slots row) rows
 
--- the rows with one more, which is kept where all are, and else where no row of its mark was
+-- the rows with one more, which is taken where all are, and else where no row of its mark was
 abbrev pub with_one : Bool → List (Option ℕ) → List Row → Row → List Row
 with_one true slots rows row = rows ++ row ∷ []
 with_one false slots rows row = with_row slots rows row
 
--- the rows with one more, which is kept where no row of its key was
-abbrev pub with_key : List Row → Row → List Row
-with_key rows row = cond (list_any (λ r. same_key row.key r.key) rows) rows (rows ++ row ∷ [])
+-- the rows with one more, if it is new
+abbrev pub with_row_if : Bool → List Row → Row → List Row
+with_row_if is_new rows row = cond is_new (rows ++ row ∷ []) rows
 
--- the set of the keys of the rows
-abbrev pub AreKeys : List KeyParts → List Row → Type 0
-AreKeys keys rows = (k : KeyParts) → list_any (same_key k) keys ≡ list_any (λ r. same_key k r.key) rows
+-- those behind the first `skip`, and how many of these there are
+pub record IsBehind (skip skipped : ℕ) (kept rows : List Row) : Type 0 where
+  pub are : kept ≡ drop skip rows
+  pub long : skipped + length kept ≡ length rows
+  pub few : skipped ≤ skip
 
--- where nothing is projected and not all are kept, the set is that of the rows' keys
-pub record AreKept (keeps_all by_key : Bool) (slots : List (Option ℕ)) (keys : List KeyParts) (rows : List Row) : Type 0 where
-  pub bare : by_key ≡ true → slots ≡ []
-  pub known : keeps_all ≡ false → AreKeys keys rows
+-- the set of the keys of the rows, each as its bytes in this direction
+abbrev pub AreKeyBytes : Bool → List (List ℕ) → List Row → Type 0
+AreKeyBytes descending keys rows = (bytes : List ℕ) → list_any (pointwise nat_eq bytes) keys
+    ≡ list_any (λ (r : Row). pointwise nat_eq bytes (key_encoding descending r.key)) rows
+
+-- the rows behind the first ones, and the set of the keys of all
+pub record AreOfKeys (columns : List Column) (skip skipped : ℕ) (kept : List Row) (keys : List (List ℕ)) (rows : List Row) : Type 0 where
+  pub behind : IsBehind skip skipped kept rows
+  pub known : AreKeyBytes (key_descends columns) keys rows
+  pub placed : All (IsPlaced columns) rows
+
+-- the same with a row more, if its key is new
+pub record IsPutByKey (columns : List Column) (skip skipped : ℕ) (kept : List Row) (keys : List (List ℕ)) (rows : List Row) (row : Row)
+    (is_new : Bool) : Type 0 where
+  pub are : AreOfKeys columns skip skipped kept keys (with_row_if is_new rows row)
+  pub new : is_new ≡ not (list_any (λ (r : Row). same_key row.key r.key) rows)
+
+-- What is kept tells the rows that were taken: those behind the first ones where all are taken or of each key the first, and else all.
+pub record AreTold (columns : List Column) (k : KeptRows) (rows : List Row) : Type 0 where
+  pub bare : k.by_key ≡ true → k.firsts.slots ≡ []
+  pub all : k.keeps_all ≡ true → IsBehind k.skip k.skipped k.whole.items rows
+  pub keys : k.keeps_all ≡ false → k.by_key ≡ true → AreOfKeys columns k.skip k.skipped k.whole.items k.keys.keys rows
+  pub marks : k.keeps_all ≡ false → k.by_key ≡ false → k.firsts.rows ≡ rows
+  pub placed : All (IsPlaced columns) rows
+
+-- and the place of the last one
+pub record AreKept (columns : List Column) (k : KeptRows) (rows : List Row) : Type 0 where
+  pub told : AreTold columns k rows
+  pub last : 0 < length rows → last_of None rows ≡ Some (record { bytes = k.last.items })
+
+-- what stays the same as rows are put
+pub record IsSameKind (before after : KeptRows) : Type 0 where
+  pub all : after.keeps_all ≡ before.keeps_all
+  pub slots : after.firsts.slots ≡ before.firsts.slots
+  pub skip : after.skip ≡ before.skip

@@ -1,3 +1,4 @@
+pub mod Behind
 pub mod BoundSums
 pub mod Common
 pub mod Counted

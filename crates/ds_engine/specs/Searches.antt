@@ -1,5 +1,5 @@
 -- What a query finds among the entities of shards, and what it is joined from: each shard's own results.
-use Rattle.std.specs.Prelude.{◌≡◌, ℕ, ◌+◌, List, [], ◌∷◌, length, map, flat_map, All, slice_get, Option, None, cond, unwrap_or, ⊤}
+use Rattle.std.specs.Prelude.{◌≡◌, ℕ, ◌+◌, List, [], ◌∷◌, length, map, flat_map, drop, All, slice_get, Option, None, cond, unwrap_or, ⊤}
 use Rattle.std.specs.List.{AllByRecursion}
 use Rattle.ds_base.specs.declared.column.Column.{Column}
 use Rattle.ds_entity.specs.declared.results.Item.{Item}
@@ -12,9 +12,10 @@ use Rattle.ds_query.specs.declared.branch.Branch.{Branch}
 use Rattle.ds_query.specs.declared.branch.Normal.{Normal}
 use Rattle.ds_query.specs.declared.branch.Window.{Window}
 use Rattle.ds_query.specs.declared.row.Place.{Place}
+use Rattle.ds_query.specs.declared.row.Row.{Row}
 use Rattle.ds_log.specs.Shards.{shard_of}
 use Rattle.ds_pages.specs.Extended.{extended}
-use Rattle.ds_pages.specs.Pages.{plus_limit, with_places}
+use Rattle.ds_pages.specs.Pages.{last_of, plus_limit, with_places}
 use Rattle.ds_pages.specs.declared.row_page.RowPage.{RowPage}
 use Rattle.ds_engine.specs.BoundSums.{bound_of_all}
 use Rattle.ds_model.specs.Bounds.{given}
@@ -32,6 +33,11 @@ pub record IsResultOf (n : Normal) (w : Window) (entities : List EntityParts) (r
 -- the page of it: the rows with their places among the merged columns
 abbrev pub page_over : Normal → Window → List EntityParts → RowPage
 page_over n w entities = with_places n.merged (result n w entities)
+
+-- the page that the window cuts from rows that stand in their order, each once
+pub record IsCutOf (w : Window) (all : List Row) (page : RowPage) : Type 0 where
+  pub rows : page.rows ≡ drop w.offset all
+  pub next : page.next ≡ last_of w.start all
 
 -- the ancestor of a query, which all its branches have
 abbrev pub ancestor_of : List Branch → Option KeyParts

@@ -8,7 +8,9 @@ ghost use Rattle.ds_planner.specs.Missing.{Missing, missing_of};
 ghost use Rattle.ds_rows.specs.Versions.{entities_at};
 ghost use Rattle.ds_model.specs.Bounds.{bound, given};
 ghost use Rattle.ds_pages.specs.Places.{IsPlaced, placed};
+ghost use Rattle.ds_engine.specs.Behind.{IsCollected};
 
+use crate::behind::RowsBehind;
 use crate::collecting::first_common;
 use crate::refused::EngineRefused;
 use ds_base::NoMemory;
@@ -58,9 +60,52 @@ pub fn answer<T: Tables, L: Ledger>(
     ensures none_asked { most ≡ Some 0 → steps.new ≡ steps.old }
     ensures steps_stay_counted { steps.old ≤ steps.new }
 {
+    let found = answer_behind(
+        alloc, tables, at, branch, defs, plan, start, end, most, 0, steps,
+    )?;
+    Ok(found.rows)
+}
+
+/// The same results without the first `skip` of them, which are counted and not kept, and the place of the last one.
+pub(crate) fn answer_behind<T: Tables, L: Ledger>(
+    alloc: Global,
+    tables: &T,
+    at: u64,
+    branch: &Branch,
+    defs: &Defs,
+    plan: &ScanPlan,
+    start: Option<&Place>,
+    end: Option<&Place>,
+    most: Option<u64>,
+    skip: u32,
+    steps: &mut Steps<L>,
+) -> Result<RowsBehind, NoMemory>
+    requires its_ledger { L.name ≡ T.ledger }
+    requires kept { IsTrue (T.keeps tables.now at) }
+    requires definitions { defs.now ≡ T.definitions tables.now }
+    requires lawful { IsLawfulBranch branch.now }
+    requires suits { IsTrue (suits branch.now defs.now plan.now.scans) }
+    ensures rows { IfOk result (IsCollected branch.now.columns skip (map (placed branch.now.columns)
+        (given branch.now (option_copied start.entry) (option_copied end.entry) most (entities_at at (T.versions tables.now))))) }
+    ensures steps_bounded { IsLean branch.now defs.now plan.now.scans → IfOk result (λ found. steps.new
+        ≤ steps.old + bound branch.now (option_copied start.entry) (option_copied end.entry) most at (T.versions tables.now)) }
+    ensures steps_when_refused { IsLean branch.now defs.now plan.now.scans → OnErr result (steps.new
+        ≤ steps.old + bound branch.now (option_copied start.entry) (option_copied end.entry) None at (T.versions tables.now)) }
+    ensures a_step_for_each { IfOk result (λ found. steps.old + found.count ≤ steps.new) }
+    ensures none_asked { most ≡ Some 0 → steps.new ≡ steps.old }
+    ensures steps_stay_counted { steps.old ≤ steps.new }
+{
     tables.stand(at);
     let mut scans = scans_of(alloc, tables, at, branch, defs, plan, end)?;
-    first_common(alloc, scans.as_mut_slice(), branch, start, most, steps)
+    first_common(
+        alloc,
+        scans.as_mut_slice(),
+        branch,
+        start,
+        most,
+        skip,
+        steps,
+    )
 }
 
 /// The same rows by a plan of its own, within the same bounds. `MissingIndex` comes exactly where no set of scans suits the branch; it

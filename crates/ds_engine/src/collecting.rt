@@ -1,5 +1,5 @@
 //! The walk over the strings that the scans of a plan have in common.
-ghost use Rattle.std.specs.Prelude.{◌≡◌, ◌+◌, ◌<◌, ◌≤◌, [], List, ℕ, All, IsTrue, length, map, Some, None, IfOk, OnErr};
+ghost use Rattle.std.specs.Prelude.{◌≡◌, ◌+◌, ◌<◌, ◌≤◌, [], List, ℕ, IsTrue, length, map, Some, IfOk, OnErr};
 ghost use Rattle.std.specs.Option.{option_copied};
 ghost use Rattle.ds_bytes.specs.Rows.{RowParts};
 ghost use Rattle.ds_query.specs.Filters.{projected};
@@ -8,60 +8,57 @@ ghost use Rattle.ds_cursor.specs.RowsOfColumns.{IsRowOf};
 ghost use Rattle.ds_zigzag.specs.CommonStrings.{IsCommon};
 ghost use Rattle.ds_zigzag.specs.Walks.{steps_to_end};
 ghost use Rattle.ds_model.specs.Results.{at_most, first_of_each, same_mark};
-ghost use Rattle.ds_pages.specs.Pages.{last_of};
-ghost use Rattle.ds_pages.specs.Places.{IsPlaced, placed};
+ghost use Rattle.ds_pages.specs.Places.{placed};
+ghost use Rattle.ds_engine.specs.Behind.{IsCollected};
 ghost use Rattle.ds_engine.specs.Common.{AreCommonRows};
 ghost use Rattle.ds_engine.specs.Places.{bytes_of, is_wanted, walk_steps};
 
+use crate::behind::RowsBehind;
 use crate::kept::KeptRows;
-use crate::reading::row_of;
 use ds_base::{Names, NoMemory};
 use ds_io::Steps;
-use ds_query::{Branch, Place, RowList, Select};
+use ds_query::{Branch, Place, Select};
 use ds_zigzag::{Scan, Walk};
 use std::alloc::Global;
 use std::sync::ledger::Ledger;
 
-/// Of the rows whose places are the strings that all scans have after the start, in order, the first of each mark, at most so many.
-/// It looks at no string above the last row that it gives where so many are given, and at none where none is asked for. Each row that
-/// it gives took a step. Refused: want of memory.
+/// Of the rows whose places are the strings that all scans have after the start, in order, the first of each mark, at most so many; of
+/// them those behind the first `skip`, how many all are, and the place of the last one. It looks at no string above the last one where so
+/// many are there, and at none where none is asked for. Each of them took a step. Refused: want of memory.
 pub(crate) fn first_common<S: Scan, L: Ledger>(
     alloc: Global,
     scans: &mut [S],
     branch: &Branch,
     start: Option<&Place>,
     most: Option<u64>,
+    skip: u32,
     steps: &mut Steps<L>,
-) -> Result<RowList, NoMemory>
+) -> Result<RowsBehind, NoMemory>
     requires some { 0 < length scans.old }
     requires its_ledger { L.name ≡ S.ledger }
     requires differ { IsTrue (names_differ branch.now.columns) }
     requires rows { (x : List ℕ) → IsCommon (map S.strings scans.old) x → IsRowOf branch.now.columns x }
     ensures rows { IfOk result (λ found. (sorted : List RowParts)
         → AreCommonRows branch.now.columns (bytes_of (option_copied start.entry)) (map S.strings scans.old) sorted
-        → found ≡ map (placed branch.now.columns) (at_most most
-        (first_of_each (same_mark branch.now.columns (projected branch.now.select)) sorted))) }
-    ensures placed { IfOk result (λ found. All (IsPlaced branch.now.columns) found) }
-    ensures steps_when_done { IfOk result (λ found. steps.new ≤ steps.old + walk_steps (is_wanted most (length found)) (length scans.old)
-        (bytes_of (option_copied start.entry)) (bytes_of (last_of None found)) (map S.strings scans.old) (map S.passed scans.old)) }
+        → IsCollected branch.now.columns skip (map (placed branch.now.columns) (at_most most
+        (first_of_each (same_mark branch.now.columns (projected branch.now.select)) sorted))) found) }
+    ensures steps_when_done { IfOk result (λ found. steps.new ≤ steps.old + walk_steps (is_wanted most found.count) (length scans.old)
+        (bytes_of (option_copied start.entry)) (bytes_of found.last) (map S.strings scans.old) (map S.passed scans.old)) }
     ensures steps_when_refused { OnErr result (steps.new ≤ steps.old + steps_to_end (length scans.old)
         (bytes_of (option_copied start.entry)) (map S.strings scans.old) (map S.passed scans.old)) }
-    ensures a_step_for_each { IfOk result (λ found. steps.old + length found ≤ steps.new) }
+    ensures a_step_for_each { IfOk result (λ found. steps.old + found.count ≤ steps.new) }
     ensures none_asked { most ≡ Some 0 → steps.new ≡ steps.old }
     ensures steps_stay_counted { steps.old ≤ steps.new }
 {
     let mut walk = Walk::begin(alloc, scans.len(), bytes_of(start))?;
     let none = Names::new(alloc);
     let names = projected(&branch.select, &none);
-    let mut firsts = KeptRows::new(alloc, branch.columns.as_slice(), names.as_slice())?;
+    let mut firsts = KeptRows::new(alloc, branch.columns.as_slice(), names.as_slice(), skip)?;
     'answers: while is_wanted(most, firsts.len()) {
         let found = walk.next(scans, steps)?;
         match found {
             None => return Ok(firsts.finish()),
-            Some(place) => {
-                let row = row_of(alloc, branch.columns.as_slice(), place)?;
-                firsts.put(row)?;
-            }
+            Some(place) => firsts.put(branch.columns.as_slice(), place)?,
         }
     }
     Ok(firsts.finish())

@@ -1,142 +1,316 @@
 //! The rows of an answer, kept as they are reached.
-ghost use Rattle.std.specs.Prelude.{◌≡◌, length, map, [], ◌∷◌, ◌++◌, ◌||◌, IfOk, OnOk};
+ghost use Rattle.std.specs.Prelude.{◌≡◌, ◌<◌, ◌≤◌, ℕ, List, [], ◌∷◌, ◌++◌, ◌||◌, true, cond, length, map, nat_eq, not, None, Some};
+ghost use Rattle.std.specs.Prelude.{IfOk, OnOk};
+ghost use Rattle.std.specs.Cmp.Lexicographic.{pointwise};
+ghost use Rattle.std.specs.List.{list_any};
 ghost use Rattle.ds_base.specs.KeyColumn.{is_key_name};
+ghost use Rattle.ds_base.specs.declared.column.Column.{Column};
+ghost use Rattle.ds_cursor.specs.RowsOfColumns.{IsRowOf};
+ghost use Rattle.ds_pages.specs.Marks.{is_same};
+ghost use Rattle.ds_pages.specs.Places.{placed};
 ghost use Rattle.ds_pages.specs.Slots.{slot_of};
 ghost use Rattle.ds_query.specs.Reasons.{has_name};
-ghost use Rattle.ds_engine.specs.Kept.{are_projected, with_one, with_key, AreKeys};
+ghost use Rattle.ds_query.specs.declared.row.Row.{Row};
+ghost use Rattle.ds_engine.specs.Behind.{IsCollected};
+ghost use Rattle.ds_engine.specs.Kept.{are_projected, is_known, with_one, with_row_if, AreKept, AreOfKeys, AreTold, IsBehind, IsPutByKey};
+ghost use Rattle.ds_engine.specs.Kept.{IsSameKind};
 
-use ds_base::{Column, Key, NoMemory, TextString, TryCopy, is_key_name};
+use crate::behind::RowsBehind;
+use crate::key_bytes::KeyBytes;
+use crate::reading::{key_bytes, room_for_values, row_from, row_of};
+use ds_base::{ByteString, Column, IndexValue, NoMemory, TextString, is_key_name};
 use ds_pages::FirstRows;
-use ds_query::{Row, RowList};
+use ds_query::{Place, Row, RowList};
 use std::alloc::Global;
 use std::collections::HashSet;
-use std::marker::Model;
 
 /// Rows in the order in which they were reached, of each mark the first. Where each value is projected, or there are none, a row is told by
-/// its mark, and as no row is reached twice no mark is either: then all are kept, and none is compared with those before it. Where nothing
-/// is projected a mark is a key, and a set of keys tells which are known.
+/// its mark, and as no row is reached twice no mark is either: then all are taken, and none is compared with those before it. Where nothing
+/// is projected a mark is a key, and a set of keys, as they stand in the places of rows, tells which are known. In both cases the first so
+/// many rows are counted and not read.
 #[derive(Drop)]
 pub(crate) struct KeptRows {
     alloc: Global,
     keeps_all: bool,
     // Whether nothing is projected.
     by_key: bool,
-    // The rows where all are kept, or of each key the first.
+    // How many rows at the front aren't asked for, and how many were passed over.
+    skip: u32,
+    skipped: u32,
+    // The rows behind them where all are taken, or of each key the first.
     whole: Vec<Row>,
-    // Their keys, where of each key the first is kept.
-    keys: HashSet<Key>,
-    // The rows otherwise.
+    // The bytes of their keys and of those that were passed over, where of each key the first is taken.
+    keys: HashSet<KeyBytes>,
+    // Where the values of a row are read that is passed over.
+    values: Vec<IndexValue>,
+    // The rows otherwise, those at the front too.
     firsts: FirstRows,
-}
-
-impl Model for KeptRows {
-    ghost use Rattle.std.specs.Prelude.{◌||◌};
-    ghost use Rattle.ds_engine.specs.Kept.{KeptParts, kept_rows, AreKept};
-
-    ghost Value = { KeptParts };
-
-    ghost view = { λ k. record {
-      keeps_all = k.keeps_all;
-      slots = k.firsts.slots;
-      rows = kept_rows (k.keeps_all || k.by_key) k.whole.items k.firsts.rows;
-    } };
-
-    ghost invariant = { λ k. AreKept k.keeps_all k.by_key k.firsts.slots k.keys.keys k.whole.items };
+    // The place of the last row that was taken.
+    last: Vec<u8>,
 }
 
 impl KeptRows {
-    /// No row yet, of rows of these columns with these names projected. Refused: want of memory.
+    /// No row yet, of rows of these columns with these names projected, of which the first so many aren't asked for. Refused: want of
+    /// memory.
     pub(crate) fn new(
         alloc: Global,
         columns: &[Column],
         names: &[TextString],
+        skip: u32,
     ) -> Result<KeptRows, NoMemory>
         ensures all { IfOk result (λ k. k.keeps_all ≡ are_projected names.now columns.now) }
-        ensures slots { IfOk result (λ k. k.slots ≡ map (slot_of columns.now) names.now) }
-        ensures none { IfOk result (λ k. k.rows ≡ []) }
+        ensures slots { IfOk result (λ k. k.firsts.slots ≡ map (slot_of columns.now) names.now) }
+        ensures skip { IfOk result (λ k. k.skip ≡ skip) }
+        ensures none { IfOk result (λ k. AreKept columns.now k []) }
     {
         let firsts = FirstRows::new(alloc, columns, names)?;
         Ok(KeptRows {
             alloc,
             keeps_all: are_projected(names, columns),
             by_key: names.is_empty(),
+            skip,
+            skipped: 0,
             whole: Vec::new(alloc),
             keys: HashSet::new(alloc),
+            values: Vec::new(alloc),
             firsts,
+            last: Vec::new(alloc),
         })
     }
 
-    /// How many rows were kept. It takes no memory.
-    pub(crate) fn len(&self) -> usize
-        ensures { result ≡ length self.now.rows }
+    /// Whether rows are kept whole and in a list, each as it is taken.
+    fn is_whole(&self) -> bool
+        ensures { result ≡ (self.now.keeps_all || self.now.by_key) }
     {
-        if self.keeps_all || self.by_key {
-            self.whole.len()
+        self.keeps_all || self.by_key
+    }
+
+    /// How many rows were taken. It takes no memory.
+    pub(crate) fn len(&self) -> usize
+        ensures { (columns : List Column) (rows : List Row) → AreKept columns self.now rows → result ≡ length rows }
+    {
+        if self.is_whole() {
+            self.skipped as usize + self.whole.len()
         } else {
             self.firsts.len()
         }
     }
 
-    /// Keeps the row, where all are kept or no row of its mark was. Refused: want of memory.
-    pub(crate) fn put(&mut self, row: Row) -> Result<(), NoMemory>
-        ensures rows { OnOk result (self.new.rows ≡ with_one self.old.keeps_all self.old.slots self.old.rows row) }
-        ensures slots { self.new.slots ≡ self.old.slots }
-        ensures all { self.new.keeps_all ≡ self.old.keeps_all }
+    /// Takes the row whose place it is, where all are taken or no row of its mark was. Refused: want of memory.
+    pub(crate) fn put(&mut self, columns: &[Column], place: &[u8]) -> Result<(), NoMemory>
+        requires row { IsRowOf columns.now place.now }
+        ensures rows { (rows : List Row) (r : IsRowOf columns.now place.now) → AreKept columns.now self.old rows → OnOk result
+            (AreKept columns.now self.new (with_one self.old.keeps_all self.old.firsts.slots rows (placed columns.now r.row))) }
+        ensures same { IsSameKind self.old self.new }
+    {
+        let is_new = self.take(columns, place)?;
+        if !is_new {
+            return Ok(());
+        }
+        self.last.clear();
+        Ok(self.last.extend_from_slice(place)?)
+    }
+
+    /// The same without the place of the last row; whether the row was taken.
+    fn take(&mut self, columns: &[Column], place: &[u8]) -> Result<bool, NoMemory>
+        requires row { IsRowOf columns.now place.now }
+        ensures told { (rows : List Row) (r : IsRowOf columns.now place.now) → AreTold columns.now self.old rows
+            → IfOk result (λ is_new. AreTold columns.now self.new (with_row_if is_new rows (placed columns.now r.row))
+            × (is_new ≡ not (is_known self.old.keeps_all self.old.firsts.slots rows (placed columns.now r.row)))) }
+        ensures same { IsSameKind self.old self.new }
+        ensures last { self.new.last.items ≡ self.old.last.items }
     {
         if self.keeps_all {
-            return Ok(self.whole.push(row)?);
+            put_behind(
+                self.alloc,
+                columns,
+                place,
+                self.skip,
+                &mut self.skipped,
+                &mut self.whole,
+            )
+        } else if self.by_key {
+            put_by_key(
+                self.alloc,
+                columns,
+                place,
+                self.skip,
+                &mut self.skipped,
+                &mut self.whole,
+                &mut self.keys,
+                &mut self.values,
+            )
+        } else {
+            put_by_mark(self.alloc, columns, place, &mut self.firsts)
         }
-        if self.by_key {
-            return put_by_key(self.alloc, &mut self.keys, &mut self.whole, row);
-        }
-        self.firsts.put(row)
     }
 
-    /// The rows that were kept. They are moved.
-    pub(crate) fn finish(self) -> RowList
-        ensures { result ≡ self.rows }
+    /// The rows that were taken. They are moved.
+    pub(crate) fn finish(self) -> RowsBehind
+        ensures { (columns : List Column) (rows : List Row) → AreKept columns self rows → IsCollected columns self.skip rows result }
     {
-        if self.keeps_all || self.by_key {
-            RowList::from(self.whole)
+        let count = self.len();
+        let is_whole = self.is_whole();
+        let skip = self.skip;
+        let last = last_place(count, self.last);
+        if is_whole {
+            RowsBehind {
+                rows: RowList::from(self.whole),
+                left: 0,
+                count,
+                last,
+            }
         } else {
-            self.firsts.finish()
+            RowsBehind {
+                rows: self.firsts.finish(),
+                left: skip,
+                count,
+                last,
+            }
         }
     }
 }
 
-/// Puts the row behind the others, and its key among theirs, where its key isn't known. Refused: want of memory; then nothing is put.
+/// The place of the last row, if there are rows.
+fn last_place(count: usize, last: Vec<u8>) -> Option<Place>
+    ensures none { count ≡ 0 → result ≡ None }
+    ensures some { 0 < count → result ≡ Some (record { bytes = last.items }) }
+{
+    if count == 0 {
+        return None;
+    }
+    Some(Place {
+        bytes: ByteString::from_vec(last),
+    })
+}
+
+/// Takes a row: one at the front is counted, and one behind is read.
+fn put_behind(
+    alloc: Global,
+    columns: &[Column],
+    place: &[u8],
+    skip: u32,
+    skipped: &mut u32,
+    whole: &mut Vec<Row>,
+) -> Result<bool, NoMemory>
+    requires row { IsRowOf columns.now place.now }
+    ensures { (rows : List Row) (r : IsRowOf columns.now place.now) → IsBehind skip skipped.old whole.old.items rows
+        → IfOk result (λ is_new. IsBehind skip skipped.new whole.new.items (with_row_if is_new rows (placed columns.now r.row))
+        × (is_new ≡ true)) }
+{
+    if *skipped < skip {
+        *skipped += 1;
+        return Ok(true);
+    }
+    let row = row_of(alloc, columns, place)?;
+    whole.push(row)?;
+    Ok(true)
+}
+
+/// Takes a row whose key is new: of one at the front its key alone is kept.
 fn put_by_key(
     alloc: Global,
-    keys: &mut HashSet<Key>,
-    rows: &mut Vec<Row>,
-    row: Row,
-) -> Result<(), NoMemory>
-    requires known { AreKeys keys.old.keys rows.old.items }
-    ensures rows { OnOk result (rows.new.items ≡ with_key rows.old.items row) }
-    ensures known { AreKeys keys.new.keys rows.new.items }
+    columns: &[Column],
+    place: &[u8],
+    skip: u32,
+    skipped: &mut u32,
+    whole: &mut Vec<Row>,
+    keys: &mut HashSet<KeyBytes>,
+    values: &mut Vec<IndexValue>,
+) -> Result<bool, NoMemory>
+    requires row { IsRowOf columns.now place.now }
+    ensures { (rows : List Row) (r : IsRowOf columns.now place.now)
+        → AreOfKeys columns.now skip skipped.old whole.old.items keys.old.keys rows
+        → IfOk result (IsPutByKey columns.now skip skipped.new whole.new.items keys.new.keys rows (placed columns.now r.row)) }
 {
-    if keys.contains(&row.key) {
-        return Ok(());
+    if *skipped < skip {
+        pass_by_key(alloc, columns, place, skip, skipped, whole, keys, values)
+    } else {
+        read_by_key(alloc, columns, place, skip, skipped, whole, keys)
     }
-    let key = row.key.copy(alloc)?;
-    put_new(keys, rows, key, row)
 }
 
-/// Puts a new key among the others, and its row behind the others; neither where it is refused.
-fn put_new(keys: &mut HashSet<Key>, rows: &mut Vec<Row>, key: Key, row: Row) -> Result<(), NoMemory>
-    requires known { AreKeys keys.old.keys rows.old.items }
-    requires its_key { key ≡ row.key }
-    ensures rows { OnOk result (rows.new.items ≡ rows.old.items ++ row ∷ []) }
-    ensures known { AreKeys keys.new.keys rows.new.items }
+/// The same at the front.
+fn pass_by_key(
+    alloc: Global,
+    columns: &[Column],
+    place: &[u8],
+    skip: u32,
+    skipped: &mut u32,
+    whole: &mut Vec<Row>,
+    keys: &mut HashSet<KeyBytes>,
+    values: &mut Vec<IndexValue>,
+) -> Result<bool, NoMemory>
+    requires row { IsRowOf columns.now place.now }
+    requires front { skipped.old < skip }
+    ensures { (rows : List Row) (r : IsRowOf columns.now place.now)
+        → AreOfKeys columns.now skip skipped.old whole.old.items keys.old.keys rows
+        → IfOk result (IsPutByKey columns.now skip skipped.new whole.new.items keys.new.keys rows (placed columns.now r.row)) }
 {
-    rows.push(row)?;
-    match keys.insert(key) {
-        Ok(_is_new) => Ok(()),
-        Err(refused) => {
-            rows.pop();
-            Err(refused.into())
-        }
+    values.clear();
+    let key = key_bytes(alloc, columns, place, values)?;
+    let is_new = add_key(alloc, keys, key)?;
+    if !is_new {
+        return Ok(false);
     }
+    *skipped += 1;
+    Ok(true)
+}
+
+/// The same behind the front.
+fn read_by_key(
+    alloc: Global,
+    columns: &[Column],
+    place: &[u8],
+    skip: u32,
+    skipped: &mut u32,
+    whole: &mut Vec<Row>,
+    keys: &mut HashSet<KeyBytes>,
+) -> Result<bool, NoMemory>
+    requires row { IsRowOf columns.now place.now }
+    requires behind { skip ≤ skipped.old }
+    ensures { (rows : List Row) (r : IsRowOf columns.now place.now)
+        → AreOfKeys columns.now skip skipped.old whole.old.items keys.old.keys rows
+        → IfOk result (IsPutByKey columns.now skip skipped.new whole.new.items keys.new.keys rows (placed columns.now r.row)) }
+{
+    let mut values = room_for_values(alloc, columns)?;
+    let key = key_bytes(alloc, columns, place, &mut values)?;
+    let is_new = add_key(alloc, keys, key)?;
+    if !is_new {
+        return Ok(false);
+    }
+    let row = row_from(alloc, columns, place, values, key)?;
+    whole.push(row)?;
+    Ok(true)
+}
+
+/// Puts the bytes of a key among the others; whether they are new.
+fn add_key(alloc: Global, keys: &mut HashSet<KeyBytes>, key: &[u8]) -> Result<bool, NoMemory>
+    ensures taken { IfOk result (λ is_new. is_new ≡ not (list_any (pointwise nat_eq key.now) keys.old.keys)) }
+    ensures keys { OnOk result ((other : List ℕ) → list_any (pointwise nat_eq other) keys.new.keys
+        ≡ cond (pointwise nat_eq key.now other) true (list_any (pointwise nat_eq other) keys.old.keys)) }
+{
+    let key = KeyBytes::of(alloc, key)?;
+    Ok(keys.insert(key)?)
+}
+
+/// Takes a row of a new mark.
+fn put_by_mark(
+    alloc: Global,
+    columns: &[Column],
+    place: &[u8],
+    firsts: &mut FirstRows,
+) -> Result<bool, NoMemory>
+    requires row { IsRowOf columns.now place.now }
+    ensures rows { (r : IsRowOf columns.now place.now) → IfOk result (λ is_new. (firsts.new.rows
+        ≡ with_row_if is_new firsts.old.rows (placed columns.now r.row))
+        × (is_new ≡ not (list_any (is_same firsts.old.slots (placed columns.now r.row)) firsts.old.rows))) }
+    ensures slots { firsts.new.slots ≡ firsts.old.slots }
+{
+    let before = firsts.len();
+    let row = row_of(alloc, columns, place)?;
+    firsts.put(row)?;
+    Ok(before < firsts.len())
 }
 
 /// Whether each column is `__key__` or projected.

@@ -5,7 +5,8 @@
 //! results. So each scan of a plan is a range of rows (`ds_scan`), the strings that all scans have are the branch's rows
 //! (`ds_zigzag` leaps from one to the next), and each is read back into values and a key (`ds_bytes`). Begin with `answering`,
 //! whose calls are `answer`, for a plan, and `branch_rows`, which plans itself. `collecting` walks over the scans, `kept` has what was
-//! reached, and `reading` reads a row back. The definitions that the contracts cite are in `specs/`, what a
+//! reached (of rows before an offset the bytes of their keys alone, `key_bytes`), `behind` is what is given of it, and `reading` reads a
+//! row back. The definitions that the contracts cite are in `specs/`, what a
 //! query finds in those of `ds_model`; `laws` has what is claimed of plans and their scans, as calls that do nothing.
 //!
 //! A caller plans a branch once and asks each shard by that plan, within steps that one ledger counts:
@@ -22,9 +23,11 @@
 #![tactic(auto)]
 
 mod answering;
+mod behind;
 mod collecting;
 pub mod extending;
 mod kept;
+mod key_bytes;
 pub mod laws;
 pub mod merging;
 mod reading;

@@ -62,14 +62,16 @@ pub(crate) fn put_shard_rows<L: Ledger>(
     Ok(())
 }
 
-/// Puts rows behind others. They are moved.
+/// Puts rows behind others. They are moved, and where there are no others they stay where they are.
 pub(crate) fn put_rows(list: RowList, rows: &mut Vec<Row>) -> Result<(), NoMemory>
     ensures { OnOk result (rows.new.items ≡ rows.old.items ++ list) }
 {
-    for row in list.into_vec() {
-        rows.push(row)?;
+    let mut list = list.into_vec();
+    if rows.is_empty() {
+        *rows = list;
+        return Ok(());
     }
-    Ok(())
+    rows.append(&mut list)
 }
 
 /// What a branch gives of a shard.
@@ -127,7 +129,7 @@ fn given<L: Ledger>(
 }
 
 /// How many results of a branch each shard gives: of a query of one branch those that its page skips or takes, and of several all.
-fn most_of(normal: &Normal, window: &Window) -> Option<u64>
+pub(crate) fn most_of(normal: &Normal, window: &Window) -> Option<u64>
     ensures { result ≡ most_of normal.now window.now }
 {
     if normal.several {

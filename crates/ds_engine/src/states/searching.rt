@@ -2,6 +2,7 @@
 ghost use Rattle.std.specs.Prelude.{◌≡◌, ◌+◌, ◌≤◌, [], All, IsTrue, map, length, IfOk, false};
 ghost use Rattle.ds_base.specs.Limits.{most_shards};
 ghost use Rattle.ds_query.specs.Lawful.{IsLawfulNormal, SuitsSeveral};
+ghost use Rattle.ds_query.specs.declared.branch.Window.{Window};
 ghost use Rattle.ds_pages.specs.Places.{IsPlaced, placed};
 ghost use Rattle.ds_engine.specs.Plans.{ArePlansFor};
 ghost use Rattle.ds_engine.specs.Searches.{AreOfShards, IsResultOf, all_entities, look_ups, most_of, page_over, rows_of_shards};
@@ -9,6 +10,7 @@ ghost use Rattle.ds_engine.specs.Searches.{search_bound};
 ghost use Rattle.ds_engine.specs.Snapshots.{entities_in};
 
 use crate::laws::bounds_add_up;
+use crate::states::alone::page_alone;
 use crate::states::items::items;
 use crate::states::rows::put_shard_rows;
 use crate::states::snapshot::ShardSnapshot;
@@ -57,6 +59,9 @@ pub fn search<L: Ledger>(
         + search_bound normal.now window.now (most_of normal.now window.now) snapshots.now) + look_ups q.select (length f.results))
         normal.now.branches) }
 {
+    if is_alone(normal, snapshots) {
+        return search_alone(alloc, snapshots, normal, window, defs, plans, steps);
+    }
     let mut rows = Vec::new(alloc);
     for snapshot in snapshots {
         put_shard_rows(
@@ -65,6 +70,42 @@ pub fn search<L: Ledger>(
     }
     bounds_add_up();
     page_of(alloc, snapshots, normal, window, rows, steps)
+}
+
+/// The same of one branch over one shard, which gives its results in their order, each once.
+fn search_alone<L: Ledger>(
+    alloc: Global,
+    snapshots: &[ShardSnapshot<'_>],
+    normal: &Normal,
+    window: &Window,
+    defs: &Defs,
+    plans: &[ScanPlan],
+    steps: &mut Steps<L>,
+) -> Result<Found, NoMemory>
+    requires lawful { IsLawfulNormal normal.now }
+    requires single { normal.now.several ≡ false }
+    requires one { length snapshots.now ≡ 1 }
+    requires few { length snapshots.now ≤ most_shards }
+    requires definitions { All (λ s. defs.now ≡ s.shard.definitions) snapshots.now }
+    requires plans { ArePlansFor defs.now normal.now.branches plans.now }
+    ensures found { AreOfShards (length (map entities_in snapshots.now)) 0 (map entities_in snapshots.now)
+        → IfOk result (λ f. IsResultOf normal.now window.now (all_entities (map entities_in snapshots.now)) f.results f.next) }
+    ensures steps_bounded { IfOk result (λ f. All (λ q. steps.new ≤ (steps.old
+        + search_bound normal.now window.now (most_of normal.now window.now) snapshots.now) + look_ups q.select (length f.results))
+        normal.now.branches) }
+{
+    let branch = &normal.branches.as_slice()[0];
+    let page = page_alone(
+        alloc,
+        &snapshots[0],
+        normal,
+        window,
+        defs,
+        branch,
+        &plans[0],
+        steps,
+    )?;
+    told(alloc, snapshots, normal, page, steps)
 }
 
 /// The page of what the shards gave, and what is told of its rows.
@@ -87,6 +128,25 @@ pub(crate) fn page_of<L: Ledger>(
     ensures steps { IfOk result (λ f. All (λ q. steps.new ≡ steps.old + look_ups q.select (length f.results)) normal.now.branches) }
 {
     let page = page_over(alloc, snapshots, normal, window, rows)?;
+    told(alloc, snapshots, normal, page, steps)
+}
+
+/// What is told of the rows of a page.
+fn told<L: Ledger>(
+    alloc: Global,
+    snapshots: &[ShardSnapshot<'_>],
+    normal: &Normal,
+    page: RowPage,
+    steps: &mut Steps<L>,
+) -> Result<Found, NoMemory>
+    requires lawful { IsLawfulNormal normal.now }
+    requires some { 1 ≤ length snapshots.now }
+    requires few { length snapshots.now ≤ most_shards }
+    ensures found { (w : Window) → page ≡ page_over normal.now w (all_entities (map entities_in snapshots.now))
+        → AreOfShards (length (map entities_in snapshots.now)) 0 (map entities_in snapshots.now)
+        → IfOk result (λ f. IsResultOf normal.now w (all_entities (map entities_in snapshots.now)) f.results f.next) }
+    ensures steps { IfOk result (λ f. All (λ q. steps.new ≡ steps.old + look_ups q.select (length f.results)) normal.now.branches) }
+{
     let branch = &normal.branches.as_slice()[0];
     let results = items(
         alloc,

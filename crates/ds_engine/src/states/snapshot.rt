@@ -3,13 +3,15 @@ ghost use Rattle.std.specs.Prelude.{◌≡◌, ◌+◌, ◌≤◌, ◌<◌, All,
 ghost use Rattle.std.specs.Option.{option_copied};
 ghost use Rattle.ds_query.specs.Lawful.{IsLawfulBranch};
 ghost use Rattle.ds_pages.specs.Places.{IsPlaced, placed};
+ghost use Rattle.ds_engine.specs.Behind.{IsCollected};
 ghost use Rattle.ds_engine.specs.BoundSums.{bound_at};
 ghost use Rattle.ds_model.specs.Bounds.{given};
 ghost use Rattle.ds_model.specs.Results.{entity_of};
 ghost use Rattle.ds_engine.specs.Plans.{IsPlanFor};
 ghost use Rattle.ds_engine.specs.Snapshots.{asked_in, entities_in};
 
-use crate::answering::answer;
+use crate::answering::{answer, answer_behind};
+use crate::behind::RowsBehind;
 use ds_base::{Key, NoMemory, copy_of};
 use ds_entity::Entity;
 use ds_indexdef::Defs;
@@ -122,6 +124,33 @@ impl<'a> ShardSnapshot<'a> {
         let tables = self.tables::<L>();
         answer(
             alloc, &tables, self.stamp, branch, defs, plan, start, end, most, steps,
+        )
+    }
+
+    /// The same results without the first `skip` of them, which are counted and not kept, and the place of the last one.
+    pub(crate) fn answer_behind<L: Ledger>(
+        &self,
+        alloc: Global,
+        branch: &Branch,
+        defs: &Defs,
+        plan: &ScanPlan,
+        start: Option<&Place>,
+        end: Option<&Place>,
+        most: Option<u64>,
+        skip: u32,
+        steps: &mut Steps<L>,
+    ) -> Result<RowsBehind, NoMemory>
+        requires lawful { IsLawfulBranch branch.now }
+        requires definitions { defs.now ≡ self.now.shard.definitions }
+        requires plan { IsPlanFor defs.now branch.now plan.now }
+        ensures rows { IfOk result (IsCollected branch.now.columns skip (map (placed branch.now.columns)
+            (given branch.now (option_copied start.entry) (option_copied end.entry) most (entities_in self.now)))) }
+        ensures steps { OnOk result (steps.new ≤ steps.old + bound_at branch.now (option_copied start.entry) (option_copied end.entry) most
+            (asked_in self.now)) }
+    {
+        let tables = self.tables::<L>();
+        answer_behind(
+            alloc, &tables, self.stamp, branch, defs, plan, start, end, most, skip, steps,
         )
     }
 

@@ -2,7 +2,7 @@
 use Rattle.ds_cursor.specs.RowsOfColumns.{IsRowOf}
 use Rattle.ds_base.specs.KeyColumn.{key_descends}
 use Rattle.ds_engine.proofs.Readings.{IsLeft}
-use Rattle.ds_engine.proofs.reading.row_of.Given as goal
+use Rattle.ds_engine.proofs.reading.key_bytes.Given as goal
 
 abbrev pub invariant-loop-column : goal.invariant-loop-column
 invariant-loop-column l =
