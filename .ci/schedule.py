@@ -10,7 +10,7 @@ ROW = re.compile(r"^(\w+) ([0-9.]+) ", re.M)
 # What a crate is taken for that the table doesn't have, in seconds.
 UNKNOWN = 60.0
 # How much of a processor's time a second and further processor saves a crate, which the gate gives to those that no other crate waits for.
-GAIN = 0.5
+GAIN = 0.3
 
 
 def known_seconds():
