@@ -28,7 +28,7 @@ pub fn asked_of_input(
     let mut reader = Rounds::make(alloc)?;
     let mut rounds = Vec::new(alloc);
     'rounds: while let Some(round) = next_round(&mut reader, &mut source)? {
-        let lists = asked_by_client(alloc, shards, &round)?;
+        let lists = asked_by_client(alloc, shards, round)?;
         rounds.push(Sequence::from(lists))?;
     }
     Ok(rounds)

@@ -1,8 +1,8 @@
 //! A round's requests, by client.
-ghost use Rattle.std.specs.Prelude.{◌≡◌, ◌+◌, ◌≤◌, ◌<◌, [], Some, length, replicate, slice_get, vec_len, IfOk, OnOk};
-ghost use Rattle.ds_base.specs.Limits.{greatest_client};
+ghost use Rattle.std.specs.Prelude.{◌≡◌, ◌+◌, ◌≤◌, ◌<◌, ◌++◌, List, [], Some, length, replicate, slice_get, vec_len, IfOk, OnOk};
+ghost use Rattle.ds_base.specs.Limits.{greatest_client, most_input_bytes};
 ghost use Rattle.ds_rounds.specs.Lines.{IsWithinLimit, handed};
-ghost use Rattle.ds_rounds.specs.Rounds.{lines_of_round};
+ghost use Rattle.ds_rounds.specs.Rounds.{NumberedLine, lines_of_round, numbered};
 ghost use Rattle.ds_rounds.specs.Reading.{IsRound};
 ghost use Rattle.ds_asked.specs.AskedLines.{AreAskedBy, Asks, with_asked};
 
@@ -11,7 +11,7 @@ use ds_base::limits::MAX_CLIENT;
 use ds_protocol::ask;
 use ds_reply::Body;
 use ds_request::Request;
-use ds_rounds::{Line, Lines, Round};
+use ds_rounds::{Chunk, Line, Round};
 use json::Scratch;
 use std::alloc::{AllocError, Global};
 
@@ -26,30 +26,49 @@ pub struct Asked {
     pub request: Result<Request, Body>,
 }
 
-/// What the lines of a round ask, one list for each client from 0 on, each in the order of the lines. Every line is read once.
-/// A refusal is want of memory: whose line it was isn't known then.
+/// What the lines of a round ask, one list for each client from 0 on, each in the order of the lines. Every line is read once, and
+/// its bytes are freed with those of its chunk. A refusal is want of memory: whose line it was isn't known then.
 pub fn asked_by_client(
     alloc: Global,
     shards: u32,
-    round: &Round,
+    round: Round,
 ) -> Result<Vec<Sequence<Asked>>, AllocError>
-    requires { IsRound round.now }
-    ensures { IfOk result (λ lists. AreAskedBy shards (lines_of_round round.now) lists.items) }
+    requires { IsRound round }
+    ensures { IfOk result (λ lists. AreAskedBy shards (lines_of_round round) lists.items) }
 {
     let mut lists = empty_lists(alloc)?;
     let mut scratch = Scratch::new(alloc);
-    for i in 0..round.lines.len() {
-        let number = round.first + i as u64;
-        let asked = asked_line_with(
-            alloc,
-            shards,
-            number,
-            line_at(&round.lines, i),
-            &mut scratch,
-        )?;
-        put(&mut lists, asked)?;
+    let mut number = round.first;
+    let (chunks, last) = round.lines.into_chunks();
+    for chunk in chunks {
+        ask_chunk(alloc, shards, number, &chunk, &mut scratch, &mut lists)?;
+        number += chunk.len() as u64;
     }
+    ask_chunk(alloc, shards, number, &last, &mut scratch, &mut lists)?;
     Ok(lists)
+}
+
+/// Puts what the lines of a chunk ask, the first of which has this number, behind what their clients ask already. A refusal is
+/// want of memory.
+fn ask_chunk(
+    alloc: Global,
+    shards: u32,
+    first: u64,
+    chunk: &Chunk,
+    scratch: &mut Scratch,
+    lists: &mut Vec<Sequence<Asked>>,
+) -> Result<(), AllocError>
+    requires clients { length lists.old.items ≡ greatest_client + 1 }
+    requires numbers { first + length chunk.now ≤ most_input_bytes + 1 }
+    ensures { OnOk result ((before : List NumberedLine) → AreAskedBy shards before lists.old.items
+        → AreAskedBy shards (before ++ numbered first chunk.now) lists.new.items) }
+{
+    for i in 0..chunk.len() {
+        let number = first + i as u64;
+        let asked = asked_line_with(alloc, shards, number, line_at(chunk, i), scratch)?;
+        put(lists, asked)?;
+    }
+    Ok(())
 }
 
 /// An empty list for each client.
@@ -117,7 +136,7 @@ fn asked_line_with(
 }
 
 /// The line at a place.
-fn line_at(lines: &Lines, i: usize) -> Line<'_>
+fn line_at(lines: &Chunk, i: usize) -> Line<'_>
     requires { i < length lines.now }
     ensures line { slice_get lines.now i ≡ Some (handed result) }
     ensures within { IsWithinLimit result }

@@ -3,7 +3,7 @@ ghost use Rattle.std.specs.Prelude.{◌<◌};
 
 use ds_base::{Buffer, ByteString, Numbers};
 use ds_io::MemorySource;
-use ds_rounds::{Line, Round, RoundRefused, Rounds, Unsent};
+use ds_rounds::{Chunk, Line, Round, RoundRefused, Rounds, Unsent};
 use std::alloc::{AllocError, Global};
 use std::test::Fail;
 
@@ -14,7 +14,7 @@ const SHORT: usize = 9;
 const LONGEST: usize = 2_097_152;
 
 /// Puts what a round is behind a text: the number of its first line, and its lines.
-fn tell_round(alloc: Global, round: &Round, text: &mut Vec<u8>) -> Result<(), AllocError> {
+fn tell_round(alloc: Global, round: Round, text: &mut Vec<u8>) -> Result<(), AllocError> {
     let number = format!(in alloc; "{}:", round.first)?;
     text.extend_from_slice(number.as_bytes())?;
     let count = round.lines.len();
@@ -22,8 +22,17 @@ fn tell_round(alloc: Global, round: &Round, text: &mut Vec<u8>) -> Result<(), Al
         let lines = format!(in alloc; "{count} lines")?;
         return text.extend_from_slice(lines.as_bytes());
     }
-    for i in 0..count {
-        tell_line(alloc, round.lines.get(i), text)?;
+    let (chunks, last) = round.lines.into_chunks();
+    for chunk in chunks {
+        tell_chunk(alloc, &chunk, text)?;
+    }
+    tell_chunk(alloc, &last, text)
+}
+
+/// Puts the lines of a chunk behind a text.
+fn tell_chunk(alloc: Global, chunk: &Chunk, text: &mut Vec<u8>) -> Result<(), AllocError> {
+    for i in 0..chunk.len() {
+        tell_line(alloc, chunk.get(i), text)?;
     }
     Ok(())
 }
@@ -53,7 +62,7 @@ fn tell_next(
     text: &mut Vec<u8>,
 ) -> Result<bool, AllocError> {
     match rounds.next(source) {
-        Ok(Some(round)) => tell_round(alloc, &round, text)?,
+        Ok(Some(round)) => tell_round(alloc, round, text)?,
         Ok(None) => return Ok(false),
         Err(RoundRefused::ReadFault) => text.extend_from_slice(b"fault")?,
         Err(RoundRefused::InputLimit) => text.extend_from_slice(b"limit")?,
@@ -166,6 +175,15 @@ fn ends_a_round_at_its_bytes(rt: HostRuntime) -> Result<(), Fail> {
     let line = repeated(alloc, b"a", LONGEST, b"\n")?;
     let want = b"1:32 lines 33:2097152 bytes| ";
     assert!(rt; reads_repeated(alloc, line.bytes(), 33, b"", want)?);
+    Ok(())
+}
+
+#[test]
+fn reads_a_round_in_several_chunks(rt: HostRuntime) -> Result<(), Fail> {
+    let alloc = rt.alloc();
+    let line = repeated(alloc, b"a", 70_000, b"\nb\n")?;
+    let want = b"1:70000 bytes|b|70000 bytes|b|70000 bytes|b| ";
+    assert!(rt; reads_repeated(alloc, line.bytes(), 3, b"", want)?);
     Ok(())
 }
 

@@ -1,7 +1,7 @@
 -- A round that is being read.
-use Rattle.std.specs.Prelude.{◌≡◌, ℕ, ◌+◌, ◌-◌, ◌<◌, ◌≤◌, ◌⊎◌, List, [], ◌∷◌, ◌++◌, Bool, true, false, ◌==◌, length, take, sum_by, ⊤}
+use Rattle.std.specs.Prelude.{◌≡◌, ℕ, ◌+◌, ◌-◌, ◌*◌, ◌<◌, ◌≤◌, ◌⊎◌, List, [], ◌∷◌, ◌++◌, Bool, true, false, ◌==◌, length, take, sum_by, ⊤}
 use Rattle.ds_base.specs.Limits.{most_line_bytes, most_round_lines}
-use Rattle.ds_rounds.specs.Lines.{Content, is_blank, lines_in}
+use Rattle.ds_rounds.specs.Lines.{Content, is_blank, kept_bytes, lines_in}
 use Rattle.ds_rounds.specs.Rounds.{NumberedLine, numbered, round_of, rounds_from, rounds_in}
 use Rattle.ds_rounds.specs.Spans.{AreWithin}
 use Rattle.ds_rounds.specs.declared.lines.Span.{Span}
@@ -84,12 +84,15 @@ EndsLine false old new line =
 abbrev pub EndsInput : DraftParts → DraftParts → List ℕ → Type 0
 EndsInput old new line = rounds_from true (so_far old) (number_in old) (lines_in true line) ≡ round_of (so_far new) []
 
--- where the bytes of a draft stand
-pub record IsDraft (start : ℕ) (bytes : List ℕ) (spans : List Span) : Type 0 where
+-- Where the bytes of a draft stand that are in no chunk yet; and how many lines it has, and how many bytes are kept of them.
+-- Those are no more than are kept of so many lines.
+pub record IsDraft (start count total : ℕ) (bytes : List ℕ) (spans : List Span) (lines : List Content) : Type 0 where
   pub within : start ≤ length bytes
   pub kept : length bytes - start ≤ most_line_bytes + 1
   pub ordered : AreWithin start spans
-  pub total : sum_by (λ span. span.to - span.from) spans ≡ start
+  pub counted : count ≡ length lines
+  pub summed : total ≡ sum_by kept_bytes lines
+  pub bounded : total ≤ count * (most_line_bytes + 1)
 
 -- what absorbing bytes leaves: the first round and the bytes behind it, or a draft that goes on and no bytes
 abbrev pub Absorbed : Bool → (Bool → List ℕ → List (List NumberedLine)) → DraftParts → ℕ → List ℕ → Type 0

@@ -1,5 +1,5 @@
 -- The lines of an input, and what is kept of each.
-use Rattle.std.specs.Prelude.{ℕ, ◌+◌, ◌-◌, List, [], ◌∷◌, Bool, ◌||◌, ◌==◌, cond, nat_le, length, take, drop, map, ◌≤◌, ⊤}
+use Rattle.std.specs.Prelude.{ℕ, ◌+◌, ◌-◌, List, [], ◌∷◌, ◌++◌, Bool, ◌||◌, ◌==◌, cond, nat_le, length, take, drop, map, ◌≤◌, ⊤}
 use Rattle.std.specs.List.{list_all}
 use Rattle.ds_base.specs.Limits.{most_line_bytes}
 use Rattle.ds_rounds.specs.declared.line.Line.{Line}
@@ -55,6 +55,15 @@ IsWithinLimit line.TooLong = ⊤
 abbrev pub spanned : List ℕ → Span → List ℕ
 spanned bytes span = take (span.to - span.from) (drop span.from bytes)
 
+-- the line of a span, which tells by its length alone that the line is too long
+abbrev pub content_at : List ℕ → Span → Content
+content_at bytes span = cond (nat_le (span.to - span.from) most_line_bytes) (Kept (spanned bytes span)) TooLong
+
 -- the lines that stand at these spans of the kept bytes
 abbrev pub contents : List ℕ → List Span → List Content
-contents bytes = map (λ span. content_of (spanned bytes span))
+contents bytes = map (content_at bytes)
+
+-- the lines of chunks, one chunk behind another
+abbrev pub lines_of_chunks : List (List Content) → List Content
+lines_of_chunks [] = []
+lines_of_chunks (lines ∷ chunks) = lines ++ lines_of_chunks chunks

@@ -16,7 +16,7 @@ pub mod stage;
 pub mod unsent;
 
 pub use line::Line;
-pub use lines::Lines;
+pub use lines::{Chunk, Lines};
 pub use round::Round;
 pub use rounds::Rounds;
 pub use stage::{RoundRefused, Stage};

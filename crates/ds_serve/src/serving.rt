@@ -92,7 +92,7 @@ fn serve_round<
     ensures write_faults { O.faults output.new ≡ step_write_faults result (O.faults output.old) }
 {
     match rounds.next(input) {
-        Ok(Some(round)) => match run_round(rt, store, sessions, defs, &round, gate) {
+        Ok(Some(round)) => match run_round(rt, store, sessions, defs, round, gate) {
             Ok(()) => match write_round(sessions, output) {
                 Ok(()) => Step::Served,
                 Err(unsent) => Step::Stopped(Stopped {

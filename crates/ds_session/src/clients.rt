@@ -92,15 +92,15 @@ pub(crate) fn run_clients<
     store: &Store<J, H>,
     clients: &mut [Client<J>],
     defs: &Defs,
-    round: &Round,
+    round: Round,
     gate: &G,
 ) -> Result<(), NoMemory>
-    requires round { IsRound round.now }
+    requires round { IsRound round }
     requires definitions { defs.now ≡ J.definitions }
     requires numbers { map (λ c. c.session.client) clients.old ≡ range_with_len 0 (greatest_client + 1) }
     requires counts { HaveCounts store.now.shards (seen_of (map (λ c. c.session) clients.old)) }
     requires written { AreWritten (map (λ c. c.session) clients.old) }
-    ensures ok { OnOk result (HaveRun J.definitions store.now.shards (Some J.window) (lines_of_round round.now)
+    ensures ok { OnOk result (HaveRun J.definitions store.now.shards (Some J.window) (lines_of_round round)
         (map (λ c. c.session) clients.old) (map (λ c. c.session) clients.new)) }
     ensures err { OnErr result (AreAlike (map (λ c. c.session) clients.old) (map (λ c. c.session) clients.new)
         × AreWritten (map (λ c. c.session) clients.new)) }

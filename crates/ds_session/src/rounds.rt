@@ -94,14 +94,14 @@ pub fn run_round<
     store: &Store<J, H>,
     sessions: &mut Sessions<J>,
     defs: &Defs,
-    round: &Round,
+    round: Round,
     gate: &G,
 ) -> Result<(), NoMemory>
-    requires round { IsRound round.now }
+    requires round { IsRound round }
     requires definitions { defs.now ≡ J.definitions }
     requires counts { HaveCounts store.now.shards (seen_of sessions.old) }
     requires written { AreWritten sessions.old }
-    ensures ok { OnOk result (HaveRun J.definitions store.now.shards (Some J.window) (lines_of_round round.now) sessions.old sessions.new) }
+    ensures ok { OnOk result (HaveRun J.definitions store.now.shards (Some J.window) (lines_of_round round) sessions.old sessions.new) }
     ensures err { OnErr result (AreAlike sessions.old sessions.new × AreWritten sessions.new) }
     ensures counts { HaveCounts store.now.shards (seen_of sessions.new) }
 {

@@ -15,14 +15,14 @@ returns-in-Ok-write_round-clause-leaves g c = λ words content left held before.
     ReadsRound c.args.rounds.now c.next.new.self (g.I.Source.left c.args.input.now) (g.I.Source.left c.next.new.input) (Ok o))
     c.in-Ok-Some.field-0-is c.in-Ok-Some.ensures.reads) c.in-Ok.ensures.ok c.write_round.ensures.alike c.in-Ok-write_round.ensures.ok
 
-pub returns-in-Ok-clause-leaves : goal.returns-in-Ok-clause-leaves
-returns-in-Ok-clause-leaves g c = λ words content left held before.
+pub returns-in-Err-write_round-clause-leaves : goal.returns-in-Err-write_round-clause-leaves
+returns-in-Err-write_round-clause-leaves g c = λ words content left held before.
     ends_unsent c.in-Err-write_round.unsent before (subst (λ (o : Option Round).
     ReadsRound c.args.rounds.now c.next.new.self (g.I.Source.left c.args.input.now) (g.I.Source.left c.next.new.input) (Ok o))
     c.in-Ok-Some.field-0-is c.in-Ok-Some.ensures.reads) c.in-Ok.ensures.ok c.write_round.ensures.alike c.in-Err-write_round.ensures.err
 
-pub returns-in-Ok-Some-clause-leaves : goal.returns-in-Ok-Some-clause-leaves
-returns-in-Ok-Some-clause-leaves g c = λ words content left held before.
+pub returns-in-Err-run_round-clause-leaves : goal.returns-in-Err-run_round-clause-leaves
+returns-in-Err-run_round-clause-leaves g c = λ words content left held before.
     subst (λ (s : Step). Leaves words content s left (g.I.Source.left c.next.new.input) held (g.O.Sink.held c.args.output.now)
     c.next.new.self (record { shards = c.args.store.now.shards; window = g.J.Names.window; defs = g.J.Names.definitions })
     c.run_round.new.sessions) (sym c.stop_with.ensures)
@@ -39,8 +39,8 @@ returns-in-Ok-None-clause-leaves g c = λ words content left held before.
     ReadsRound c.args.rounds.now c.next.new.self (g.I.Source.left c.args.input.now) (g.I.Source.left c.next.new.input) (Ok o))
     c.in-Ok-None.field-0-is c.in-Ok-None.ensures.reads))
 
-pub returns-clause-leaves : goal.returns-clause-leaves
-returns-clause-leaves g c = λ words content left held before.
+pub returns-in-Err-clause-leaves : goal.returns-in-Err-clause-leaves
+returns-in-Err-clause-leaves g c = λ words content left held before.
     subst (λ (s : Step). Leaves words content s left (g.I.Source.left c.next.new.input) held (g.O.Sink.held c.args.output.now)
     c.next.new.self (record { shards = c.args.store.now.shards; window = g.J.Names.window; defs = g.J.Names.definitions })
     c.args.sessions.now)

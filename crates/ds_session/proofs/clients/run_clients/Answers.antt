@@ -48,18 +48,18 @@ meet_all-requires-clause-written g c =
 
 pub answer_all-requires-clause-ready : goal.answer_all-requires-clause-ready
 answer_all-requires-clause-ready g c κs within =
-    ready_met (λ x. x.session) (λ x. x.own.items) c.in-Ok.greatest.seen c.args.store.now.shards (lines_of_round c.args.round.now)
+    ready_met (λ x. x.session) (λ x. x.own.items) c.in-Ok.greatest.seen c.args.store.now.shards (lines_of_round c.args.round)
     c.args.clients.now c.prepare.new.clients c.meet_all.new.clients c.in_ok-lists.lists.items c.requires.numbers c.prepare.ensures.same
     c.in-Ok.ensures.own
-    (subst (λ n. AreAskedBy n (lines_of_round c.args.round.now) c.in_ok-lists.lists.items) c.shards.ensures.value c.in_ok-lists.ensures)
+    (subst (λ n. AreAskedBy n (lines_of_round c.args.round) c.in_ok-lists.lists.items) c.shards.ensures.value c.in_ok-lists.ensures)
     c.in-Ok.ensures.room c.meet_all.ensures
 
 pub returns-in-Ok-clause-ok : goal.returns-in-Ok-clause-ok
 returns-in-Ok-clause-ok g c =
     have_run (λ x. x.session) (λ x. x.own.items) g.J.Names.definitions (Some g.J.Names.window) c.in-Ok.greatest.seen
-    c.args.store.now.shards (lines_of_round c.args.round.now) c.args.clients.now c.prepare.new.clients c.meet_all.new.clients
+    c.args.store.now.shards (lines_of_round c.args.round) c.args.clients.now c.prepare.new.clients c.meet_all.new.clients
     c.answer_all.new.clients c.in_ok-lists.lists.items c.requires.numbers c.prepare.ensures.same c.in-Ok.ensures.own
-    (subst (λ n. AreAskedBy n (lines_of_round c.args.round.now) c.in_ok-lists.lists.items) c.shards.ensures.value c.in_ok-lists.ensures)
+    (subst (λ n. AreAskedBy n (lines_of_round c.args.round) c.in_ok-lists.lists.items) c.shards.ensures.value c.in_ok-lists.ensures)
     c.requires.counts
     (c.in-Ok.ensures.greatest
     ∙ ap (λ n. greatest_of n (seen_of (map (λ x. x.session) c.prepare.new.clients))) c.shards-2.ensures.value)

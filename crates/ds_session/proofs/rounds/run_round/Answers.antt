@@ -44,7 +44,7 @@ returns-clause-ok g c =
       v.ok.0,
     )) in
     carried (λ a b. OnOk c.run_clients.result
-    (HaveRun g.J.Names.definitions c.args.store.now.shards (Some g.J.Names.window) (lines_of_round c.args.round.now) a b)) _
+    (HaveRun g.J.Names.definitions c.args.store.now.shards (Some g.J.Names.window) (lines_of_round c.args.round) a b)) _
     c.args.sessions.now _ _ (ap (map (λ x. x.session)) c.deref_mut.ensures.value ∙ c.sessions.view_is) (ap (map (λ x. x.session)) is)
     c.run_clients.ensures.ok
 

@@ -17,20 +17,20 @@ returns-then-self-clause-rounds c = λ line is_line.
 
 pub returns-clause-leaves : goal.returns-clause-leaves
 returns-clause-leaves c =
-    let added : IsAdded c.args.self.now c.add_line.new.self = record {
-      first = c.add_line.ensures.first;
-      lines = c.in_ok-add_line.ensures.lines;
-      kept = c.in_ok-add_line.ensures.kept;
-      blank = c.in_ok-add_line.ensures.blank;
+    let added : IsAdded c.args.self.now c.end_chunk.new.self = record {
+      first = c.end_chunk.ensures.first ∙ c.add_line.ensures.first;
+      lines = c.end_chunk.ensures.lines ∙ c.in_ok-add_line.ensures.lines;
+      kept = c.end_chunk.ensures.kept ∙ c.in_ok-add_line.ensures.kept;
+      blank = c.end_chunk.ensures.blank ∙ c.in_ok-add_line.ensures.blank;
     } in
-    Leaves-added c.args.self.now c.add_line.new.self c.requires.open added c.is_full.result c.is_full.ensures
+    Leaves-added c.args.self.now c.end_chunk.new.self c.requires.open added c.is_full.result c.is_full.ensures
 
 pub returns-clause-rounds : goal.returns-clause-rounds
 returns-clause-rounds c = λ line is_line.
-    let added : IsAdded c.args.self.now c.add_line.new.self = record {
-      first = c.add_line.ensures.first;
-      lines = c.in_ok-add_line.ensures.lines;
-      kept = c.in_ok-add_line.ensures.kept;
-      blank = c.in_ok-add_line.ensures.blank;
+    let added : IsAdded c.args.self.now c.end_chunk.new.self = record {
+      first = c.end_chunk.ensures.first ∙ c.add_line.ensures.first;
+      lines = c.end_chunk.ensures.lines ∙ c.in_ok-add_line.ensures.lines;
+      kept = c.end_chunk.ensures.kept ∙ c.in_ok-add_line.ensures.kept;
+      blank = c.end_chunk.ensures.blank ∙ c.in_ok-add_line.ensures.blank;
     } in
-    EndsLine-added c.args.self.now c.add_line.new.self line is_line (sym (ap (λ d. d.blank) c.self.view_is) ∙ c.if-self.false) added c.is_full.result c.is_full.ensures
+    EndsLine-added c.args.self.now c.end_chunk.new.self line is_line (sym (ap (λ d. d.blank) c.self.view_is) ∙ c.if-self.false) added c.is_full.result c.is_full.ensures
