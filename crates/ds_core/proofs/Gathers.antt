@@ -1,7 +1,7 @@
 -- What an open request gathers keeps what was said legal, and says nothing.
-use Rattle.std.proofs.Common.{◌≡◌, inl, inr, ℕ, ◌+◌, ◌<◌, ◌≤◌, [], ◌++◌, length, refl, ap, sym, ◌∙◌, subst, arith}
-use Rattle.std.proofs.Common.{Option, Some, None, get_or, true, false}
-use Rattle.std.specs.Prelude.{Result, slice_set}
+use Rattle.std.proofs.Common.{◌≡◌, ℕ, ◌+◌, ◌-◌, ◌<◌, ◌≤◌, [], ◌++◌, length, refl, ap, sym, ◌∙◌, subst, arith}
+use Rattle.std.proofs.Common.{Option, Some, None, get_or, true, false, Bool, cond}
+use Rattle.std.specs.Prelude.{IfSome, Ok, ◌&&◌, nat_lt, slice_set}
 use Rattle.std.specs.List.{range_with_len}
 use Rattle.std.specs.Option.{option_map}
 use Rattle.std.proofs.lemmas.List.{append-nil}
@@ -9,24 +9,82 @@ use Rattle.ds_base.specs.Limits.{first_drawn_id}
 use Rattle.ds_request.specs.declared.call.Call.{Call}
 use Rattle.ds_request.specs.declared.call.Call.TheVariants as call
 use Rattle.ds_request.specs.declared.call.Request.{Request}
+use Rattle.ds_model.specs.Asked.{search_of}
 use Rattle.ds_model.specs.Sessions.{Session, count_of}
-use Rattle.ds_plans.specs.Due.{IsGathered, AppliedWithin, ids_of, ids_from}
-use Rattle.ds_steps.specs.Taken.{GatheredParts}
-use Rattle.ds_protocol.specs.Operations.{ids_asked}
-use Rattle.ds_plans.specs.States.{StoreParts, StateParts, IsSession, Grows, AreUpTo}
-use Rattle.ds_plans.proofs.Gatherings.{gathered-applied, gathered-first, gathered-nothing, gathered-place, gathered-view}
-use Rattle.ds_plans.proofs.Growing.{grows_planned}
-use Rattle.ds_plans.proofs.Grown.{up_to-same}
-use Rattle.ds_plans.proofs.ReadPlans.{up_to-count}
 use Rattle.ds_protocol.specs.declared.operations.Operation.{Operation}
-use Rattle.ds_protocol.specs.declared.operations.OperationRefused.{OperationRefused}
-use Rattle.ds_protocol.specs.Operations.{IsAskedOf}
+use Rattle.ds_protocol.specs.declared.operations.Operation.TheVariants as operation
+use Rattle.ds_protocol.specs.Operations.{IsOperationOf, call_of, ids_asked}
+use Rattle.ds_protocol.specs.Searches.{search_parts}
+use Rattle.ds_effects.specs.declared.gathered.Step.{Step}
+use Rattle.ds_effects.specs.declared.gathered.Step.TheVariants as steps
+use Rattle.ds_machine.specs.declared.opening.Work.{Work}
+use Rattle.ds_machine.specs.Due.{AppliedWithin, IsGathered, ids_from, ids_of}
+use Rattle.ds_effects.specs.Gathered.{GatheredParts}
+use Rattle.ds_machine.specs.Gathering.{counts_by, draws, gathered_by, gathers_entry, gathers_view, is_pending, store_by}
+use Rattle.ds_machine.specs.Missing.{shown}
+use Rattle.ds_machine.specs.States.{AreUpTo, Grows, IsSession, StateParts, StoreParts}
+use Rattle.ds_machine.proofs.Gatherings.{gathered-nothing}
+use Rattle.ds_machine.proofs.Growing.{grows_planned}
+use Rattle.ds_machine.proofs.Grown.{up_to-same}
+use Rattle.ds_machine.proofs.OperationPlans.{gathered_there}
+use Rattle.ds_machine.proofs.Stepped.{drawn_ids_are, draws-parts, none_ids, step-gathered, step-grows}
 use Rattle.ds_core.specs.declared.opened.Open.{Open}
 use Rattle.ds_core.specs.Happenings.{IsSilent}
-use Rattle.ds_core.specs.Machines.{MachineParts, IsLawfulRequest, IsLegal, IsOpen, IsSameRun, held_by, just_opened}
-use Rattle.ds_core.specs.Steps.{AppliedTo, DrawnTo, ViewedTo, first_place, touched, with_gathered}
-use Rattle.ds_core.proofs.Legals.{open-at, opens-many, set-same, stepped-legal, open-grown}
+use Rattle.ds_core.specs.Machines.{MachineParts, IsLawfulRequest, IsLegal, IsOpen, IsSameRun, IsWorkOf, held_by, just_opened}
+use Rattle.ds_core.specs.Steps.{SteppedTo, with_gathered}
+use Rattle.ds_core.proofs.Legals.{open-at, opens-many, stepped-legal, open-grown}
 use Rattle.ds_core.proofs.Turns.{asked-same}
+use Rattle.ds_core.proofs.Lists.{set-own}
+
+-- ---- what is gathered for an operation is gathered for each call that it is of
+
+none-asked : (c : Call) (o : _) → search_of c ≡ Some o → ids_asked c ≡ 0
+none-asked (call.Query namespace kind ancestor filters orders select offset limit start end cursor) o is = refl
+none-asked (call.Gql namespace text args names start end cursor) o is = refl
+none-asked (call.Put key true properties) o is = cc
+none-asked (call.Put key false properties) o is = refl
+none-asked (call.AllocateIds count) o is = cc
+none-asked _ o is = refl
+
+none-applied : (st : StateParts) (s : Session) (c : Call) (o : _) (p : Option ℕ) → search_of c ≡ Some o → AppliedWithin st s c p
+none-applied st s c o None is = tt
+none-applied st s (call.Apply shard) o (Some n) is = cc
+none-applied st s _ o (Some n) is = tt
+
+pub gathered_back : (st : StateParts) (s : Session) (o : Operation) (c : Call) (g : GatheredParts) → IsOperationOf c o
+    → IsGathered st s (call_of o) g → IsGathered st s c g
+gathered_back st s (operation.Find r) c g of is = record {
+  place = is.place;
+  first = by g.first is.first;
+  applied = none-applied st s c (Ok (search_parts r)) g.applied of.exact;
+  views = is.views;
+} where
+  by : (p : Option ℕ) → IfSome p (λ first. (first_drawn_id ≤ first) × (s.next_id ≤ first) × (first + 0 ≤ st.store.next))
+      → IfSome p (λ first. (first_drawn_id ≤ first) × (s.next_id ≤ first) × (first + ids_asked c ≤ st.store.next))
+  by None is = tt
+  by (Some first) is = let none = none-asked c (Ok (search_parts r)) of.exact in (is.0, is.1, omega (arith, is.2, none))
+gathered_back st s (operation.Put entity incomplete) c g of is = subst (λ x. IsGathered st s x g) (sym of) is
+gathered_back st s (operation.Delete key) c g of is = subst (λ x. IsGathered st s x g) (sym of) is
+gathered_back st s (operation.Get key) c g of is = subst (λ x. IsGathered st s x g) (sym of) is
+gathered_back st s (operation.Begin several) c g of is = subst (λ x. IsGathered st s x g) (sym of) is
+gathered_back st s operation.Commit c g of is = subst (λ x. IsGathered st s x g) (sym of) is
+gathered_back st s operation.Rollback c g of is = subst (λ x. IsGathered st s x g) (sym of) is
+gathered_back st s operation.Settle c g of is = subst (λ x. IsGathered st s x g) (sym of) is
+gathered_back st s (operation.AllocateIds count) c g of is = subst (λ x. IsGathered st s x g) (sym of) is
+gathered_back st s (operation.Apply shard) c g of is = subst (λ x. IsGathered st s x g) (sym of) is
+
+-- as many ids are asked for
+pub asked-alike : (o : Operation) (c : Call) → IsOperationOf c o → ids_asked c ≡ ids_asked (call_of o)
+asked-alike (operation.Find r) c of = none-asked c (Ok (search_parts r)) of.exact
+asked-alike (operation.Put entity incomplete) c of = ap ids_asked of
+asked-alike (operation.Delete key) c of = ap ids_asked of
+asked-alike (operation.Get key) c of = ap ids_asked of
+asked-alike (operation.Begin several) c of = ap ids_asked of
+asked-alike operation.Commit c of = ap ids_asked of
+asked-alike operation.Rollback c of = ap ids_asked of
+asked-alike operation.Settle c of = ap ids_asked of
+asked-alike (operation.AllocateIds count) c of = ap ids_asked of
+asked-alike (operation.Apply shard) c of = ap ids_asked of
 
 -- the held ids are those from the first one on alone
 pub ids-same : (c : Call) (g h : GatheredParts) → g.first ≡ h.first → ids_of c g ≡ ids_of c h
@@ -34,20 +92,6 @@ ids-same (call.Put key true properties) g h same = ap (ids_from 1) same
 ids-same (call.AllocateIds count) g h same = ap (ids_from count) same
 ids-same (call.Put key false properties) g h same = refl
 ids-same _ g h same = refl
-
--- a request that has drawn holds what it asked for
-pub drawn_ids_are : (c : Call) (g : GatheredParts) (first count : ℕ) → g.first ≡ Some first → ids_asked c ≡ count
-    → ids_of c g ≡ range_with_len first count
-drawn_ids_are (call.Put key true properties) g first count is asks = ap (ids_from 1) is ∙ ap (range_with_len first) asks
-drawn_ids_are (call.AllocateIds n) g first count is asks = ap (ids_from n) is ∙ ap (range_with_len first) asks
-drawn_ids_are (call.Put key false properties) g first count is asks = ap (range_with_len first) asks
-drawn_ids_are _ g first count is asks = ap (range_with_len first) asks
-
-none_ids : (c : Call) (g : GatheredParts) → g.first ≡ None → ids_of c g ≡ []
-none_ids (call.Put key true properties) g is = ap (ids_from 1) is
-none_ids (call.AllocateIds n) g is = ap (ids_from n) is
-none_ids (call.Put key false properties) g is = refl
-none_ids _ g is = refl
 
 -- a step that draws nothing, by which the client's open request becomes this one
 pub quiet-step : (m : MachineParts) (new : StateParts) (client : ℕ) (d : Session) (none o : Option Open) → IsLegal m
@@ -71,222 +115,173 @@ quiet-step m new client d none o legal below store counts is same asked = (
   },
 )
 
--- ---- a Touch
+-- nothing changes but how far the journal was looked at
+pub still-step : (m : MachineParts) → IsLegal m → (client : ℕ) (d : Session) (none : Option Open) → client < length m.sessions
+    → (new : StateParts) → new.store ≡ m.state.store → AreUpTo m.state.applied.counts new.applied.counts
+    → IsLegal (record m { state = new }) × IsSameRun m (record m { state = new }) × IsSilent m (record m { state = new })
+still-step m legal client d none below new store counts =
+    let kept : slice_set m.opens client (get_or m.opens client none) ≡ m.opens = set-own m.opens client none in
+    let own = open-at m.state 0 m.sessions m.opens client d none legal.opens below in
+    let own_open : IsOpen m.state client (get_or m.sessions client d) (get_or m.opens client none) =
+    subst (λ n. IsOpen m.state n (get_or m.sessions client d) (get_or m.opens client none))
+    (let same : 0 + client ≡ client = omega arith in same) own.1 in
+    subst (λ os. IsLegal (record m { state = new; opens = os }) × IsSameRun m (record m { state = new; opens = os })
+    × IsSilent m (record m { state = new; opens = os })) kept
+    (quiet-step m new client d none (get_or m.opens client none) legal below store counts
+    (open-grown m.state new client (get_or m.sessions client d) (get_or m.opens client none) (grows_planned m.state new store counts)
+    (ap (λ (x : StoreParts). x.definitions) store) (ap (λ (x : StoreParts). x.shards) store) own_open) refl refl)
 
-touched-open : (st : StateParts) (client : ℕ) (s : Session) (o : Option Open) → IsSession st s → IsOpen st client s o
-    → IsOpen st client s (touched (length st.store.journal) o)
-touched-open st client s None seen is = tt
-touched-open st client s (Some o) seen is = (is.0, is.1, is.2, by o.gathered.place refl, is.4) where
-  by : (x : Option ℕ) → o.gathered.place ≡ x
-      → IsGathered st s o.request.call (record (o.gathered) { place = first_place (length st.store.journal) x })
-  by None same = gathered-place st s o.request.call o.gathered is.3 (length st.store.journal) seen.place_within (omega arith)
-  by (Some p) same = subst (λ y. IsGathered st s o.request.call (record (o.gathered) { place = y })) same is.3
+-- ---- a step of an open request
 
-touched-held : (n : ℕ) (o : Option Open) → held_by (touched n o) ≡ held_by o
-touched-held n None = refl
-touched-held n (Some o) = ids-same o.request.call (record (o.gathered) { place = first_place n o.gathered.place }) o.gathered refl
+module _ (m : MachineParts) (legal : IsLegal m) (client : ℕ) (d : Session) (none : Option Open) (below : client < length m.sessions)
+    (many : length m.state.applied.counts ≡ m.state.store.shards) (new : StateParts) (step : Step)
+    (up : AreUpTo m.state.applied.counts new.applied.counts) where
+  abbrev old : Option Open
+  old = get_or m.opens client none
 
-touched-asked : (n : ℕ) (o : Option Open) → option_map (λ (p : Open). p.request) (touched n o) ≡ option_map (λ p. p.request) o
-touched-asked n None = refl
-touched-asked n (Some o) = refl
+  abbrev s : Session
+  s = get_or m.sessions client d
 
--- ---- a View
-
-viewed-open : (st : StateParts) (client : ℕ) (s : Session) (shard : ℕ) (o : Option Open) → IsSession st s → IsOpen st client s o
-    → IsOpen st client s (option_map (λ p. with_gathered
-    (record (p.gathered) { views = slice_set p.gathered.views shard (Some (count_of st.applied.counts shard)) }) p) o)
-viewed-open st client s shard None seen is = tt
-viewed-open st client s shard (Some o) seen is =
-    (is.0, is.1, is.2, gathered-view st s o.request.call o.gathered is.3 shard seen.counts_within, is.4)
-
-viewed-held : (shard : ℕ) (v : Option ℕ) (o : Option Open)
-    → held_by (option_map (λ p. with_gathered (record (p.gathered) { views = slice_set p.gathered.views shard v }) p) o) ≡ held_by o
-viewed-held shard v None = refl
-viewed-held shard v (Some o) =
-    ids-same o.request.call (record (o.gathered) { views = slice_set o.gathered.views shard v }) o.gathered refl
-
-viewed-asked : (shard : ℕ) (v : Option ℕ) (o : Option Open)
-    → option_map (λ (p : Open). p.request) (option_map (λ p. with_gathered
-    (record (p.gathered) { views = slice_set p.gathered.views shard v }) p) o) ≡ option_map (λ p. p.request) o
-viewed-asked shard v None = refl
-viewed-asked shard v (Some o) = refl
-
--- ---- an Apply
-
-applied-open : (st : StateParts) (client : ℕ) (s : Session) (shard n : ℕ) (old new : Option Open) → IsOpen st client s old
-    → count_of s.counts shard < n → n ≤ count_of st.applied.counts shard → AppliedTo shard n old new → IsOpen st client s new
-applied-open st client s shard n old new is low high (inl same) = subst (IsOpen st client s) (sym same) is
-applied-open st client s shard n old new is low high (inr (o, was, of, now)) =
-    subst (IsOpen st client s) (sym now)
-    (let own : IsOpen st client s (Some o) = subst (IsOpen st client s) was is in (
-      own.0,
-      own.1,
-      own.2,
-      gathered-applied st s o.request.call o.gathered own.3 n
-          (subst (λ c. AppliedWithin st s c (Some n)) (sym of) (low, high)),
-      own.4,
-    ))
-
-applied-held : (shard n : ℕ) (old new : Option Open) → AppliedTo shard n old new → held_by new ≡ held_by old
-applied-held shard n old new (inl same) = ap held_by same
-applied-held shard n old new (inr (o, was, of, now)) =
-    ap held_by now ∙ ids-same o.request.call (record (o.gathered) { applied = Some n }) o.gathered refl ∙ ap held_by (sym was)
-
-applied-asked : (shard n : ℕ) (old new : Option Open) → AppliedTo shard n old new
-    → option_map (λ (p : Open). p.request) new ≡ option_map (λ p. p.request) old
-applied-asked shard n old new (inl same) = ap (option_map (λ p. p.request)) same
-applied-asked shard n old new (inr (o, was, of, now)) = ap (option_map (λ p. p.request)) now ∙ ap (option_map (λ p. p.request)) (sym was)
-
--- ---- steps of a machine
-
-module _ (m : MachineParts) (legal : IsLegal m) (client : ℕ) (d : Session) (none : Option Open) (below : client < length m.sessions) where
-  own : IsSession m.state (get_or m.sessions client d) × IsOpen m.state client (get_or m.sessions client d) (get_or m.opens client none)
+  own : IsSession m.state s × IsOpen m.state client s old
   own = let is = open-at m.state 0 m.sessions m.opens client d none legal.opens below in (
     is.0,
-    subst (λ n. IsOpen m.state n (get_or m.sessions client d) (get_or m.opens client none))
-        (let same : 0 + client ≡ client = omega arith in same) is.1,
+    subst (λ n. IsOpen m.state n s old) (let same : 0 + client ≡ client = omega arith in same) is.1,
   )
 
-  pub touch-step : (o : Option Open) → o ≡ touched (length m.state.store.journal) (get_or m.opens client none)
-      → IsLegal (record m { opens = slice_set m.opens client o }) × IsSameRun m (record m { opens = slice_set m.opens client o })
-      × IsSilent m (record m { opens = slice_set m.opens client o })
-  touch-step o is = subst (λ p. IsLegal (record m { opens = slice_set m.opens client p })
-      × IsSameRun m (record m { opens = slice_set m.opens client p }) × IsSilent m (record m { opens = slice_set m.opens client p }))
-      (sym is)
-      (quiet-step m m.state client d none (touched (length m.state.store.journal) (get_or m.opens client none)) legal below refl
-      (up_to-same m.state.applied.counts)
-      (touched-open m.state client (get_or m.sessions client d) (get_or m.opens client none) own.0 own.1)
-      (touched-held (length m.state.store.journal) (get_or m.opens client none))
-      (touched-asked (length m.state.store.journal) (get_or m.opens client none)))
+  below_open : client < length m.opens
+  below_open = let so_many = opens-many m.state 0 m.sessions m.opens legal.opens in omega (arith, so_many, below)
 
-  pub view-step : (new : StateParts) (shard : ℕ) (o : Option Open) → new.store ≡ m.state.store
-      → new.applied.counts ≡ m.state.applied.counts
-      → ViewedTo shard (count_of m.state.applied.counts shard) (get_or m.opens client none) o
-      → IsLegal (record m { state = new; opens = slice_set m.opens client o })
-      × IsSameRun m (record m { state = new; opens = slice_set m.opens client o })
-      × IsSilent m (record m { state = new; opens = slice_set m.opens client o })
-  view-step new shard o store counts viewed =
-      let up : AreUpTo m.state.applied.counts new.applied.counts = subst (AreUpTo m.state.applied.counts) (sym counts)
-      (up_to-same m.state.applied.counts) in
-      quiet-step m new client d none o legal below store up
-      (open-grown m.state new client (get_or m.sessions client d) o (grows_planned m.state new store up)
-      (ap (λ (x : StoreParts). x.shards) store) (opened viewed)) (holds viewed) (asks viewed) where
-        opened : ViewedTo shard (count_of m.state.applied.counts shard) (get_or m.opens client none) o
-            → IsOpen m.state client (get_or m.sessions client d) o
-        opened (inl same) = subst (IsOpen m.state client (get_or m.sessions client d)) (sym same) own.1
-        opened (inr now) = subst (IsOpen m.state client (get_or m.sessions client d)) (sym now)
-            (viewed-open m.state client (get_or m.sessions client d) shard (get_or m.opens client none) own.0 own.1)
+  abbrev Quiet : Option Open → Type 0
+  Quiet now =
+      IsLegal (record m { state = new; opens = slice_set m.opens client now })
+      × IsSameRun m (record m { state = new; opens = slice_set m.opens client now })
+      × IsSilent m (record m { state = new; opens = slice_set m.opens client now })
 
-        holds : ViewedTo shard (count_of m.state.applied.counts shard) (get_or m.opens client none) o
-            → held_by o ≡ held_by (get_or m.opens client none)
-        holds (inl same) = ap held_by same
-        holds (inr now) = ap held_by now
-            ∙ viewed-held shard (Some (count_of m.state.applied.counts shard)) (get_or m.opens client none)
+  -- where a request is open
+  stepped_some : (o : Open) → old ≡ Some o
+      → new.store ≡ store_by m.state o.work.operation o.gathered step → new.applied.counts ≡ counts_by (shown m.state) step
+      → Quiet (Some (with_gathered (gathered_by (shown m.state) o.work.operation o.gathered step) o))
+  stepped_some o has store counts = (
+    stepped-legal m legal new client d none (Some given) below grows definitions shards journal (new.store.next - m.state.store.next)
+        (omega (arith, grows.next)) now holds,
+    (definitions, shards),
+    record {
+      asked = asked-same m.opens client none (Some given) below_open (ap (option_map (λ p. p.request)) (sym has));
+      requests = refl;
+      replies = refl;
+    },
+  ) where
+    given : Open
+    given = with_gathered (gathered_by (shown m.state) o.work.operation o.gathered step) o
 
-        asks : ViewedTo shard (count_of m.state.applied.counts shard) (get_or m.opens client none) o
-            → option_map (λ p. p.request) o ≡ option_map (λ p. p.request) (get_or m.opens client none)
-        asks (inl same) = ap (option_map (λ p. p.request)) same
-        asks (inr now) = ap (option_map (λ p. p.request)) now
-            ∙ viewed-asked shard (Some (count_of m.state.applied.counts shard)) (get_or m.opens client none)
+    was : IsOpen m.state client s (Some o)
+    was = subst (IsOpen m.state client s) has own.1
 
-  pub apply-step : (new : StateParts) (shard n : ℕ) (o : Option Open) → new.store ≡ m.state.store
-      → AreUpTo m.state.applied.counts new.applied.counts → count_of m.state.applied.counts shard < n
-      → n ≤ count_of new.applied.counts shard → AppliedTo shard n (get_or m.opens client none) o
-      → IsLegal (record m { state = new; opens = slice_set m.opens client o })
-      × IsSameRun m (record m { state = new; opens = slice_set m.opens client o })
-      × IsSilent m (record m { state = new; opens = slice_set m.opens client o })
-  apply-step new shard n o store counts risen within applied =
-      let seen = up_to-count (get_or m.sessions client d).counts m.state.applied.counts shard own.0.counts_within in
-      quiet-step m new client d none o legal below store counts
-      (applied-open new client (get_or m.sessions client d) shard n (get_or m.opens client none) o
-      (open-grown m.state new client (get_or m.sessions client d) (get_or m.opens client none) (grows_planned m.state new store counts)
-      (ap (λ (x : StoreParts). x.shards) store) own.1)
-      (omega (arith, seen, risen)) within applied)
-      (applied-held shard n (get_or m.opens client none) o applied)
-      (applied-asked shard n (get_or m.opens client none) o applied)
+    gathered : IsGathered m.state s (call_of o.work.operation) o.gathered
+    gathered = gathered_there m.state s o.work.operation o.request.call o.gathered was.4.0 was.3
 
-  -- the shard's next entry is applied, and nothing gathered
-  pub raise-step : (new : StateParts) → new.store ≡ m.state.store → AreUpTo m.state.applied.counts new.applied.counts
-      → IsLegal (record m { state = new }) × IsSameRun m (record m { state = new }) × IsSilent m (record m { state = new })
-  raise-step new store counts =
-      let kept : slice_set m.opens client (get_or m.opens client none) ≡ m.opens = set-same m.opens client none
-      (let many = opens-many m.state 0 m.sessions m.opens legal.opens in omega (arith, many, below)) in
-      subst (λ os. IsLegal (record m { state = new; opens = os }) × IsSameRun m (record m { state = new; opens = os })
-      × IsSilent m (record m { state = new; opens = os })) kept
-      (quiet-step m new client d none (get_or m.opens client none) legal below store counts
-      (open-grown m.state new client (get_or m.sessions client d) (get_or m.opens client none) (grows_planned m.state new store counts)
-      (ap (λ (x : StoreParts). x.shards) store) own.1) refl refl)
+    grows : Grows m.state new
+    grows = step-grows m.state new s o.work.operation o.gathered (omega (arith, legal.from_first)) many own.0 step store up
 
-  pub issue-step : (new : StateParts) (count : ℕ) (o : Option Open) → first_drawn_id ≤ m.state.store.next
-      → DrawnTo count m.state (get_or m.opens client none) new o
-      → IsLegal (record m { state = new; opens = slice_set m.opens client o })
-      × IsSameRun m (record m { state = new; opens = slice_set m.opens client o })
-      × IsSilent m (record m { state = new; opens = slice_set m.opens client o })
-  issue-step new count o low (inl (same, kept)) =
-      subst (λ st. IsLegal (record m { state = st; opens = slice_set m.opens client o })
-      × IsSameRun m (record m { state = st; opens = slice_set m.opens client o })
-      × IsSilent m (record m { state = st; opens = slice_set m.opens client o })) (sym same)
-      (quiet-step m m.state client d none o legal below refl (up_to-same m.state.applied.counts)
-      (subst (IsOpen m.state client (get_or m.sessions client d)) (sym kept) own.1) (ap held_by kept)
-      (ap (option_map (λ p. p.request)) kept))
-  issue-step new count o low (inr (p, was, asks, first, drawn, now)) =
-      subst (λ st. IsLegal (record m { state = st; opens = slice_set m.opens client o })
-      × IsSameRun m (record m { state = st; opens = slice_set m.opens client o })
-      × IsSilent m (record m { state = st; opens = slice_set m.opens client o })) (sym drawn)
-      (subst (λ q. IsLegal (record m { state = later; opens = slice_set m.opens client q })
-      × IsSameRun m (record m { state = later; opens = slice_set m.opens client q })
-      × IsSilent m (record m { state = later; opens = slice_set m.opens client q })) (sym now) (
-        stepped-legal m legal later client d none (Some given) below grown refl refl refl count refl (
-          at_first.0,
-          at_first.1,
-          at_first.2,
-          gathered-first later (get_or m.sessions client d) p.request.call p.gathered at_first.3 m.state.store.next low
-              own.0.next_within (omega (arith, asks)),
-          at_first.4,
-        )
-            holds,
-        (refl, refl),
-        record {
-          asked = asked-same m.opens client none (Some given)
-              (let many = opens-many m.state 0 m.sessions m.opens legal.opens in omega (arith, many, below))
-              (ap (option_map (λ q. q.request)) (sym was));
-          requests = refl;
-          replies = refl;
-        },
-      ))
-    where
-      later : StateParts
-      later = record m.state { store = record m.state.store { next = m.state.store.next + count } }
+    definitions : new.store.definitions ≡ m.state.store.definitions
+    definitions = ap (λ (x : StoreParts). x.definitions) store
 
-      given : Open
-      given = with_gathered (record (p.gathered) { first = Some m.state.store.next }) p
+    shards : new.store.shards ≡ m.state.store.shards
+    shards = ap (λ (x : StoreParts). x.shards) store
 
-      grown : Grows m.state later
-      grown = record {
-        added = [];
-        journal = sym (append-nil m.state.store.journal);
-        next = omega arith;
-        counts = up_to-same m.state.applied.counts;
-      }
+    journal : new.store.journal ≡ m.state.store.journal
+    journal = ap (λ (x : StoreParts). x.journal) store
 
-      at_first : IsOpen later client (get_or m.sessions client d) (Some p)
-      at_first = open-grown m.state later client (get_or m.sessions client d) (Some p) grown refl
-          (subst (IsOpen m.state client (get_or m.sessions client d)) was own.1)
+    later : IsOpen new client s (Some o)
+    later = open-grown m.state new client s (Some o) grows definitions shards was
 
-      holds : held_by (Some given) ≡ held_by (get_or m.opens client none) ++ range_with_len m.state.store.next count
-      holds =
-          drawn_ids_are p.request.call (record (p.gathered) { first = Some m.state.store.next }) m.state.store.next count refl asks
-          ∙ ap (λ ids. ids ++ range_with_len m.state.store.next count) (sym (ap held_by was ∙ none_ids p.request.call p.gathered first))
+    now : IsOpen new client s (Some given)
+    now = (
+      later.0,
+      later.1,
+      later.2,
+      gathered_back new s o.work.operation o.request.call (gathered_by (shown m.state) o.work.operation o.gathered step) was.4.0
+          (step-gathered m.state new s o.work.operation o.gathered (omega (arith, legal.from_first)) many own.0 step store up gathered
+          counts),
+      later.4,
+    )
+
+    -- the ids that it draws are held
+    holds : held_by (Some given) ≡ held_by old ++ range_with_len m.state.store.next (new.store.next - m.state.store.next)
+    holds = subst (λ p. held_by (Some given) ≡ held_by p ++ range_with_len m.state.store.next (new.store.next - m.state.store.next))
+        (sym has)
+        (by step (ap (λ (x : StoreParts). x.next) store)) where
+          quiet : (g : GatheredParts) → g.first ≡ o.gathered.first → new.store.next ≡ m.state.store.next
+              → ids_of o.request.call g
+              ≡ ids_of o.request.call o.gathered ++ range_with_len m.state.store.next (new.store.next - m.state.store.next)
+          quiet g first same =
+              ids-same o.request.call g o.gathered first
+              ∙ sym (append-nil (ids_of o.request.call o.gathered))
+              ∙ ap (λ n. ids_of o.request.call o.gathered ++ range_with_len m.state.store.next n)
+              (let e : 0 ≡ new.store.next - m.state.store.next = omega (arith, same) in e)
+
+          by : (x : Step) → new.store.next ≡ (store_by m.state o.work.operation o.gathered x).next
+              → ids_of o.request.call (gathered_by (shown m.state) o.work.operation o.gathered x)
+              ≡ ids_of o.request.call o.gathered ++ range_with_len m.state.store.next (new.store.next - m.state.store.next)
+          by steps.Commit next = quiet (gathered_by (shown m.state) o.work.operation o.gathered steps.Commit) refl next
+          by steps.Touch next = quiet (gathered_by (shown m.state) o.work.operation o.gathered steps.Touch) refl next
+          by (steps.View shard) next = quiet (gathered_by (shown m.state) o.work.operation o.gathered (steps.View shard))
+              (each (nat_lt shard m.state.store.shards && gathers_view (shown m.state) o.work.operation o.gathered shard)) next where
+                each : (b : Bool) → (cond b (record (o.gathered) {
+                  views = slice_set o.gathered.views shard
+                      (Some (count_of m.state.applied.counts shard));
+                }) o.gathered).first ≡ o.gathered.first
+                each true = refl
+                each false = refl
+          by (steps.Apply shard) next = quiet (gathered_by (shown m.state) o.work.operation o.gathered (steps.Apply shard))
+              (each (nat_lt shard m.state.store.shards && is_pending (shown m.state) shard && gathers_entry o.work.operation o.gathered
+              shard)) next where
+                each : (b : Bool) → (cond b (record (o.gathered) { applied = Some (count_of m.state.applied.counts shard + 1) })
+                    o.gathered).first
+                    ≡ o.gathered.first
+                each true = refl
+                each false = refl
+          by (steps.Issue count) next = each (draws (shown m.state) o.work.operation o.gathered count) refl next where
+            each : (b : Bool) → draws (shown m.state) o.work.operation o.gathered count ≡ b
+                → new.store.next ≡ cond b (m.state.store.next + count) m.state.store.next
+                → ids_of o.request.call (cond b (record (o.gathered) { first = Some m.state.store.next }) o.gathered)
+                ≡ ids_of o.request.call o.gathered ++ range_with_len m.state.store.next (new.store.next - m.state.store.next)
+            each false unmet next = quiet o.gathered refl next
+            each true met next =
+                let parts = draws-parts (shown m.state) o.work.operation o.gathered count met in
+                drawn_ids_are o.request.call (record (o.gathered) { first = Some m.state.store.next }) m.state.store.next count refl
+                (asked-alike o.work.operation o.request.call was.4.0 ∙ sym parts.0)
+                ∙ ap (range_with_len m.state.store.next) (let e : count ≡ new.store.next - m.state.store.next = omega (arith, next) in e)
+                ∙ ap (λ ids. ids ++ range_with_len m.state.store.next (new.store.next - m.state.store.next))
+                (sym (none_ids o.request.call o.gathered parts.1))
+
+  pub step-legal : (now : Option Open) → SteppedTo step m.state old new now → Quiet now
+  step-legal now stepped = by old refl stepped where
+    by : (p : Option Open) → old ≡ p → SteppedTo step m.state p new now → Quiet now
+    by (Some o) has is = subst Quiet (sym is.0) (stepped_some o has is.1 is.2)
+    by None has is = subst Quiet (sym (is.0 ∙ sym has)) (
+      stepped-legal m legal new client d none old below (grows_planned m.state new is.1 up)
+          (ap (λ (x : StoreParts). x.definitions) is.1) (ap (λ (x : StoreParts). x.shards) is.1) (ap (λ (x : StoreParts). x.journal) is.1)
+          0 (let e : new.store.next ≡ m.state.store.next = ap (λ (x : StoreParts). x.next) is.1 in omega (arith, e))
+          (subst (IsOpen new client s) (sym has) tt)
+          (sym (append-nil (held_by old))),
+      (ap (λ (x : StoreParts). x.definitions) is.1, ap (λ (x : StoreParts). x.shards) is.1),
+      record {
+        asked = asked-same m.opens client none old below_open refl;
+        requests = refl;
+        replies = refl;
+      },
+    )
 
 -- a request is opened, which has gathered nothing
 pub open-step : (m : MachineParts) → IsLegal m → (client : ℕ) (d : Session) (none : Option Open) (r : Request)
-    (asked : Result Operation OperationRefused) → IsAskedOf r.call asked
+    (work : Work) → IsWorkOf m.state (get_or m.sessions client d) r.call work
     → client < length m.sessions → length m.state.applied.counts ≡ m.state.store.shards
     → IsLawfulRequest m.state.store.shards client r → held_by (get_or m.opens client none) ≡ []
-    → IsLegal (record m { opens = slice_set m.opens client (Some (just_opened r asked m.state.store.shards)) })
-open-step m legal client d none r asked of below many lawful closed =
+    → IsLegal (record m { opens = slice_set m.opens client (Some (just_opened r work m.state.store.shards)) })
+open-step m legal client d none r work of below many lawful closed =
     let had = open-at m.state 0 m.sessions m.opens client d none legal.opens below in
-    stepped-legal m legal m.state client d none (Some (just_opened r asked m.state.store.shards)) below
+    stepped-legal m legal m.state client d none (Some (just_opened r work m.state.store.shards)) below
     (grows_planned m.state m.state refl (up_to-same m.state.applied.counts)) refl refl refl 0 (omega arith) (
       lawful.0,
       lawful.1,
@@ -294,5 +289,5 @@ open-step m legal client d none r asked of below many lawful closed =
       gathered-nothing m.state (get_or m.sessions client d) r.call m.state.store.shards many had.0.counts_within,
       of,
     )
-    (none_ids r.call (just_opened r asked m.state.store.shards).gathered refl
+    (none_ids r.call (just_opened r work m.state.store.shards).gathered refl
     ∙ sym (append-nil (held_by (get_or m.opens client none)) ∙ closed))

@@ -20,40 +20,66 @@ use Rattle.ds_model.specs.Asked.{has_shard}
 use Rattle.ds_model.specs.Legal.{acknowledged, acknowledged_in, accepted, printed_next, drawn_by_call}
 use Rattle.ds_model.specs.Sessions.{Session, first_id, first_session, first_sessions}
 use Rattle.ds_model.specs.Worlds.{World}
-use Rattle.ds_plans.specs.declared.effect.Effect.{Effect}
-use Rattle.ds_plans.specs.Due.{IsDue, ids_of}
-use Rattle.ds_plans.specs.Effects.{store_after, session_after}
-use Rattle.ds_plans.specs.States.{StoreParts, StateParts, IsSession, Grows, world}
-use Rattle.ds_plans.proofs.Gatherings.{due-said, gathered-grown}
-use Rattle.ds_plans.proofs.Grown.{session-grown, grows-after, session-after}
+use Rattle.ds_effects.specs.declared.effect.Effect.{Effect}
+use Rattle.ds_machine.specs.Due.{IsDue}
+use Rattle.ds_machine.specs.Effects.{store_after, session_after}
+use Rattle.ds_machine.specs.States.{StoreParts, StateParts, IsSession, Grows, world, AreUpTo}
+use Rattle.ds_machine.proofs.Gatherings.{gathered-grown}
+use Rattle.ds_machine.proofs.Lifted.{due-said}
+use Rattle.ds_machine.proofs.Stepped.{unrefused-grown}
+use Rattle.ds_machine.proofs.Grown.{session-grown, grows-after, session-after, up_to-same}
 use Rattle.ds_core.specs.declared.opened.Open.{Open}
 use Rattle.ds_core.specs.declared.event.Transcript.{Transcript}
+use Rattle.ds_core.specs.Happenings.{none_open}
 use Rattle.ds_core.specs.Machines.{MachineParts, IsLegal, IsOpen, IsSameRun, AreOpen, held, held_by}
 use Rattle.ds_core.specs.Rounds.{AreAnswered, AreNumbered, IsLegalRound, drawn_ids}
-use Rattle.ds_core.proofs.SessionLists.{first-is, had-at, length-set}
+use Rattle.ds_core.proofs.Lists.{set-own}
+
+-- ---- sessions
+
+pub length-set : (ss : List Session) (i : ℕ) (t : Session) → length (slice_set ss i t) ≡ length ss
+length-set [] i t = refl
+length-set (s ∷ ss) zero t = refl
+length-set (s ∷ ss) (suc i) t = let rest = length-set ss i t in omega (arith, rest)
+
+pub had-at : (ss : List Session) (i : ℕ) (d : Session) → i < length ss → slice_get ss i ≡ Some (get_or ss i d)
+had-at [] i d below = absurd (omega arith)
+had-at (s ∷ ss) zero d below = refl
+had-at (s ∷ ss) (suc i) d below = had-at ss i d (omega arith)
+
+pub first-is : (st : StateParts) (shards : ℕ) → st.applied.counts ≡ replicate shards 0 → first_drawn_id ≤ st.store.next
+    → IsSession st (first_session shards)
+first-is st shards counts next = record {
+  place_within = omega arith;
+  counts_within = subst (λ cs. AreUpTo (replicate shards 0) cs) (sym counts) (up_to-same (replicate shards 0));
+  next_within = next;
+  transaction_within = tt;
+}
 
 -- ---- open requests
 
-pub open-grown : (old new : StateParts) (client : ℕ) (s : Session) (o : Option Open) → Grows old new → new.store.shards ≡ old.store.shards
+pub open-grown : (old new : StateParts) (client : ℕ) (s : Session) (o : Option Open) → Grows old new
+    → new.store.definitions ≡ old.store.definitions → new.store.shards ≡ old.store.shards
     → IsOpen old client s o → IsOpen new client s o
-open-grown old new client s None grows same is = tt
-open-grown old new client s (Some o) grows same is = (
+open-grown old new client s None grows definitions same is = tt
+open-grown old new client s (Some o) grows definitions same is = (
   is.0,
   is.1,
   subst (λ n. IsTrue (has_shard n o.request.call)) (sym same) is.2,
   gathered-grown old new grows s o.request.call o.gathered is.3,
-  is.4,
+  (is.4.0, unrefused-grown old new s o.work.operation o.work.ready definitions same grows.next is.4.1),
 )
 
 pub opens-grown : (old new : StateParts) (client : ℕ) (ss : List Session) (os : List (Option Open)) → Grows old new
-    → new.store.shards ≡ old.store.shards → AreOpen old client ss os → AreOpen new client ss os
-opens-grown old new client [] [] grows same are = tt
-opens-grown old new client [] (o ∷ os) grows same are = absurd are
-opens-grown old new client (s ∷ ss) [] grows same are = absurd are
-opens-grown old new client (s ∷ ss) (o ∷ os) grows same are = (
+    → new.store.definitions ≡ old.store.definitions → new.store.shards ≡ old.store.shards → AreOpen old client ss os
+    → AreOpen new client ss os
+opens-grown old new client [] [] grows definitions same are = tt
+opens-grown old new client [] (o ∷ os) grows definitions same are = absurd are
+opens-grown old new client (s ∷ ss) [] grows definitions same are = absurd are
+opens-grown old new client (s ∷ ss) (o ∷ os) grows definitions same are = (
   session-grown old new s grows are.0,
-  open-grown old new client s o grows same are.1,
-  opens-grown old new (client + 1) ss os grows same are.2,
+  open-grown old new client s o grows definitions same are.1,
+  opens-grown old new (client + 1) ss os grows definitions same are.2,
 )
 
 -- the session and the open request of one client
@@ -131,15 +157,10 @@ held-none [] i d none = refl
 held-none (o ∷ os) zero d none = ap (λ ids. ids ++ held os) (sym none)
 held-none (o ∷ os) (suc i) d none = ap (λ ids. held_by o ++ ids) (held-none os i d none)
 
-pub set-same : (os : List (Option Open)) (i : ℕ) (d : Option Open) → i < length os → slice_set os i (get_or os i d) ≡ os
-set-same [] i d below = absurd (omega (arith, below))
-set-same (o ∷ os) zero d below = refl
-set-same (o ∷ os) (suc i) d below = ap (λ ps. o ∷ ps) (set-same os i d (omega (arith, below)))
-
 -- the held ids are those of one client and the others
-held-at : (os : List (Option Open)) (i : ℕ) (d : Option Open) → i < length os
+pub held-at : (os : List (Option Open)) (i : ℕ) (d : Option Open) → i < length os
     → IsPermutation (held os) (held_by (get_or os i d) ++ held (slice_set os i None))
-held-at os i d below = subst (λ ps. IsPermutation (held ps) (held_by (get_or os i d) ++ held (slice_set os i None))) (set-same os i d below)
+held-at os i d below = subst (λ ps. IsPermutation (held ps) (held_by (get_or os i d) ++ held (slice_set os i None))) (set-own os i d)
     (held-first os i (get_or os i d) below)
 
 -- as many as before are held for one client
@@ -250,9 +271,10 @@ all_both P xs ys first second = All-append P xs ys first second
 abbrev pub said_by : ℕ → ℕ → Body → Reply
 said_by client line b = record { client = client; line = line; body = b }
 
-module _ (m : MachineParts) (legal : IsLegal m) (client : ℕ) (d : Session) (none : Option Open) (o : Open) (b : Body) (e : Effect)
-    (below : client < length m.sessions) (has : get_or m.opens client none ≡ Some o) (told : b ≢ body.NoMemory)
-    (due : IsDue m.state (get_or m.sessions client d) client o.request.call (ids_of o.request.call o.gathered) b e) where
+module _ (m : MachineParts) (legal : IsLegal m) (client : ℕ) (d : Session) (r : Request) (ids : List ℕ) (b : Body) (e : Effect)
+    (below : client < length m.sessions) (own_client : r.client ≡ client)
+    (holds : IsPermutation (held m.opens) (ids ++ held (slice_set m.opens client None))) (told : b ≢ body.NoMemory)
+    (due : IsDue m.state (get_or m.sessions client d) client r.call ids b e) where
   abbrev st : StateParts
   st = m.state
 
@@ -268,18 +290,8 @@ module _ (m : MachineParts) (legal : IsLegal m) (client : ℕ) (d : Session) (no
   abbrev reply : Reply
   reply = said_by client (length m.replies + 1) b
 
-  own : IsSession st s × IsOpen st client s (Some o)
-  own = let is = open-at st 0 m.sessions m.opens client d none legal.opens below in (
-    is.0,
-    subst (λ p. IsOpen st client s p) has (subst (λ n. IsOpen st n s (get_or m.opens client none))
-        (let same : 0 + client ≡ client = omega arith in same) is.1),
-  )
-
-  asked_by : o.request.client ≡ client
-  asked_by = own.1.0
-
-  open_below : client < length m.opens
-  open_below = let many = opens-many st 0 m.sessions m.opens legal.opens in omega (arith, many, below)
+  own : IsSession st s
+  own = (open-at st 0 m.sessions m.opens client d None legal.opens below).0
 
   journal_is : (more : List Commit) → st.store.journal ++ (due.added ++ more) ≡ then.store.journal ++ more
   journal_is more = sym (append_assoc st.store.journal due.added more) ∙ ap (λ cs. cs ++ more) (sym due.journal)
@@ -299,40 +311,37 @@ module _ (m : MachineParts) (legal : IsLegal m) (client : ℕ) (d : Session) (no
 
   answered_now : (window : Option ℕ) (more : List Commit)
       → AreAnswered (world (record (then.store) { journal = then.store.journal ++ more }) window) (first_sessions then.store.shards)
-      (m.requests ++ o.request ∷ []) (m.replies ++ reply ∷ []) (slice_set m.sessions client t)
+      (m.requests ++ r ∷ []) (m.replies ++ reply ∷ []) (slice_set m.sessions client t)
   answered_now window more =
       let w = world (record (then.store) { journal = then.store.journal ++ more }) window in
-      subst (λ n. AreAnswered w (first_sessions then.store.shards) (m.requests ++ o.request ∷ []) (m.replies ++ reply ∷ [])
-      (slice_set m.sessions n t)) asked_by
-      (answered-then w (first_sessions then.store.shards) m.sessions m.requests m.replies o.request reply s t (so_far window more)
-      (subst (λ n. slice_get m.sessions n ≡ Some s) (sym asked_by) (had-at m.sessions client d below))
-      (subst (λ n. BodyAnswers w s (Ok (record { client = n; call = o.request.call })) b t) (sym asked_by)
-      (due-said st s client o.request.call (ids_of o.request.call o.gathered) b e due window more)))
+      subst (λ n. AreAnswered w (first_sessions then.store.shards) (m.requests ++ r ∷ []) (m.replies ++ reply ∷ [])
+      (slice_set m.sessions n t)) own_client
+      (answered-then w (first_sessions then.store.shards) m.sessions m.requests m.replies r reply s t (so_far window more)
+      (subst (λ n. slice_get m.sessions n ≡ Some s) (sym own_client) (had-at m.sessions client d below))
+      (subst (λ n. BodyAnswers w s (Ok (record { client = n; call = r.call })) b t) (sym own_client)
+      (due-said st s client r.call ids b e due window more)))
 
-  draws_now : IsPermutation (drawn_ids (m.requests ++ o.request ∷ []) (m.replies ++ reply ∷ []) ++ held (slice_set m.opens client None))
+  draws_now : IsPermutation (drawn_ids (m.requests ++ r ∷ []) (m.replies ++ reply ∷ []) ++ held (slice_set m.opens client None))
       (range_with_len first_id (then.store.next - first_id))
   draws_now =
-      let ids = ids_of o.request.call o.gathered in
       let others = held (slice_set m.opens client None) in
-      let now : drawn_ids (m.requests ++ o.request ∷ []) (m.replies ++ reply ∷ []) ++ others
+      let now : drawn_ids (m.requests ++ r ∷ []) (m.replies ++ reply ∷ []) ++ others
       ≡ drawn_ids m.requests m.replies ++ (ids ++ others) =
-      ap (λ xs. xs ++ others) (drawn-then 1 m.requests m.replies o.request reply legal.numbered)
+      ap (λ xs. xs ++ others) (drawn-then 1 m.requests m.replies r reply legal.numbered)
       ∙ ap (λ xs. (drawn_ids m.requests m.replies ++ xs) ++ others) due.draws
       ∙ append_assoc (drawn_ids m.requests m.replies) ids others in
-      let before : IsPermutation (held m.opens) (ids ++ others) =
-      subst (λ p. IsPermutation (held m.opens) (held_by p ++ others)) has (held-at m.opens client none open_below) in
       subst (λ xs. IsPermutation xs (range_with_len first_id (then.store.next - first_id))) (sym now)
       (subst (λ n. IsPermutation (drawn_ids m.requests m.replies ++ (ids ++ others)) (range_with_len first_id (n - first_id)))
       (sym due.next)
       (IsPermutation-trans _ (drawn_ids m.requests m.replies ++ held m.opens) _
-      (IsPermutation-append_right (drawn_ids m.requests m.replies) _ _ (IsPermutation-sym _ _ before)) legal.draws))
+      (IsPermutation-append_right (drawn_ids m.requests m.replies) _ _ (IsPermutation-sym _ _ holds)) legal.draws))
 
   abbrev pub machine_said : MachineParts
   machine_said = record {
     state = then;
     sessions = slice_set m.sessions client t;
     opens = slice_set m.opens client None;
-    requests = m.requests ++ o.request ∷ [];
+    requests = m.requests ++ r ∷ [];
     replies = m.replies ++ reply ∷ [];
   }
 
@@ -342,10 +351,10 @@ module _ (m : MachineParts) (legal : IsLegal m) (client : ℕ) (d : Session) (no
     most = omega (arith, due.shards, legal.most);
     clients = length-set m.sessions client t ∙ legal.clients;
     opens = opens-set then 0 m.sessions m.opens client t None
-        (opens-grown st then 0 m.sessions m.opens (grows-after e st) due.shards legal.opens)
-        (session-after e st s due.allowed own.0) tt;
+        (opens-grown st then 0 m.sessions m.opens (grows-after e st) due.definitions due.shards legal.opens)
+        (session-after e st s due.allowed own) tt;
     answered = answered_now;
-    numbered = numbered-then 1 (length m.replies + 1) m.requests m.replies o.request reply legal.numbered (omega arith) refl (sym asked_by)
+    numbered = numbered-then 1 (length m.replies + 1) m.requests m.replies r reply legal.numbered (omega arith) refl (sym own_client)
         told;
     acknowledges = each-then acknowledged m.replies reply
         ∙ ap (λ ns. ns ++ acknowledged_in b) legal.acknowledges
@@ -383,7 +392,8 @@ module _ (m : MachineParts) (legal : IsLegal m) (new : StateParts) (client : ℕ
     least = omega (arith, shards, legal.least);
     most = omega (arith, shards, legal.most);
     clients = legal.clients;
-    opens = opens-put new 0 m.sessions m.opens client d o (opens-grown m.state new 0 m.sessions m.opens grows shards legal.opens)
+    opens = opens-put new 0 m.sessions m.opens client d o (opens-grown m.state new 0 m.sessions m.opens grows definitions shards
+        legal.opens)
         (subst (λ n. IsOpen new n (get_or m.sessions client d) o) (let same : client ≡ 0 + client = omega arith in same) is);
     answered = λ window more.
         subst (λ (x : StoreParts). AreAnswered (world x window) (first_sessions x.shards) m.requests m.replies m.sessions)
@@ -445,14 +455,8 @@ module _ (m : MachineParts) (legal : IsLegal m) (new : StateParts) (client : ℕ
 pub same-run : (m n o : MachineParts) → IsSameRun m n → IsSameRun n o → IsSameRun m o
 same-run m n o first second = (second.0 ∙ first.0, second.1 ∙ first.1)
 
-none-open : (opens : List (Option Open)) → All (λ o. o ≡ None) opens → held opens ≡ []
-none-open [] all = refl
-none-open (o ∷ os) all =
-    let here : o ≡ None = all zero o (omega arith) in
-    ap (λ p. held_by p ++ held os) here ∙ none-open os (λ k d below. all (suc k) d (omega arith))
-
 pub legal-round : (m : MachineParts) (t : Transcript) (definitions : List IndexDef) (shards : ℕ) → IsLegal m
-    → All (λ o. o ≡ None) m.opens → m.state.store.definitions ≡ definitions → m.state.store.shards ≡ shards
+    → m.opens ≡ none_open → m.state.store.definitions ≡ definitions → m.state.store.shards ≡ shards
     → t.requests ≡ m.requests → t.replies ≡ m.replies → t.journal ≡ m.state.store.journal → IsLegalRound definitions shards t
 legal-round m t definitions shards legal closed same_definitions same_shards requests replies journal =
     subst (IsLegalRound definitions shards)
@@ -472,7 +476,8 @@ legal-round m t definitions shards legal closed same_definitions same_shards req
       bound = m.state.store.next;
       from_first = legal.from_first;
       each_once = subst (λ ids. IsPermutation ids (range_with_len first_id (m.state.store.next - first_id)))
-          (ap (λ ids. drawn_ids m.requests m.replies ++ ids) (none-open m.opens closed) ∙ append-nil (drawn_ids m.requests m.replies))
+          (ap (λ ids. drawn_ids m.requests m.replies ++ ids) (ap held closed ∙ none_held (greatest_client + 1))
+          ∙ append-nil (drawn_ids m.requests m.replies))
           legal.draws;
       accepted_below = legal.accepts;
       printed_within = legal.prints;

@@ -7,10 +7,11 @@ use Rattle.ds_request.specs.declared.call.Call.{Call}
 use Rattle.ds_request.specs.declared.call.Call.TheVariants as call
 use Rattle.ds_model.specs.Groups.{place_in}
 use Rattle.ds_model.specs.Sessions.{Session, count_of, first_session, first_sessions}
-use Rattle.ds_steps.specs.Taken.{GatheredParts}
+use Rattle.ds_effects.specs.Gathered.{GatheredParts}
 use Rattle.ds_protocol.specs.Operations.{ids_asked}
 use Rattle.ds_core.specs.declared.opened.Open.{Open}
 use Rattle.ds_core.specs.Happenings.{Happening}
+use Rattle.ds_core.specs.Takings.{AreTaken, IsTaken}
 use Rattle.ds_core.specs.Timelines.{AreMoves, AreTimely, AreViews, IsApply, IsIssue, IsTimely, IsTouch, IsView, Moves, Occurs}
 use Rattle.ds_core.specs.Witnesses.{AreWitnessed, IsGatheredThen, IsRaisedThen, IsTouchedThen}
 
@@ -148,6 +149,10 @@ pub moves-then : (shards : ℕ) (hs : List Happening) (h : Happening) → AreMov
     → AreMoves shards (hs ++ h ∷ [])
 moves-then shards [] h are is = (is, tt)
 moves-then shards (x ∷ hs) h are is = (are.0, moves-then shards hs h are.1 is)
+
+pub taken-then : (shards : ℕ) (hs : List Happening) (h : Happening) → AreTaken shards hs → IsTaken shards h → AreTaken shards (hs ++ h ∷ [])
+taken-then shards [] h are is = (is, tt)
+taken-then shards (x ∷ hs) h are is = (are.0, taken-then shards hs h are.1 is)
 
 pub timely-then : (past hs : List Happening) (h : Happening) → AreTimely past hs → IsTimely (past ++ (hs ++ h ∷ [])) h.said
     → AreTimely past (hs ++ h ∷ [])

@@ -1,26 +1,30 @@
 -- The reply to an open request: what was said stays legal, and it is a turn of its client.
-use Rattle.std.proofs.Common.{◌≡◌, ◌≢◌, inl, inr, ℕ, ◌+◌, ◌<◌, ◌≤◌, List, length, ap, sym, ◌∙◌, subst, Option, Some, None, get_or}
-use Rattle.std.specs.Prelude.{Err, Ok, OnOk, Result, slice_set}
+use Rattle.std.proofs.Common.{◌≡◌, ◌≢◌, inl, inr, ℕ, ◌+◌, ◌<◌, ◌≤◌, List, length, ap, sym, ◌∙◌, subst, Option, Some, None, get_or, []}
+use Rattle.std.proofs.Common.{arith, ◌++◌}
+use Rattle.std.specs.Prelude.{Err, IsPermutation, Ok, OnOk, Result, slice_set}
 use Rattle.std.specs.Option.{option_map}
 use Rattle.ds_base.specs.Limits.{greatest_client}
 use Rattle.ds_request.specs.declared.call.Call.{Call}
 use Rattle.ds_reply.specs.declared.reply.Body.{Body}
 use Rattle.ds_reply.specs.declared.reply.Body.TheVariants as body
 use Rattle.ds_model.specs.Sessions.{Session}
-use Rattle.ds_plans.specs.declared.effect.Effect.{Effect}
-use Rattle.ds_plans.specs.Due.{IsDue, IsDuePlan, ids_of}
-use Rattle.ds_plans.specs.Effects.{IsAllowed}
-use Rattle.ds_plans.specs.States.{StateParts}
+use Rattle.ds_effects.specs.declared.effect.Effect.{Effect}
+use Rattle.ds_machine.specs.Due.{IsDue, IsDuePlan, ids_of}
+use Rattle.ds_machine.specs.Effects.{IsAllowed}
+use Rattle.ds_machine.specs.States.{StateParts}
 use Rattle.ds_core.specs.declared.opened.Open.{Open}
 use Rattle.ds_core.specs.Happenings.{Turn, asked_of}
-use Rattle.ds_core.specs.Machines.{MachineParts, IsDueTo, IsLegal, IsSameRun, noted, performed}
-use Rattle.ds_core.proofs.Clients.{client-below, client-open}
-use Rattle.ds_core.proofs.Legals.{said_by, said-legal}
+use Rattle.ds_core.specs.Machines.{MachineParts, IsDueTo, IsLegal, IsSameRun, noted, performed, IsOpen, held, held_by}
+use Rattle.ds_core.proofs.OneClient.{client-below, client-open}
+use Rattle.ds_core.proofs.Legals.{held-at, open-at, opens-many, said_by, said-legal}
 use Rattle.ds_core.proofs.Turns.{asked-at, asked-opens, turn-said}
+use Rattle.ds_request.specs.declared.call.Request.{Request}
+use Rattle.std.proofs.lemmas.List.Sorted.{IsPermutation-refl}
+use Rattle.ds_core.proofs.Lists.{set-own}
 
 -- ---- what is due is told
 
-due_told : (st : StateParts) (s : Session) (client : ℕ) (c : Call) (ids : List ℕ) (b : Body) (e : Effect) → b ≢ body.NoMemory
+pub due_told : (st : StateParts) (s : Session) (client : ℕ) (c : Call) (ids : List ℕ) (b : Body) (e : Effect) → b ≢ body.NoMemory
     → IsDuePlan st s client c ids b e → IsDue st s client c ids b e
 due_told st s client c ids b e told (inl is) = absurd (told is)
 due_told st s client c ids b e told (inr due) = due
@@ -37,15 +41,43 @@ due_allowed st s client None b e told due = absurd due
 due_allowed st s client (Some o) b e told due =
     (due_told st s client o.request.call (ids_of o.request.call o.gathered) b e told due).allowed
 
+-- the machine once it is said
+abbrev pub said_machine : ℕ → Session → Request → Body → Effect → MachineParts → MachineParts
+said_machine client d r b e m = noted client r b (record (performed e client d m) { opens = slice_set m.opens client None })
+
 pub say-legal : (m new : MachineParts) (client : ℕ) (d : Session) (none : Option Open) (o : Open) (b : Body) (e : Effect) → IsLegal m
     → client < length m.sessions → get_or m.opens client none ≡ Some o → b ≢ body.NoMemory
     → IsDueTo m.state (get_or m.sessions client d) client (get_or m.opens client none) b e
-    → new ≡ noted client o.request b (record (performed e client d m) { opens = slice_set m.opens client None })
-    → IsLegal new × IsSameRun m new
+    → new ≡ said_machine client d o.request b e m → IsLegal new × IsSameRun m new
 say-legal m new client d none o b e legal below has told due is =
     let now = due_to m.state (get_or m.sessions client d) client (get_or m.opens client none) o b e told has due in
-    subst (λ n. IsLegal n × IsSameRun m n) (sym is)
-    (said-legal m legal client d none o b e below has told now, (now.definitions, now.shards))
+    let many = opens-many m.state 0 m.sessions m.opens legal.opens in
+    let own = open-at m.state 0 m.sessions m.opens client d none legal.opens below in
+    let own_open : IsOpen m.state (0 + client) (get_or m.sessions client d) (Some o) =
+    subst (IsOpen m.state (0 + client) (get_or m.sessions client d)) has own.1 in
+    let own_client : o.request.client ≡ client = own_open.0 ∙ (let e0 : 0 + client ≡ client = omega arith in e0) in
+    subst (λ n. IsLegal n × IsSameRun m n) (sym is) (
+      said-legal m legal client d o.request (ids_of o.request.call o.gathered) b e below own_client
+          (subst (λ p. IsPermutation (held m.opens) (held_by p ++ held (slice_set m.opens client None))) has
+          (held-at m.opens client none (omega (arith, many, below)))) told now,
+      (now.definitions, now.shards),
+    )
+
+-- a request that is refused at its opening, where none is open
+pub refuse-legal : (m new : MachineParts) (client : ℕ) (d : Session) (r : Request) (b : Body) (e : Effect) → IsLegal m
+    → client < length m.sessions → get_or m.opens client None ≡ None → r.client ≡ client → b ≢ body.NoMemory
+    → IsDuePlan m.state (get_or m.sessions client d) client r.call [] b e → new ≡ noted client r b (performed e client d m)
+    → IsLegal new × IsSameRun m new
+refuse-legal m new client d r b e legal below closed own_client told due is =
+    let now = due_told m.state (get_or m.sessions client d) client r.call [] b e told due in
+    let kept : slice_set m.opens client None ≡ m.opens =
+    ap (slice_set m.opens client) (sym closed) ∙ set-own m.opens client None in
+    subst (λ n. IsLegal n × IsSameRun m n)
+    (ap (λ os. noted client r b (record (performed e client d m) { opens = os })) kept ∙ sym is) (
+      said-legal m legal client d r [] b e below own_client
+          (subst (λ os. IsPermutation (held m.opens) (held os)) (sym kept) (IsPermutation-refl (held m.opens))) told now,
+      (now.definitions, now.shards),
+    )
 
 -- ---- it is told
 

@@ -1,81 +1,64 @@
 -- A step of a client as the machine takes it: what is gathered comes from it.
-use Rattle.std.proofs.Common.{◌≡◌, ℕ, ◌<◌, ◌≤◌, true, length, refl, ap, sym, ◌∙◌, subst, arith, Option, Some, get_or}
+use Rattle.std.proofs.Common.{◌≡◌, ℕ, ◌<◌, ◌≤◌, length, refl, sym, ◌∙◌, subst, Option, Some, None, get_or, ap}
 use Rattle.std.specs.Prelude.{Err, Ok, OnOk, Result, slice_set}
 use Rattle.std.proofs.lemmas.List.{get_or_default}
 use Rattle.ds_base.specs.Limits.{greatest_client}
 use Rattle.ds_request.specs.declared.call.Request.{Request}
 use Rattle.ds_reply.specs.declared.reply.Body.{Body}
-use Rattle.ds_model.specs.Sessions.{Session, count_of}
-use Rattle.ds_plans.specs.declared.effect.Effect.{Effect}
-use Rattle.ds_plans.specs.Due.{counts_applied, is_pending}
-use Rattle.ds_plans.specs.States.{StateParts}
-use Rattle.ds_steps.specs.declared.gathered.Step.{Step}
-use Rattle.ds_steps.specs.declared.gathered.Step.TheVariants as steps
-use Rattle.ds_protocol.specs.declared.operations.Operation.{Operation}
-use Rattle.ds_protocol.specs.declared.operations.OperationRefused.{OperationRefused}
+use Rattle.ds_model.specs.Sessions.{Session, first_session}
+use Rattle.ds_effects.specs.declared.effect.Effect.{Effect}
+use Rattle.ds_effects.specs.declared.gathered.Step.{Step}
+use Rattle.ds_effects.specs.declared.gathered.Step.TheVariants as steps
+use Rattle.ds_machine.specs.declared.opening.Work.{Work}
+use Rattle.ds_machine.specs.States.{StateParts}
 use Rattle.ds_core.specs.declared.opened.Open.{Open}
-use Rattle.ds_core.specs.Happenings.{IsStill}
-use Rattle.ds_core.specs.Machines.{MachineParts, IsLegal, just_opened}
-use Rattle.ds_core.specs.Steps.{AppliedTo, DrawnTo, ViewedTo, touched}
-use Rattle.ds_core.specs.Witnesses.{GathersAt, IsToldTo, OpensAt, RepliesAt}
-use Rattle.ds_core.proofs.Clients.{client-below, client-open}
+use Rattle.ds_core.specs.Happenings.{IsStill, moment_of}
+use Rattle.ds_core.specs.Machines.{MachineParts, IsLegal, IsOpen, IsSameRun, just_opened}
+use Rattle.ds_core.specs.Steps.{SteppedTo}
+use Rattle.ds_core.specs.Takings.{Ends, IsNextOf, IsWaiting, open_of, session_of}
+use Rattle.ds_core.specs.Witnesses.{EndedAt, GathersAt, IsToldTo, OpensAt, RepliesAt, StepsAt}
+use Rattle.ds_core.proofs.OneClient.{client-below, client-open, own-at}
+use Rattle.ds_core.proofs.Ended.{ended-quiet, ended-still}
+use Rattle.ds_core.proofs.Stepping.{IsAsked}
 use Rattle.ds_core.proofs.Taking.{opens-ok}
-use Rattle.ds_core.proofs.Witnessing.{apply-gathers, apply-none, apply-quiet, issue-gathers, touch-gathers, view-gathers}
+use Rattle.ds_core.proofs.Witnessing.{step-gathers}
+use Rattle.ds_machine.specs.Missing.{shown}
+use Rattle.ds_protocol.specs.Operations.{IsOperationOf}
+use Rattle.ds_core.proofs.Lists.{set-others, set-read}
 
 -- `m` are the parts of the machine as it was
 module _ (was m : MachineParts) (is : m ≡ was) (legal : IsLegal was) (client : ℕ) (bound : client ≤ greatest_client) where
   below : client < length m.opens
   below = client-open m (subst IsLegal (sym is) legal) client bound
 
-  pub timed-touch : (n : ℕ) (old new : Option Open) → n ≡ length m.state.store.journal → old ≡ get_or m.opens client old
-      → new ≡ touched n old
-      → GathersAt was.state.store.shards steps.Touch client was (record m { opens = slice_set m.opens client new })
-  timed-touch n old new long had now =
-      subst (λ x. GathersAt x.state.store.shards steps.Touch client x (record m { opens = slice_set m.opens client new })) is
-      (touch-gathers m client old new below m.state.store.shards
-      (now ∙ ap (λ k. touched k old) long ∙ ap (touched (length m.state.store.journal)) had))
+  pub timed-step : {A E : Type 0} (r : Result A E) (st : StateParts) (step : Step) (old new : Option Open)
+      → length m.state.applied.counts ≡ m.state.store.shards → old ≡ get_or m.opens client old
+      → OnOk r (SteppedTo step m.state old st new)
+      → OnOk r (GathersAt was.state.store.shards step client was (record m { state = st; opens = slice_set m.opens client new }))
+  timed-step (Err e) st step old new many had stepped = tt
+  timed-step (Ok x) st step old new many had stepped =
+      let own = own-at m (subst IsLegal (sym is) legal) client bound (first_session 0) old in
+      subst (λ x. GathersAt x.state.store.shards step client x (record m { state = st; opens = slice_set m.opens client new })) is
+      (step-gathers m client old new st below many (asked m.state client (get_or m.sessions client (first_session 0))
+      (get_or m.opens client old) own.1)
+      step (subst (λ o. SteppedTo step m.state o st new) had stepped))
+    where
+      asked : (st : StateParts) (n : ℕ) (s : Session) (o : Option Open) → IsOpen st n s o → IsAsked o
+      asked st n s None is = tt
+      asked st n s (Some o) is = is.4.0
 
-  pub timed-view : {A E : Type 0} (r : Result A E) (st : StateParts) (shard : ℕ) (old new : Option Open)
-      → st.store ≡ m.state.store → st.applied.counts ≡ m.state.applied.counts → old ≡ get_or m.opens client old
-      → OnOk r (ViewedTo shard (count_of m.state.applied.counts shard) old new)
-      → OnOk r (GathersAt was.state.store.shards (steps.View shard) client was
-      (record m { state = st; opens = slice_set m.opens client new }))
-  timed-view (Err e) st shard old new store counts had viewed = tt
-  timed-view (Ok x) st shard old new store counts had viewed =
-      subst (λ x. GathersAt x.state.store.shards (steps.View shard) client x
-      (record m { state = st; opens = slice_set m.opens client new })) is
-      (view-gathers m client old new below m.state.store.shards shard st store counts
-      (subst (λ o. ViewedTo shard (count_of m.state.applied.counts shard) o new) had viewed))
-
-  pub timed-apply-none : (shard : ℕ) → length m.state.applied.counts ≡ m.state.store.shards → m.state.store.shards ≤ shard
-      → GathersAt was.state.store.shards (steps.Apply shard) client was was
-  timed-apply-none shard many beyond =
-      subst (λ x. GathersAt x.state.store.shards (steps.Apply shard) client x x) is
-      (apply-none client shard m (omega (arith, many, beyond)))
-
-  pub timed-raise : (st : StateParts) (shard : ℕ) → st.store ≡ m.state.store → st.applied.counts ≡ counts_applied m.state shard
-      → GathersAt was.state.store.shards (steps.Apply shard) client was (record m { state = st })
-  timed-raise st shard store counts =
-      subst (λ x. GathersAt x.state.store.shards (steps.Apply shard) client x (record m { state = st })) is
-      (apply-quiet client shard m st store counts)
-
-  pub timed-apply : (st : StateParts) (shard n : ℕ) (old new : Option Open) → st.store ≡ m.state.store
-      → shard < length m.state.applied.counts → is_pending m.state shard ≡ true
-      → st.applied.counts ≡ counts_applied m.state shard → n ≡ count_of st.applied.counts shard → old ≡ get_or m.opens client old
-      → AppliedTo shard n old new
-      → GathersAt was.state.store.shards (steps.Apply shard) client was (record m { state = st; opens = slice_set m.opens client new })
-  timed-apply st shard n old new store there pending counts many had applied =
-      subst (λ x. GathersAt x.state.store.shards (steps.Apply shard) client x
-      (record m { state = st; opens = slice_set m.opens client new })) is
-      (apply-gathers m client old new below shard n st store counts there pending many (subst (λ o. AppliedTo shard n o new) had applied))
-
-  pub timed-issue : (st : StateParts) (count : ℕ) (old new : Option Open) → old ≡ get_or m.opens client old
-      → DrawnTo count m.state old st new
-      → GathersAt was.state.store.shards (steps.Issue count) client was (record m { state = st; opens = slice_set m.opens client new })
-  timed-issue st count old new had drawn =
-      subst (λ x. GathersAt x.state.store.shards (steps.Issue count) client x
-      (record m { state = st; opens = slice_set m.opens client new })) is
-      (issue-gathers m client old new below m.state.store.shards count st (subst (λ o. DrawnTo count m.state o st new) had drawn))
+  -- what is gathered is what the step gathers
+  pub timed-steps : {A E : Type 0} (r : Result A E) (st : StateParts) (step : Step) (old new : Option Open)
+      → old ≡ get_or m.opens client old → OnOk r (SteppedTo step m.state old st new)
+      → OnOk r (StepsAt step client was (record m { state = st; opens = slice_set m.opens client new }))
+  timed-steps (Err e) st step old new had stepped = tt
+  timed-steps (Ok x) st step old new had stepped =
+      subst (λ x. StepsAt step client x (record m { state = st; opens = slice_set m.opens client new })) is (record {
+        stepped = subst (λ o. SteppedTo step m.state (get_or m.opens client None) st o) (sym (set-read m.opens client new None below))
+            (subst (λ o. SteppedTo step m.state o st new) (had ∙ get_or_default m.opens client old None below) stepped);
+        opens = set-others m.opens client new None;
+        sessions = refl;
+      })
 
   -- nothing changes but how far the journal was looked at
   pub timed-still : (st : StateParts) → st.store ≡ m.state.store → st.applied.counts ≡ m.state.applied.counts
@@ -93,10 +76,52 @@ module _ (was m : MachineParts) (is : m ≡ was) (legal : IsLegal was) (client :
       (subst (λ q. IsToldTo st s step q b e) (asked ∙ get_or_default m.opens client o p below) told)
 
   pub timed-open : {A E : Type 0} (r : Result A E) (after : MachineParts) (req : Request)
-      (asked : Result Operation OperationRefused) (n : ℕ) (new : Option Open) → new ≡ Some (just_opened req asked n)
+      (work : Work) (n : ℕ) (new : Option Open) → new ≡ Some (just_opened req work n) → get_or was.opens client None ≡ None
+      → n ≡ m.state.store.shards → IsOperationOf req.call work.operation
+      → OnOk r (IsSameRun (record m { opens = slice_set m.opens client new }) after)
       → OnOk r (RepliesAt steps.Touch client (record m { opens = slice_set m.opens client new }) after)
-      → OnOk r (OpensAt was after)
-  timed-open r after req asked n new now replies =
-      subst (λ x. OnOk r (OpensAt x after)) is
-      (opens-ok r m after client req asked n
-      (subst (λ o. OnOk r (RepliesAt steps.Touch client (record m { opens = slice_set m.opens client o }) after)) now replies))
+      → OnOk r (EndedAt steps.Touch client (record m { opens = slice_set m.opens client new }) after)
+      → OnOk r (OpensAt client (Some req) was after)
+  timed-open r after req work n new now closed many of same replies ended =
+      subst (λ x. OnOk r (OpensAt client (Some req) x after)) is
+      (opens-ok r m after client req work n below (ap (λ (x : MachineParts). get_or x.opens client None) is ∙ closed) many of
+      (subst (λ o. OnOk r (IsSameRun (record m { opens = slice_set m.opens client o }) after)) now same)
+      (subst (λ o. OnOk r (RepliesAt steps.Touch client (record m { opens = slice_set m.opens client o }) after)) now replies)
+      (subst (λ o. OnOk r (EndedAt steps.Touch client (record m { opens = slice_set m.opens client o }) after)) now ended))
+
+  -- where nothing is said, and how far the journal was looked at doesn't count
+  pub timed-quiet : (st : StateParts) (step : Step) (s : Session) (o : Option Open) → st.store ≡ m.state.store
+      → st.applied.counts ≡ m.state.applied.counts → s ≡ get_or m.sessions client s → o ≡ get_or m.opens client o
+      → Ends (shown m.state) s step o None o → EndedAt step client was (record m { state = st })
+  timed-quiet st step s o store counts had asked ends =
+      subst (λ x. EndedAt step client x (record m { state = st })) is (ended-quiet step client m st store counts
+      (subst (λ t. Ends (shown m.state) t step (get_or m.opens client None) None (get_or m.opens client None))
+      (had ∙ get_or_default m.sessions client s (first_session 0) (client-below m (subst IsLegal (sym is) legal) client bound))
+      (subst (λ p. Ends (shown m.state) s step p None p) (asked ∙ get_or_default m.opens client o None below) ends)))
+
+  pub timed-ended : {A E : Type 0} (r : Result A E) (st : StateParts) (step : Step) (after : MachineParts) → st.store ≡ m.state.store
+      → st.applied.counts ≡ m.state.applied.counts → OnOk r (EndedAt step client (record m { state = st }) after)
+      → OnOk r (EndedAt step client was after)
+  timed-ended (Err e) st step after store counts ended = tt
+  timed-ended (Ok x) st step after store counts ended =
+      subst (λ x. EndedAt step client x after) is (ended-still step client m after st store counts ended)
+
+  -- what the client's open request waits for
+  pub timed-next : (s : Session) (o : Option Open) (next : Option Step) → s ≡ get_or m.sessions client s
+      → o ≡ get_or m.opens client o → IsNextOf (shown m.state) s o next
+      → IsNextOf (shown was.state) (session_of (moment_of was) client) (open_of (moment_of was) client) next
+  timed-next s o next had asked waits =
+      subst (λ x. IsNextOf (shown x.state) (session_of (moment_of x) client) (open_of (moment_of x) client) next) is
+      (subst (λ t. IsNextOf (shown m.state) t (get_or m.opens client None) next)
+      (had ∙ get_or_default m.sessions client s (first_session 0) (client-below m (subst IsLegal (sym is) legal) client bound))
+      (subst (λ p. IsNextOf (shown m.state) s p next) (asked ∙ get_or_default m.opens client o None below) waits))
+
+  -- it waits for a step
+  pub timed-waits : (s : Session) (o : Option Open) → s ≡ get_or m.sessions client s → o ≡ get_or m.opens client o
+      → IsWaiting (shown was.state) (session_of (moment_of was) client) (open_of (moment_of was) client) → IsWaiting (shown m.state) s o
+  timed-waits s o had asked waits =
+      subst (λ p. IsWaiting (shown m.state) s p) (sym (asked ∙ get_or_default m.opens client o None below))
+      (subst (λ t. IsWaiting (shown m.state) t (get_or m.opens client None))
+      (sym (had ∙ get_or_default m.sessions client s (first_session 0) (client-below m (subst IsLegal (sym is) legal) client bound)))
+      (subst (λ (x : MachineParts). IsWaiting (shown x.state) (session_of (moment_of x) client) (open_of (moment_of x) client)) (sym is)
+      waits))

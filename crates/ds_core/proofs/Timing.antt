@@ -24,23 +24,23 @@ use Rattle.ds_model.specs.Refusals.{Places}
 use Rattle.ds_model.specs.Sessions.{Session, Transaction, count_of}
 use Rattle.ds_model.specs.Worlds.{World}
 use Rattle.ds_model.proofs.OkReplies.{OkAnswers, ok_answers}
-use Rattle.ds_plans.specs.declared.effect.Effect.{Effect}
-use Rattle.ds_steps.specs.declared.gathered.Step.{Step}
-use Rattle.ds_steps.specs.declared.gathered.Step.TheVariants as steps
-use Rattle.ds_plans.specs.Due.{IsDue, ids_from, ids_of}
-use Rattle.ds_steps.specs.Taken.{GatheredParts}
+use Rattle.ds_effects.specs.declared.effect.Effect.{Effect}
+use Rattle.ds_effects.specs.declared.gathered.Step.{Step}
+use Rattle.ds_effects.specs.declared.gathered.Step.TheVariants as steps
+use Rattle.ds_machine.specs.Due.{IsDue, ids_from, ids_of}
+use Rattle.ds_effects.specs.Gathered.{GatheredParts}
 use Rattle.ds_protocol.specs.Operations.{ids_asked}
-use Rattle.ds_plans.specs.Effects.{store_after, session_after}
-use Rattle.ds_plans.specs.States.{StoreParts, world}
-use Rattle.ds_plans.specs.Told.{AreNumbersOf, AreViewsOf, IsCommitBy, IsCountBy, IsPlaceOf, IsSeenBy, IsTold, IsWriteAt}
-use Rattle.ds_core.specs.declared.opened.Open.{Open}
+use Rattle.ds_machine.specs.Effects.{store_after, session_after}
+use Rattle.ds_machine.specs.Missing.{shown}
+use Rattle.ds_machine.specs.States.{StoreParts, world}
+use Rattle.ds_machine.specs.Told.{AreNumbersOf, AreViewsOf, IsCommitBy, IsCountBy, IsPlaceOf, IsSeenBy, IsTold, IsWriteAt}
 use Rattle.ds_core.specs.Happenings.{Happening, Said, said_requests, said_replies}
 use Rattle.ds_core.specs.Machines.{MachineParts, noted, performed}
 use Rattle.ds_core.specs.Timelines.{Occurs, IsTouch, IsCommit, IsCheck, IsView, IsApply, IsIssue, AreViews, IsAppliedThen, IsDrawnThen}
 use Rattle.ds_core.specs.Timelines.{IsPrintedThen, IsSeenThen, IsTimely, IsWrittenThen}
 use Rattle.ds_core.specs.Witnesses.{AreWitnessed, IsGatheredThen, IsOwn, IsRaisedThen, IsSaid, IsTouchedThen, RepliesAt}
 use Rattle.ds_core.proofs.Occurring.{occurs-more, views-are, witnessed-open, witnessed-session}
-use Rattle.ds_core.proofs.Witnessing.{got-at}
+use Rattle.ds_core.proofs.Lists.{got-at}
 
 -- ---- an apply's reply tells of the shard that was asked for
 
@@ -155,24 +155,25 @@ module _ (hs : List Happening) (client : ℕ) (c : Call) (g : GatheredParts) (s 
 
   module _ (step : Step) (old new : MachineParts) (own : IsOwn hs step client old new) (first : ℕ) (added : List Commit)
       (is_added : new.state.store.journal ≡ old.state.store.journal ++ added) where
-    commit-then : (n : ℕ) → n ∷ [] ≡ range_with_len first (length added) → IsCommitBy old.state step n → Occurs (IsCommit client n) hs
+    commit-then : (n : ℕ) → n ∷ [] ≡ range_with_len first (length added) → IsCommitBy (shown old.state) step n
+        → Occurs (IsCommit client n) hs
     commit-then n told is =
         subst (λ k. Occurs (IsCommit client k) hs) (sym is.1)
         (own.commits is.0 (added-one n first old.state.store.journal new.state.store.journal added told is_added))
 
     written-then : (written : WriteAt) → written_commit written ≡ range_with_len first (length added)
-        → IsWriteAt old.state s g step written → IsWrittenThen hs client written
+        → IsWriteAt (shown old.state) s g step written → IsWrittenThen hs client written
     written-then (at.Commit n) told is = commit-then n told is
     written-then (at.Place m) told is = place-then m is
 
-    count-then : (applied : Bool) (count shard : ℕ) → c ≡ call.Apply shard → IsCountBy old.state g step applied count shard
+    count-then : (applied : Bool) (count shard : ℕ) → c ≡ call.Apply shard → IsCountBy (shown old.state) g step applied count shard
         → IsAppliedThen hs client applied shard count
     count-then true count shard asks is = raised-then count shard asks is
     count-then false count shard asks is =
         subst (λ k. Occurs (IsView client shard k) hs) (sym is.1) (own.views shard is.0)
 
     printed-then : (b : Body) → acknowledged_in b ≡ range_with_len first (length added) → OfShard c b
-        → AreNumbersOf old.state s g step b → IsPrintedThen hs client b
+        → AreNumbersOf (shown old.state) s g step b → IsPrintedThen hs client b
     printed-then (body.Put key written) told asks is = written-then written told is
     printed-then (body.Delete key written) told asks is = written-then written told is
     printed-then (body.Get entity m) told asks is = place-then m is
@@ -254,16 +255,16 @@ timely-more hs xs (Some x) is = (
   drawn-more hs xs x.request.client (ids_asked x.request.call) (drawn_by_call x.request.call x.reply.body) is.1,
 )
 
-module _ (m : MachineParts) (client : ℕ) (d : Session) (none : Option Open) (o : Open) (b : Body) (e : Effect) (step : Step)
-    (below : client < length m.sessions) (below_open : client < length m.opens) (has : get_or m.opens client none ≡ Some o)
-    (own_client : o.request.client ≡ client)
-    (due : IsDue m.state (get_or m.sessions client d) client o.request.call (ids_of o.request.call o.gathered) b e)
-    (told : IsTold m.state (get_or m.sessions client d) o.gathered step b e) where
+module _ (m : MachineParts) (client : ℕ) (d : Session) (r : Request) (g : GatheredParts) (b : Body) (e : Effect) (step : Step)
+    (below : client < length m.sessions) (own_client : r.client ≡ client)
+    (gathers : (hs : List Happening) → AreWitnessed hs m.sessions m.opens → IsGatheredThen hs client r.call g)
+    (due : IsDue m.state (get_or m.sessions client d) client r.call (ids_of r.call g) b e)
+    (told : IsTold m.state (get_or m.sessions client d) g step b e) where
   abbrev s : Session
   s = get_or m.sessions client d
 
   abbrev pub machine_then : MachineParts
-  machine_then = noted client o.request b (record (performed e client d m) { opens = slice_set m.opens client None })
+  machine_then = noted client r b (record (performed e client d m) { opens = slice_set m.opens client None })
 
   abbrev journal_then : List Commit
   journal_then = (store_after e m.state.store).journal
@@ -281,8 +282,8 @@ module _ (m : MachineParts) (client : ℕ) (d : Session) (none : Option Open) (o
         by (inr more) = inr (is, more)
 
   module _ (hs : List Happening) (own : IsOwn hs step client m machine_then) (are : AreWitnessed hs m.sessions m.opens) where
-    gathered_then : IsGatheredThen hs client o.request.call o.gathered
-    gathered_then = are.gathered client o (got-at m.opens client none below_open ∙ ap Some has)
+    gathered_then : IsGatheredThen hs client r.call g
+    gathered_then = gathers hs are
 
     touched_then : IsTouchedThen hs client s
     touched_then = are.touched client s (got-at m.sessions client d below)
@@ -291,18 +292,18 @@ module _ (m : MachineParts) (client : ℕ) (d : Session) (none : Option Open) (o
     witnessed_then =
         witnessed-session hs m.sessions (slice_set m.opens client None) client (session_after e m.state.store s)
         (witnessed-open hs m.sessions m.opens client None are (λ p no_open. cc))
-        (λ group place seen_at. place-then hs client o.request.call o.gathered s gathered_then touched_then place
+        (λ group place seen_at. place-then hs client r.call g s gathered_then touched_then place
         (told.touches group place seen_at))
 
-    tells_then : Tells hs o.request (record { client = client; line = length m.replies + 1; body = b })
+    tells_then : Tells hs r (record { client = client; line = length m.replies + 1; body = b })
     tells_then =
-        subst (λ n. IsPrintedThen hs n b × IsDrawnThen hs n (ids_asked o.request.call) (drawn_by_call o.request.call b)) (sym own_client) (
-          printed-then hs client o.request.call o.gathered s gathered_then touched_then step m machine_then own
+        subst (λ n. IsPrintedThen hs n b × IsDrawnThen hs n (ids_asked r.call) (drawn_by_call r.call b)) (sym own_client) (
+          printed-then hs client r.call g s gathered_then touched_then step m machine_then own
               (length m.state.store.journal + 1) due.added due.journal b due.acknowledges
-              (shard-of (world (store_after e m.state.store) None) s (session_after e m.state.store s) client o.request.call b
+              (shard-of (world (store_after e m.state.store) None) s (session_after e m.state.store s) client r.call b
               (due.answers None)) told.numbers,
-          subst (IsDrawnThen hs client (ids_asked o.request.call)) (sym due.draws)
-              (drawn-of hs client o.request.call o.gathered gathered_then),
+          subst (IsDrawnThen hs client (ids_asked r.call)) (sym due.draws)
+              (drawn-of hs client r.call g gathered_then),
         )
 
   pub told-replies : RepliesAt step client m machine_then
@@ -312,7 +313,7 @@ module _ (m : MachineParts) (client : ℕ) (d : Session) (none : Option Open) (o
     next = due.next;
     timely = λ hs own are. (
       witnessed_then hs own are,
-      λ said is. said-timely hs said m.requests m.replies o.request
+      λ said is. said-timely hs said m.requests m.replies r
           (record { client = client; line = length m.replies + 1; body = b }) is.0 is.1 (tells_then hs own are),
     );
   }

@@ -1,29 +1,31 @@
 -- What an open request gathers by a step comes from what happened, or from the step.
-use Rattle.std.proofs.Common.{◌≡◌, ◌⊎◌, inl, inr, ℕ, zero, suc, ◌+◌, ◌<◌, ◌≤◌, List, [], ◌∷◌, ◌++◌, length, refl, ap, sym, ◌∙◌, subst}
-use Rattle.std.proofs.Common.{arith, Bool, true, false, cond, max, Option, Some, None, get_or}
+use Rattle.std.proofs.Common.{◌≡◌, ◌⊎◌, inl, inr, ℕ, ◌+◌, ◌<◌, List, [], ◌∷◌, ◌++◌, length, refl, ap, sym, ◌∙◌, subst}
+use Rattle.std.proofs.Common.{arith, true, Option, Some, None, get_or}
 use Rattle.std.specs.Prelude.{IfSome, slice_get, slice_set}
 use Rattle.ds_log.specs.declared.Commit.{Commit}
-use Rattle.ds_model.specs.Sessions.{Session, count_of, raised_at}
-use Rattle.ds_plans.specs.Due.{counts_applied, is_pending}
-use Rattle.ds_plans.specs.States.{StoreParts, StateParts}
-use Rattle.ds_steps.specs.declared.gathered.Step.{Step}
-use Rattle.ds_steps.specs.declared.gathered.Step.TheVariants as steps
+use Rattle.ds_model.specs.Sessions.{Session, count_of}
+use Rattle.ds_machine.specs.States.{StateParts}
+use Rattle.ds_machine.proofs.Stepped.{raised-one}
+use Rattle.ds_effects.specs.declared.gathered.Step.{Step}
+use Rattle.ds_effects.specs.declared.gathered.Step.TheVariants as steps
 use Rattle.ds_core.specs.declared.opened.Open.{Open}
-use Rattle.ds_core.specs.Happenings.{Happening, moment_of}
+use Rattle.ds_core.specs.Happenings.{Happening}
 use Rattle.ds_core.specs.Machines.{MachineParts}
-use Rattle.ds_core.specs.Steps.{AppliedTo, DrawnTo, ViewedTo, first_place, touched, with_gathered}
-use Rattle.ds_core.specs.Timelines.{Occurs, IsTouch, IsView, IsApply, IsIssue, Moves}
-use Rattle.ds_core.specs.Witnesses.{AreWitnessed, GathersAt, IsGatheredThen, IsRaisedThen}
+use Rattle.ds_protocol.specs.Operations.{ids_asked}
+use Rattle.ds_machine.specs.Gathering.{counts_applied, is_pending}
+use Rattle.ds_effects.specs.Gathered.{first_place}
+use Rattle.ds_machine.specs.Missing.{shown}
+use Rattle.ds_core.specs.Steps.{AppliedTo, SteppedTo, ViewedTo, touched, with_gathered}
+use Rattle.ds_core.proofs.Stepping.{IsAsked, stepped-apply, stepped-commit, stepped-counts, stepped-issue, stepped-journal, stepped-next}
+use Rattle.ds_core.proofs.Stepping.{stepped-touch, stepped-view}
+use Rattle.ds_core.specs.Timelines.{Occurs, IsTouch, IsView, IsApply, IsIssue}
+use Rattle.ds_core.specs.Witnesses.{AreWitnessed, GathersAt, IsGatheredThen, IsRaisedThen, IsStoreAt}
 use Rattle.ds_core.proofs.Occurring.{occurs-last, occurs-more, some-is, set-got, gathered-more, witnessed-more, witnessed-open}
+use Rattle.ds_core.proofs.Lists.{got-at}
 
 -- what a client's open request, if it has one, has gathered
 abbrev pub IsOpenThen : List Happening → ℕ → Option Open → Type 0
 IsOpenThen hs client o = (p : Open) → o ≡ Some p → IsGatheredThen hs client p.request.call p.gathered
-
-pub got-at : {A : Type 0} (xs : List A) (i : ℕ) (d : A) → i < length xs → slice_get xs i ≡ Some (get_or xs i d)
-got-at [] i d below = absurd (omega (arith, below))
-got-at (x ∷ xs) zero d below = refl
-got-at (x ∷ xs) (suc i) d below = got-at xs i d (omega (arith, below))
 
 -- that of one client
 pub open-then : (hs : List Happening) (sessions : List Session) (opens : List (Option Open)) (client : ℕ) (none : Option Open)
@@ -91,178 +93,125 @@ module _ (hs : List Happening) (h : Happening) (client : ℕ) where
         views = before.views;
       })
 
-  drawn-then : (count : ℕ) (st new : StateParts) (old now : Option Open) → IsIssue client count st.store.next h ⊎ (now ≡ old)
-      → DrawnTo count st old new now → IsOpenThen hs client old → IsOpenThen (hs ++ h ∷ []) client now
-  drawn-then count st new old now (inr same) drawn was = kept-then old now same was
-  drawn-then count st new old now (inl is) (inl kept) was = kept-then old now kept.1 was
-  drawn-then count st new old now (inl is) (inr (o, had, asks, none, drawn, given)) was = λ p has.
+  drawn-then : (count first : ℕ) (o : Open) (old now : Option Open) → IsIssue client count first h → old ≡ Some o
+      → ids_asked o.request.call ≡ count → now ≡ Some (with_gathered (record (o.gathered) { first = Some first }) o)
+      → IsOpenThen hs client old → IsOpenThen (hs ++ h ∷ []) client now
+  drawn-then count first o old now is had asks given was = λ p has.
       let before = gathered-more hs (h ∷ []) client o.request.call o.gathered (was o had) in
       subst (λ (q : Open). IsGatheredThen (hs ++ h ∷ []) client q.request.call q.gathered)
-      (some-is (with_gathered (record (o.gathered) { first = Some st.store.next }) o) p (sym given ∙ has))
+      (some-is (with_gathered (record (o.gathered) { first = Some first }) o) p (sym given ∙ has))
       (record {
         place = before.place;
-        first = subst (λ k. Occurs (IsIssue client k st.store.next) (hs ++ h ∷ [])) (sym asks)
-            (occurs-last (IsIssue client count st.store.next) hs h is);
+        first = subst (λ k. Occurs (IsIssue client k first) (hs ++ h ∷ [])) (sym asks) (occurs-last (IsIssue client count first) hs h is);
         applied = before.applied;
         views = before.views;
       })
 
--- ---- counts
-
-raised-count : (shard k : ℕ) (cs : List ℕ) → shard < length cs → count_of (raised_at shard k cs) shard ≡ max (count_of cs shard) k
-raised-count shard k [] below = absurd (omega (arith, below))
-raised-count zero k (c ∷ cs) below = refl
-raised-count (suc shard) k (c ∷ cs) below = raised-count shard k cs (omega (arith, below))
-
-raised-beyond : (shard k : ℕ) (cs : List ℕ) → length cs ≤ shard → raised_at shard k cs ≡ cs
-raised-beyond shard k [] beyond = refl
-raised-beyond zero k (c ∷ cs) beyond = absurd (omega (arith, beyond))
-raised-beyond (suc shard) k (c ∷ cs) beyond = ap (λ ns. c ∷ ns) (raised-beyond shard k cs (omega (arith, beyond)))
-
-either-same : {A : Type 0} (b : Bool) (x y : A) → x ≡ y → cond b x y ≡ y
-either-same true x y same = same
-either-same false x y same = refl
-
--- an Apply that finds an entry raises the shard's count
-pub applied-risen : (st : StateParts) (shard : ℕ) (counts : List ℕ) → shard < length st.applied.counts → is_pending st shard ≡ true
-    → counts ≡ counts_applied st shard → count_of st.applied.counts shard < count_of counts shard
-applied-risen st shard counts below pending now =
-    let n = count_of st.applied.counts shard in
-    let is : count_of counts shard ≡ max n (n + 1) = ap (λ cs. count_of cs shard) (now
-    ∙ ap (λ b. cond b (raised_at shard (n + 1) st.applied.counts) st.applied.counts) pending)
-    ∙ raised-count shard (n + 1) st.applied.counts below in
-    omega (arith, is)
-
 -- ---- what each step of a machine gathers
 
--- nothing
-pub none-gathers : (shards : ℕ) (s : Step) (client : ℕ) (m : MachineParts) → Moves shards s (moment_of m) (moment_of m)
-    → GathersAt shards s client m m
-none-gathers shards s client m moves = record {
-  journal = refl;
-  moves = moves;
-  sessions = refl;
-  witnessed = λ hs h step of before counts next are. witnessed-more hs (h ∷ []) m.sessions m.opens are;
-}
+module _ (m : MachineParts) (client : ℕ) (none now : Option Open) (new : StateParts) (below : client < length m.opens)
+    (many : length m.state.applied.counts ≡ m.state.store.shards) (asked : IsAsked (get_or m.opens client none)) where
+  abbrev old : Option Open
+  old = get_or m.opens client none
 
-pub commit-gathers : (shards client : ℕ) (m : MachineParts) → GathersAt shards steps.Commit client m m
-commit-gathers shards client m =
-    none-gathers shards steps.Commit client m (record { journal = inl refl; counts = refl; next = refl })
+  abbrev pub then : MachineParts
+  then = record m { state = new; opens = slice_set m.opens client now }
 
--- a View of a shard that isn't there
-pub view-none : (shards client shard : ℕ) (m : MachineParts) → GathersAt shards (steps.View shard) client m m
-view-none shards client shard m =
-    none-gathers shards (steps.View shard) client m (record { journal = refl; counts = refl; next = refl })
-
--- an Apply of a shard that isn't there
-pub apply-none : (client shard : ℕ) (m : MachineParts) → length m.state.applied.counts ≤ shard
-    → GathersAt m.state.store.shards (steps.Apply shard) client m m
-apply-none client shard m beyond =
-    none-gathers m.state.store.shards (steps.Apply shard) client m (record {
-      journal = refl;
-      counts = sym (either-same (is_pending m.state shard)
-          (raised_at shard (count_of m.state.applied.counts shard + 1) m.state.applied.counts) m.state.applied.counts
-          (raised-beyond shard (count_of m.state.applied.counts shard + 1) m.state.applied.counts beyond));
-      next = refl;
-    })
-
--- an Apply by which no request gathers anything
-pub apply-quiet : (client shard : ℕ) (m : MachineParts) (new : StateParts) → new.store ≡ m.state.store
-    → new.applied.counts ≡ counts_applied m.state shard
-    → GathersAt m.state.store.shards (steps.Apply shard) client m (record m { state = new })
-apply-quiet client shard m new store counts = record {
-  journal = ap (λ (x : StoreParts). x.journal) store;
-  moves = record {
-    journal = ap (λ (x : StoreParts). x.journal) store;
-    counts = counts;
-    next = ap (λ (x : StoreParts). x.next) store;
-  };
-  sessions = refl;
-  witnessed = λ hs h step of before after next are. witnessed-more hs (h ∷ []) m.sessions m.opens are;
-}
-
-module _ (m : MachineParts) (client : ℕ) (none o : Option Open) (below : client < length m.opens) where
   -- the client's open request is witnessed at the step, and so are all
   with-open : (hs : List Happening) (h : Happening) → AreWitnessed hs m.sessions m.opens
-      → (IsOpenThen hs client (get_or m.opens client none) → IsOpenThen (hs ++ h ∷ []) client o)
-      → AreWitnessed (hs ++ h ∷ []) m.sessions (slice_set m.opens client o)
+      → (IsOpenThen hs client old → IsOpenThen (hs ++ h ∷ []) client now)
+      → AreWitnessed (hs ++ h ∷ []) m.sessions (slice_set m.opens client now)
   with-open hs h are step =
-      witnessed-open (hs ++ h ∷ []) m.sessions m.opens client o (witnessed-more hs (h ∷ []) m.sessions m.opens are)
+      witnessed-open (hs ++ h ∷ []) m.sessions m.opens client now (witnessed-more hs (h ∷ []) m.sessions m.opens are)
       (step (open-then hs m.sessions m.opens client none below are))
 
-  pub touch-gathers : (shards : ℕ) → o ≡ touched (length m.state.store.journal) (get_or m.opens client none)
-      → GathersAt shards steps.Touch client m (record m { opens = slice_set m.opens client o })
-  touch-gathers shards now = record {
-    journal = refl;
-    moves = record { journal = refl; counts = refl; next = refl };
-    sessions = refl;
-    witnessed = λ hs h step of before counts next are. with-open hs h are (λ was.
-        subst (IsOpenThen (hs ++ h ∷ []) client) (sym now)
-        (touched-then hs h client (length m.state.store.journal) (get_or m.opens client none)
-        (of, step, ap (λ (cs : List Commit). length cs) before.journal) was));
-  }
-
-  pub view-gathers : (shards shard : ℕ) (new : StateParts) → new.store ≡ m.state.store → new.applied.counts ≡ m.state.applied.counts
-      → ViewedTo shard (count_of m.state.applied.counts shard) (get_or m.opens client none) o
-      → GathersAt shards (steps.View shard) client m (record m { state = new; opens = slice_set m.opens client o })
-  view-gathers shards shard new store counts viewed = record {
-    journal = ap (λ (x : StoreParts). x.journal) store;
+  pub step-gathers : (step : Step) → SteppedTo step m.state old new now → GathersAt m.state.store.shards step client m then
+  step-gathers steps.Commit is = record {
+    journal = stepped-journal m.state new steps.Commit old now is;
     moves = record {
-      journal = ap (λ (x : StoreParts). x.journal) store;
-      counts = counts;
-      next = ap (λ (x : StoreParts). x.next) store;
+      journal = inl (stepped-journal m.state new steps.Commit old now is);
+      counts = stepped-counts m.state new steps.Commit old now is;
+      next = stepped-next m.state new steps.Commit old now (λ o g. refl) is;
     };
     sessions = refl;
     witnessed = λ hs h step of before after next are. with-open hs h are
-        (viewed-then hs h client shard (count_of m.state.applied.counts shard) (get_or m.opens client none) o
-        (of, step, ap (λ cs. count_of cs shard) (after ∙ counts)) viewed);
+        (kept-then hs h client old now (stepped-commit m.state new old now is));
   }
-
-  pub apply-gathers : (shard n : ℕ) (new : StateParts) → new.store ≡ m.state.store
-      → new.applied.counts ≡ counts_applied m.state shard → shard < length m.state.applied.counts → is_pending m.state shard ≡ true
-      → n ≡ count_of new.applied.counts shard → AppliedTo shard n (get_or m.opens client none) o
-      → GathersAt m.state.store.shards (steps.Apply shard) client m (record m { state = new; opens = slice_set m.opens client o })
-  apply-gathers shard n new store counts there pending is applied = record {
-    journal = ap (λ (x : StoreParts). x.journal) store;
+  step-gathers steps.Touch is = record {
+    journal = stepped-journal m.state new steps.Touch old now is;
     moves = record {
-      journal = ap (λ (x : StoreParts). x.journal) store;
-      counts = counts;
-      next = ap (λ (x : StoreParts). x.next) store;
+      journal = stepped-journal m.state new steps.Touch old now is;
+      counts = stepped-counts m.state new steps.Touch old now is;
+      next = stepped-next m.state new steps.Touch old now (λ o g. refl) is;
+    };
+    sessions = refl;
+    witnessed = λ hs h step of before after next are. with-open hs h are (λ was.
+        subst (IsOpenThen (hs ++ h ∷ []) client) (sym (stepped-touch m.state new old now is))
+        (touched-then hs h client (length m.state.store.journal) old (of, step, ap (λ (cs : List Commit). length cs) before.journal) was));
+  }
+  step-gathers (steps.View shard) is = record {
+    journal = stepped-journal m.state new (steps.View shard) old now is;
+    moves = record {
+      journal = stepped-journal m.state new (steps.View shard) old now is;
+      counts = stepped-counts m.state new (steps.View shard) old now is;
+      next = stepped-next m.state new (steps.View shard) old now (λ o g. refl) is;
     };
     sessions = refl;
     witnessed = λ hs h step of before after next are. with-open hs h are
-        (applied-then hs h client shard n (get_or m.opens client none) o
-        (of, step, risen h before.counts, ap (λ cs. count_of cs shard) after ∙ sym is) applied);
+        (viewed-then hs h client shard (count_of m.state.applied.counts shard) old now
+        (of, step, ap (λ cs. count_of cs shard) (after ∙ stepped-counts m.state new (steps.View shard) old now is))
+        (stepped-view m.state new shard old now is));
+  }
+  step-gathers (steps.Apply shard) is = record {
+    journal = stepped-journal m.state new (steps.Apply shard) old now is;
+    moves = record {
+      journal = stepped-journal m.state new (steps.Apply shard) old now is;
+      counts = counts;
+      next = stepped-next m.state new (steps.Apply shard) old now (λ o g. refl) is;
+    };
+    sessions = refl;
+    witnessed = λ hs h step of before after next are. with-open hs h are
+        (by hs h step of before after (stepped-apply m.state new shard old now asked is));
   } where
-    risen : (h : Happening) → h.before.counts ≡ m.state.applied.counts → count_of h.before.counts shard < n
-    risen h same =
-        let up = applied-risen m.state shard new.applied.counts there pending counts in
-        let at_first : count_of h.before.counts shard ≡ count_of m.state.applied.counts shard = ap (λ cs. count_of cs shard) same in
-        omega (arith, up, at_first, is)
+    counts : new.applied.counts ≡ counts_applied (shown m.state) shard
+    counts = stepped-counts m.state new (steps.Apply shard) old now is
 
-  pub issue-gathers : (shards count : ℕ) (new : StateParts) → DrawnTo count m.state (get_or m.opens client none) new o
-      → GathersAt shards (steps.Issue count) client m (record m { state = new; opens = slice_set m.opens client o })
-  issue-gathers shards count new (inl kept) = record {
-    journal = ap (λ (x : StateParts). x.store.journal) kept.0;
-    moves = record {
-      journal = ap (λ (x : StateParts). x.store.journal) kept.0;
-      counts = ap (λ (x : StateParts). x.applied.counts) kept.0;
-      next = inl (ap (λ (x : StateParts). x.store.next) kept.0);
-    };
-    sessions = refl;
-    witnessed = λ hs h step of before after next are. with-open hs h are
-        (drawn-then hs h client count m.state new (get_or m.opens client none) o (inr kept.1) (inl kept));
-  }
-  issue-gathers shards count new (inr (p, had, asks, first, drawn, given)) = record {
-    journal = ap (λ (x : StateParts). x.store.journal) drawn;
-    moves = record {
-      journal = ap (λ (x : StateParts). x.store.journal) drawn;
-      counts = ap (λ (x : StateParts). x.applied.counts) drawn;
-      next = inr (ap (λ (x : StateParts). x.store.next) drawn);
-    };
-    sessions = refl;
-    witnessed = λ hs h step of before after next are. with-open hs h are
-        (drawn-then hs h client count m.state new (get_or m.opens client none) o
-        (inl (of, step, before.next, next ∙ ap (λ (x : StateParts). x.store.next) drawn))
-        (inr (p, had, asks, first, drawn, given)));
-  }
+    by : (hs : List Happening) (h : Happening) → h.step ≡ steps.Apply shard → h.client ≡ client → IsStoreAt h.before m
+        → h.after.counts ≡ new.applied.counts
+        → (now ≡ old) ⊎ ((is_pending (shown m.state) shard ≡ true) × (shard < m.state.store.shards)
+        × AppliedTo shard (count_of m.state.applied.counts shard + 1) old now)
+        → IsOpenThen hs client old → IsOpenThen (hs ++ h ∷ []) client now
+    by hs h step of before after (inl kept) = kept-then hs h client old now kept
+    by hs h step of before after (inr (pending, there, applied)) =
+        let n = count_of m.state.applied.counts shard in
+        let at_first : count_of h.before.counts shard ≡ n = ap (λ cs. count_of cs shard) before.counts in
+        let at_last : count_of h.after.counts shard ≡ n + 1 = ap (λ cs. count_of cs shard) after
+        ∙ raised-one m.state shard new.applied.counts (omega (arith, there, many)) pending counts in
+        applied-then hs h client shard (n + 1) old now (of, step, omega (arith, at_first, at_last), at_last) applied
+  step-gathers (steps.Issue count) is = by (stepped-issue m.state new count old now asked is) where
+    by : ((new.store.next ≡ m.state.store.next) × (now ≡ old))
+        ⊎ ((o : Open) × (old ≡ Some o) × (ids_asked o.request.call ≡ count) × (o.gathered.first ≡ None)
+        × (new.store.next ≡ m.state.store.next + count)
+        × (now ≡ Some (with_gathered (record (o.gathered) { first = Some m.state.store.next }) o)))
+        → GathersAt m.state.store.shards (steps.Issue count) client m then
+    by (inl (same, kept)) = record {
+      journal = stepped-journal m.state new (steps.Issue count) old now is;
+      moves = record {
+        journal = stepped-journal m.state new (steps.Issue count) old now is;
+        counts = stepped-counts m.state new (steps.Issue count) old now is;
+        next = inl same;
+      };
+      sessions = refl;
+      witnessed = λ hs h step of before after next are. with-open hs h are (kept-then hs h client old now kept);
+    }
+    by (inr (o, had, asks, first, drawn, given)) = record {
+      journal = stepped-journal m.state new (steps.Issue count) old now is;
+      moves = record {
+        journal = stepped-journal m.state new (steps.Issue count) old now is;
+        counts = stepped-counts m.state new (steps.Issue count) old now is;
+        next = inr drawn;
+      };
+      sessions = refl;
+      witnessed = λ hs h step of before after next are. with-open hs h are
+          (drawn-then hs h client count m.state.store.next o old now (of, step, before.next, next ∙ drawn) had asks given);
+    }

@@ -1,24 +1,25 @@
 -- What happens in a run over single events: the steps that were taken, what there was before and after each, and what was said.
-use Rattle.std.specs.Prelude.{◌≡◌, ℕ, ◌+◌, List, [], ◌∷◌, ◌++◌, Option, Some, None, is_some, true, flat_map, map, replicate, slice_get}
-use Rattle.std.specs.Prelude.{slice_set}
-use Rattle.std.specs.Prelude.{unwrap_or}
+use Rattle.std.specs.Prelude.{◌≡◌, ℕ, ◌+◌, List, [], ◌∷◌, ◌++◌, Option, Some, None, flat_map, map, replicate, slice_get}
+use Rattle.std.specs.Prelude.{slice_set, unwrap_or}
 use Rattle.std.specs.Option.{option_map}
 use Rattle.ds_base.specs.Limits.{greatest_client}
 use Rattle.ds_log.specs.declared.Commit.{Commit}
 use Rattle.ds_request.specs.declared.call.Request.{Request}
 use Rattle.ds_reply.specs.declared.reply.Reply.{Reply}
-use Rattle.ds_model.specs.Sessions.{first_id}
-use Rattle.ds_steps.specs.declared.gathered.Step.{Step}
+use Rattle.ds_model.specs.Sessions.{Session, first_id, first_sessions}
+use Rattle.ds_effects.specs.declared.gathered.Step.{Step}
 use Rattle.ds_core.specs.declared.event.Event.{Event}
 use Rattle.ds_core.specs.declared.opened.Open.{Open}
 use Rattle.ds_core.specs.Machines.{MachineParts}
 
--- what there is at one moment: the commits, how many entries of each shard are applied, the id counter, and each client's open request
+-- what there is at one moment: the commits, how many entries of each shard are applied, the id counter, what each client has seen, and its
+-- open request
 pub record Moment : Type 0 where
   pub journal : List Commit
   pub counts : List ℕ
   pub next : ℕ
-  pub asked : List (Option Request)
+  pub sessions : List Session
+  pub opens : List (Option Open)
 
 -- a reply with its request
 pub record Said : Type 0 where
@@ -47,12 +48,14 @@ abbrev pub Speaks : Option Said → Option Request → List (Option Request) →
 Speaks None request before client after = after ≡ slice_set before client request
 Speaks (Some said) request before client after = (request ≡ Some said.request) × (after ≡ slice_set before client None)
 
-abbrev pub Happens : Happening → Type 0
-Happens h = Speaks h.said (opening (asked_by h.before.asked h.client) h.begins) h.before.asked h.client h.after.asked
+-- what is asked by open requests
+abbrev pub asked_of : List (Option Open) → List (Option Request)
+asked_of = map (option_map (λ o. o.request))
 
--- a step that opens no request, of a client that has one open before it
-abbrev pub IsMissing : Happening → Type 0
-IsMissing h = (h.begins ≡ None) × (is_some (asked_by h.before.asked h.client) ≡ true)
+abbrev pub Happens : Happening → Type 0
+Happens h =
+    Speaks h.said (opening (asked_by (asked_of h.before.opens) h.client) h.begins) (asked_of h.before.opens) h.client
+    (asked_of h.after.opens)
 
 -- one after another, from one moment to another
 abbrev pub Follow : Moment → List Happening → Moment → Type 0
@@ -77,18 +80,20 @@ abbrev pub replies_in : List Happening → List Reply
 replies_in = flat_map (λ h. said_replies h.said)
 
 -- no client has a request open
-abbrev pub none_asked : List (Option Request)
-none_asked = replicate (greatest_client + 1) None
+abbrev pub none_open : List (Option Open)
+none_open = replicate (greatest_client + 1) None
 
--- nothing is committed or applied, no id is drawn, and nothing asked
+-- nothing is committed or applied, no id is drawn, nothing is seen, and nothing asked
 abbrev pub first_moment : ℕ → Moment
-first_moment shards = record { journal = []; counts = replicate shards 0; next = first_id; asked = none_asked }
+first_moment shards = record {
+  journal = [];
+  counts = replicate shards 0;
+  next = first_id;
+  sessions = first_sessions shards;
+  opens = none_open;
+}
 
 -- ---- the steps of a machine
-
--- what is asked by open requests
-abbrev pub asked_of : List (Option Open) → List (Option Request)
-asked_of = map (option_map (λ o. o.request))
 
 -- what there is in a machine
 abbrev pub moment_of : MachineParts → Moment
@@ -96,7 +101,8 @@ moment_of m = record {
   journal = m.state.store.journal;
   counts = m.state.applied.counts;
   next = m.state.store.next;
-  asked = asked_of m.opens;
+  sessions = m.sessions;
+  opens = m.opens;
 }
 
 -- a client's turn, in which it may open a request, and at most one reply is given

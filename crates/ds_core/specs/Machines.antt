@@ -1,6 +1,6 @@
 -- What a machine of events keeps, and that what it has said so far is one legal round.
 use Rattle.std.specs.Prelude.{◌≡◌, ℕ, ◌+◌, ◌-◌, ◌≤◌, ◌<◌, List, [], ◌∷◌, ◌++◌, Option, Some, None, length, All, IsTrue, ⊤}
-use Rattle.std.specs.Prelude.{Result, flat_map, get_or, replicate, slice_set, IfSome, IsPermutation}
+use Rattle.std.specs.Prelude.{flat_map, get_or, replicate, slice_set, IfSome, IsPermutation}
 use Rattle.std.specs.List.{range_with_len}
 use Rattle.ds_base.specs.Limits.{greatest_client, most_shards}
 use Rattle.ds_log.specs.declared.Commit.{Commit}
@@ -11,13 +11,17 @@ use Rattle.ds_reply.specs.declared.reply.Reply.{Reply}
 use Rattle.ds_model.specs.Asked.{has_shard}
 use Rattle.ds_model.specs.Legal.{acknowledged, accepted, printed_next}
 use Rattle.ds_model.specs.Sessions.{Session, first_id, first_sessions}
-use Rattle.ds_protocol.specs.declared.operations.Operation.{Operation}
-use Rattle.ds_protocol.specs.declared.operations.OperationRefused.{OperationRefused}
-use Rattle.ds_protocol.specs.Operations.{IsAskedOf}
-use Rattle.ds_plans.specs.declared.effect.Effect.{Effect}
-use Rattle.ds_plans.specs.Due.{IsDuePlan, IsGathered, ids_of}
-use Rattle.ds_plans.specs.Effects.{store_after, session_after}
-use Rattle.ds_plans.specs.States.{StateParts, IsSession, world}
+use Rattle.ds_request.specs.declared.call.Call.{Call}
+use Rattle.ds_protocol.specs.Operations.{IsOperationOf}
+use Rattle.ds_effects.specs.declared.effect.Due.{Due}
+use Rattle.ds_effects.specs.declared.gathered.Step.{Step}
+use Rattle.ds_machine.specs.declared.opening.Work.{Work}
+use Rattle.ds_machine.specs.Missing.{IfReply, IsNext, missing, shown}
+use Rattle.ds_machine.specs.Opening.{IsUnrefused}
+use Rattle.ds_effects.specs.declared.effect.Effect.{Effect}
+use Rattle.ds_machine.specs.Due.{IsDuePlan, IsGathered, ids_of}
+use Rattle.ds_machine.specs.Effects.{store_after, session_after}
+use Rattle.ds_machine.specs.States.{StateParts, IsSession, world}
 use Rattle.ds_core.specs.declared.event.Event.{Event}
 use Rattle.ds_core.specs.declared.opened.Open.{Open}
 use Rattle.ds_core.specs.Rounds.{AreAnswered, AreNumbered, drawn_ids}
@@ -38,12 +42,16 @@ held_by (Some o) = ids_of o.request.call o.gathered
 abbrev pub held : List (Option Open) → List ℕ
 held = flat_map held_by
 
--- a client's open request is lawful and its own, what it asks was taken apart, and what it has gathered is there
+-- the call was taken apart, and nothing refuses it but what a step may find
+abbrev pub IsWorkOf : StateParts → Session → Call → Work → Type 0
+IsWorkOf st s c w = IsOperationOf c w.operation × IsUnrefused st s w.operation w.ready
+
+-- a client's open request is lawful and its own, nothing refused it at its opening, and what it has gathered is there
 abbrev pub IsOpen : StateParts → ℕ → Session → Option Open → Type 0
 IsOpen st client s None = ⊤
 IsOpen st client s (Some o) =
     (o.request.client ≡ client) × IsLawfulCall o.request.call × IsTrue (has_shard st.store.shards o.request.call)
-    × IsGathered st s o.request.call o.gathered × IsAskedOf o.request.call o.asked
+    × IsGathered st s o.request.call o.gathered × IsWorkOf st s o.request.call o.work
 
 -- client by client, from one on
 abbrev pub AreOpen : StateParts → ℕ → List Session → List (Option Open) → Type 0
@@ -68,10 +76,10 @@ pub record IsLegal (m : MachineParts) : Type 0 where
   pub prints : All (λ next. next ≤ m.state.store.next) (flat_map printed_next m.replies)
 
 -- a request that has gathered nothing
-abbrev pub just_opened : Request → Result Operation OperationRefused → ℕ → Open
-just_opened r asked shards = record {
+abbrev pub just_opened : Request → Work → ℕ → Open
+just_opened r work shards = record {
   request = r;
-  asked = asked;
+  work = work;
   gathered = record { place = None; first = None; applied = None; views = replicate shards None };
 }
 
@@ -79,6 +87,13 @@ just_opened r asked shards = record {
 abbrev pub IsDueTo : StateParts → Session → ℕ → Option Open → Body → Effect → Type 0
 IsDueTo st s client None said change = ⊥
 IsDueTo st s client (Some o) said change = IsDuePlan st s client o.request.call (ids_of o.request.call o.gathered) said change
+
+-- what the open request, if there is one, comes to: its reply is due to it, or it waits for the missing step
+abbrev pub IsDueNow : StateParts → Session → ℕ → Step → Option Open → Option Due → Type 0
+IsDueNow st s client taken None d = d ≡ None
+IsDueNow st s client taken (Some o) None = ⊥
+IsDueNow st s client taken (Some o) (Some d) =
+    IfReply d (λ p. IsDueTo st s client (Some o) p.body p.effect) × IsNext (missing (shown st) s o.work.operation o.gathered taken) d
 
 -- the index definitions and the number of shards stay
 abbrev pub IsSameRun : MachineParts → MachineParts → Type 0

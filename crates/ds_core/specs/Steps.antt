@@ -1,32 +1,17 @@
 -- What an open request gathers by a step of its client.
-use Rattle.std.specs.Prelude.{◌≡◌, ◌⊎◌, ℕ, ◌+◌, Option, Some, None, slice_set}
+use Rattle.std.specs.Prelude.{◌≡◌, ◌⊎◌, ℕ, ◌≤◌, Option, Some, None, IfSome, length, slice_set}
 use Rattle.std.specs.Option.{option_map}
-use Rattle.ds_base.specs.Keys.{KeyParts}
 use Rattle.ds_request.specs.declared.call.Call.TheVariants as call
-use Rattle.ds_model.specs.Groups.{place_in}
-use Rattle.ds_model.specs.Sessions.{Session}
-use Rattle.ds_steps.specs.Taken.{GatheredParts}
-use Rattle.ds_protocol.specs.Operations.{ids_asked}
-use Rattle.ds_plans.specs.States.{StateParts}
+use Rattle.ds_effects.specs.declared.gathered.Step.{Step}
+use Rattle.ds_effects.specs.Gathered.{GatheredParts, first_place}
+use Rattle.ds_machine.specs.Gathering.{counts_by, gathered_by, store_by}
+use Rattle.ds_machine.specs.Missing.{shown}
+use Rattle.ds_machine.specs.States.{StateParts}
 use Rattle.ds_core.specs.declared.opened.Open.{Open}
 
 -- the open request has gathered this
 abbrev pub with_gathered : GatheredParts → Open → Open
 with_gathered g o = record o { gathered = g }
-
--- a place up to which a request reads: that of its Touch, or one at which its client's transaction touched a group
-abbrev pub IsReadPlace : Session → GatheredParts → ℕ → Type 0
-IsReadPlace s g place = (g.place ≡ Some place) ⊎ ((group : KeyParts) × (place_in s.transaction group ≡ Some place))
-
--- such a place of the open request
-abbrev pub ReadsUpTo : Session → Option Open → ℕ → Type 0
-ReadsUpTo s None place = ⊥
-ReadsUpTo s (Some o) place = IsReadPlace s o.gathered place
-
--- the first Touch counts
-abbrev pub first_place : ℕ → Option ℕ → Option ℕ
-first_place length None = Some length
-first_place length (Some place) = Some place
 
 -- a Touch, at which the journal has this length
 abbrev pub touched : ℕ → Option Open → Option Open
@@ -45,10 +30,14 @@ AppliedTo shard count old new =
     ⊎ ((o : Open) × (old ≡ Some o) × (o.request.call ≡ call.Apply shard)
     × (new ≡ Some (with_gathered (record (o.gathered) { applied = Some count }) o)))
 
--- so many ids are drawn for a request that asks for so many and has none yet, or none is
-abbrev pub DrawnTo : ℕ → StateParts → Option Open → StateParts → Option Open → Type 0
-DrawnTo count st old st_new new =
-    ((st_new ≡ st) × (new ≡ old))
-    ⊎ ((o : Open) × (old ≡ Some o) × (ids_asked o.request.call ≡ count) × (o.gathered.first ≡ None)
-    × (st_new ≡ record st { store = record (st.store) { next = st.store.next + count } })
-    × (new ≡ Some (with_gathered (record (o.gathered) { first = Some st.store.next }) o)))
+-- there is a place for the View of each shard, and the journal has its place
+pub record IsSteppable (st : StateParts) (g : GatheredParts) : Type 0 where
+  pub views : length g.views ≡ st.store.shards
+  pub place : IfSome g.place (λ m. m ≤ length st.store.journal)
+
+-- a step of a client: its open request, if there is one, gathers what it calls for
+abbrev pub SteppedTo : Step → StateParts → Option Open → StateParts → Option Open → Type 0
+SteppedTo step st None new now = (now ≡ None) × (new.store ≡ st.store) × (new.applied.counts ≡ counts_by (shown st) step)
+SteppedTo step st (Some o) new now =
+    (now ≡ Some (with_gathered (gathered_by (shown st) o.work.operation o.gathered step) o))
+    × (new.store ≡ store_by st o.work.operation o.gathered step) × (new.applied.counts ≡ counts_by (shown st) step)

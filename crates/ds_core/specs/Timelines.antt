@@ -11,8 +11,8 @@ use Rattle.ds_reply.specs.declared.reply.WriteAt.TheVariants as at
 use Rattle.ds_model.specs.Legal.{drawn_by_call}
 use Rattle.ds_model.specs.Sessions.{count_of, raised_at}
 use Rattle.ds_protocol.specs.Operations.{ids_asked}
-use Rattle.ds_steps.specs.declared.gathered.Step.{Step}
-use Rattle.ds_steps.specs.declared.gathered.Step.TheVariants as steps
+use Rattle.ds_effects.specs.declared.gathered.Step.{Step}
+use Rattle.ds_effects.specs.declared.gathered.Step.TheVariants as steps
 use Rattle.ds_core.specs.Happenings.{Happening, Moment, Said}
 
 -- ---- what a step changes

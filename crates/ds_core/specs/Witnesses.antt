@@ -1,22 +1,28 @@
 -- What open requests have gathered and what transactions have touched comes from what happened; and what a machine's calls do to that.
-use Rattle.std.specs.Prelude.{◌≡◌, ◌⊎◌, ℕ, ◌+◌, List, [], ◌∷◌, ◌++◌, Option, Some, None, IfSome, length, slice_get, ⊤}
+use Rattle.std.specs.Prelude.{◌≡◌, ◌⊎◌, ℕ, ◌+◌, List, [], ◌∷◌, ◌++◌, Option, Some, None, IfSome, length, slice_get, slice_set, ⊤}
 use Rattle.ds_base.specs.Keys.{KeyParts}
 use Rattle.ds_log.specs.declared.Commit.{Commit}
 use Rattle.ds_request.specs.declared.call.Call.{Call}
 use Rattle.ds_request.specs.declared.call.Call.TheVariants as call
+use Rattle.ds_request.specs.declared.call.Request.{Request}
 use Rattle.ds_reply.specs.declared.reply.Body.{Body}
+use Rattle.ds_reply.specs.declared.reply.Body.TheVariants as body
 use Rattle.ds_model.specs.Groups.{place_in}
 use Rattle.ds_model.specs.Sessions.{Session, count_of}
-use Rattle.ds_steps.specs.declared.gathered.Step.{Step}
-use Rattle.ds_steps.specs.declared.gathered.Step.TheVariants as steps
-use Rattle.ds_plans.specs.declared.effect.Effect.{Effect}
-use Rattle.ds_steps.specs.Taken.{GatheredParts}
+use Rattle.ds_effects.specs.declared.gathered.Step.{Step}
+use Rattle.ds_effects.specs.declared.gathered.Step.TheVariants as steps
+use Rattle.ds_effects.specs.declared.effect.Due.{Due}
+use Rattle.ds_effects.specs.declared.effect.Effect.{Effect}
+use Rattle.ds_machine.specs.Missing.{IfReply, missing, shown}
+use Rattle.ds_effects.specs.Gathered.{GatheredParts}
 use Rattle.ds_protocol.specs.Operations.{ids_asked}
-use Rattle.ds_plans.specs.States.{StateParts}
-use Rattle.ds_plans.specs.Told.{IsTold}
+use Rattle.ds_machine.specs.States.{StateParts}
+use Rattle.ds_machine.specs.Told.{IsTold}
 use Rattle.ds_core.specs.declared.opened.Open.{Open}
 use Rattle.ds_core.specs.Happenings.{Happening, Moment, Said, moment_of, said_requests, said_replies}
 use Rattle.ds_core.specs.Machines.{MachineParts}
+use Rattle.ds_core.specs.Steps.{SteppedTo}
+use Rattle.ds_core.specs.Takings.{AreOthersSame, Begun, Ends, IsQuiet, IsTaken, Takes, open_of, session_of}
 use Rattle.ds_core.specs.Timelines.{Occurs, IsTouch, IsCommit, IsCheck, IsView, IsApply, IsIssue, IsTimely, Moves}
 
 -- ---- where it comes from
@@ -80,10 +86,40 @@ pub record IsOwn (hs : List Happening) (s : Step) (client : ℕ) (old new : Mach
       → Occurs (IsCheck client (length old.state.store.journal)) hs
   pub views : (shard : ℕ) → s ≡ steps.View shard → Occurs (IsView client shard (count_of old.state.applied.counts shard)) hs
 
--- this is told to the open request and changed by it, by what it has gathered and the step just taken
+-- this is told to the open request and changed by it, by what it has gathered and the step just taken, where no step is missing
 abbrev pub IsToldTo : StateParts → Session → Step → Option Open → Body → Effect → Type 0
 IsToldTo st s step None said change = ⊥
-IsToldTo st s step (Some o) said change = IsTold st s o.gathered step said change
+IsToldTo st s step (Some o) said change =
+    IsTold st s o.gathered step said change
+    × ((missing (shown st) s o.work.operation o.gathered step ≡ None) ⊎ (said ≡ body.NoMemory))
+
+-- where its reply is due
+abbrev pub IsToldNow : StateParts → Session → Step → Option Open → Option Due → Type 0
+IsToldNow st s step o None = ⊤
+IsToldNow st s step o (Some d) = IfReply d (λ p. IsToldTo st s step o p.body p.effect)
+
+-- a step, and what the client's open request gathers by it
+pub record StepsAt (s : Step) (client : ℕ) (old new : MachineParts) : Type 0 where
+  pub stepped : SteppedTo s old.state (open_of (moment_of old) client) new.state (open_of (moment_of new) client)
+  pub opens : new.opens ≡ slice_set old.opens client (open_of (moment_of new) client)
+  pub sessions : new.sessions ≡ old.sessions
+
+-- once a step was taken: what the client's open request comes to
+pub record EndsAt (s : Step) (client : ℕ) (said : Option Said) (old new : MachineParts) : Type 0 where
+  pub ends : Ends (shown old.state) (session_of (moment_of old) client) s (open_of (moment_of old) client) said
+      (open_of (moment_of new) client)
+  pub quiet : said ≡ None → IsQuiet (moment_of old) (moment_of new)
+  pub others : AreOthersSame client (moment_of old) (moment_of new)
+
+abbrev pub EndedAt : Step → ℕ → MachineParts → MachineParts → Type 0
+EndedAt s client old new = (said : Option Said) → IsSaid said old new → EndsAt s client said old new
+
+-- a request opens
+pub record BeginsAt (client : ℕ) (begins : Option Request) (said : Option Said) (old new : MachineParts) : Type 0 where
+  pub begun : Begun (shown old.state) (session_of (moment_of old) client) (open_of (moment_of old) client) begins said
+      (open_of (moment_of new) client)
+  pub quiet : said ≡ None → IsQuiet (moment_of old) (moment_of new)
+  pub others : AreOthersSame client (moment_of old) (moment_of new)
 
 -- What a reply at a step changes: only at a Commit a commit is added. What is gathered and touched then still comes from what happened,
 -- and so do the numbers that it tells.
@@ -96,16 +132,35 @@ pub record RepliesAt (s : Step) (client : ℕ) (old new : MachineParts) : Type 0
       → AreWitnessed hs new.sessions new.opens × ((said : Option Said) → IsSaid said old new → IsTimely hs said)
 
 -- a request opens, and may be replied to at once
-pub record OpensAt (old new : MachineParts) : Type 0 where
+pub record OpensAt (client : ℕ) (begins : Option Request) (old new : MachineParts) : Type 0 where
   pub journal : new.state.store.journal ≡ old.state.store.journal
   pub counts : new.state.applied.counts ≡ old.state.applied.counts
   pub next : new.state.store.next ≡ old.state.store.next
+  pub shards : new.state.store.shards ≡ old.state.store.shards
+  pub begun : (said : Option Said) → IsSaid said old new → BeginsAt client begins said old new
   pub timely : (hs : List Happening) → AreWitnessed hs old.sessions old.opens
       → AreWitnessed hs new.sessions new.opens × ((said : Option Said) → IsSaid said old new → IsTimely hs said)
 
 -- a step is taken, with what it gathers and the reply that it may bring
 pub record TakesAt (shards : ℕ) (s : Step) (client : ℕ) (old new : MachineParts) : Type 0 where
   pub moves : Moves shards s (moment_of old) (moment_of new)
+  pub takes : (said : Option Said) → IsSaid said old new
+      → Takes shards s client (open_of (moment_of old) client) said (moment_of old) (moment_of new)
+  pub timely : (hs : List Happening) (h : Happening) → IsStepOf h s client old new → AreWitnessed hs old.sessions old.opens
+      → AreWitnessed (hs ++ h ∷ []) new.sessions new.opens
+      × ((said : Option Said) → IsSaid said old new → IsTimely (hs ++ h ∷ []) said)
+
+-- an event happens: a request may open, and then a step is taken
+pub record HappensAt (shards : ℕ) (s : Step) (client : ℕ) (begins : Option Request) (old new : MachineParts) : Type 0 where
+  pub moves : Moves shards s (moment_of old) (moment_of new)
+  pub taken : (said : Option Said) → IsSaid said old new → IsTaken shards (record {
+    step = s;
+    client = client;
+    begins = begins;
+    before = moment_of old;
+    after = moment_of new;
+    said = said;
+  })
   pub timely : (hs : List Happening) (h : Happening) → IsStepOf h s client old new → AreWitnessed hs old.sessions old.opens
       → AreWitnessed (hs ++ h ∷ []) new.sessions new.opens
       × ((said : Option Said) → IsSaid said old new → IsTimely (hs ++ h ∷ []) said)

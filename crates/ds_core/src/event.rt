@@ -1,7 +1,7 @@
 //! What a machine of events is given, and what it gives.
 use ds_base::Sequence;
+use ds_effects::Step;
 use ds_log::Journal;
-use ds_plans::Step;
 use ds_reply::Reply;
 use ds_request::Request;
 

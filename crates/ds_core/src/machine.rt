@@ -1,24 +1,27 @@
 //! The machine of events: one store, and for each client what it has seen and its open request.
 ghost use Rattle.std.specs.Prelude.{◌≡◌, ◌≢◌, ◌≤◌, ◌<◌, [], false, None, Some, Option, get_or, is_some, length, slice_set};
-ghost use Rattle.std.specs.Prelude.{IfOk, IfSome, OnOk};
+ghost use Rattle.std.specs.Prelude.{IfOk, IfSome, OnOk, IsTrue};
 ghost use Rattle.ds_base.specs.Limits.{greatest_client, most_shards};
 ghost use Rattle.ds_model.specs.Sessions.{Session};
-ghost use Rattle.ds_steps.specs.declared.gathered.Step.{Step};
-ghost use Rattle.ds_plans.specs.Effects.{IsAllowed};
+ghost use Rattle.ds_effects.specs.declared.gathered.Step.{Step};
+ghost use Rattle.ds_machine.specs.Effects.{IsAllowed};
 ghost use Rattle.ds_core.specs.declared.opened.Open.{Open};
 ghost use Rattle.ds_core.specs.Courses.{IsPast};
-ghost use Rattle.ds_core.specs.Happenings.{Turn};
-ghost use Rattle.ds_core.specs.Machines.{IsDueTo, IsLawfulEvent, IsLawfulRequest, IsLegal, IsSameRun, noted, performed};
-ghost use Rattle.ds_core.specs.Witnesses.{IsToldTo, OpensAt, RepliesAt, TakesAt};
+ghost use Rattle.ds_core.specs.Happenings.{Turn, moment_of};
+ghost use Rattle.ds_core.specs.Takings.{AreWaiting};
+ghost use Rattle.ds_machine.specs.Due.{IsDuePlan};
+ghost use Rattle.ds_machine.specs.Told.{ToldAlways};
+ghost use Rattle.ds_core.specs.Machines.{IsDueTo, IsWorkOf, IsLawfulEvent, IsLawfulRequest, IsLegal, IsSameRun, noted, performed};
+ghost use Rattle.ds_core.specs.Witnesses.{EndedAt, HappensAt, IsToldTo, OpensAt, RepliesAt, TakesAt};
 
+use crate::clients::{first_sessions, none_open};
 use crate::event::{Event, Replies, Requests, Transcript};
 use crate::holding::put;
-use crate::opened::{Open, asked_of, none_open, open_request, plan_open, take_open};
-use crate::sessions::first_sessions;
+use crate::opened::{Open, due_open, open_request, take_open, work_of};
 use ds_base::NoMemory;
+use ds_effects::{Due, Effect, Plan, Session, Step};
 use ds_indexdef::Defs;
-use ds_plans::effect::Effect;
-use ds_plans::{Plan, Session, State, Step};
+use ds_machine::{State, Work, is_no_memory};
 use ds_reply::{Body, Reply};
 use ds_request::Request;
 use std::alloc::{AllocError, Global};
@@ -57,6 +60,7 @@ impl Machine {
         ensures definitions { IfOk result (λ m. m.state.store.definitions ≡ defs) }
         ensures shards { IfOk result (λ m. m.state.store.shards ≡ shards) }
         ensures past { IfOk result (λ m. IsPast shards m []) }
+        ensures waiting { IfOk result (λ m. AreWaiting m.state.store.shards (moment_of m)) }
     {
         let state = State::make(alloc, shards, defs)?;
         let sessions = first_sessions(alloc, shards)?;
@@ -74,10 +78,12 @@ impl Machine {
     pub(crate) fn event(&mut self, alloc: Global, event: Event) -> Result<(), NoMemory>
         requires legal { IsLegal self.old }
         requires lawful { IsLawfulEvent self.old.state.store.shards event }
+        requires waiting { AreWaiting self.old.state.store.shards (moment_of self.old) }
         ensures legal { OnOk result (IsLegal self.new) }
+        ensures waiting { OnOk result (AreWaiting self.new.state.store.shards (moment_of self.new)) }
         ensures same { OnOk result (IsSameRun self.old self.new) }
         ensures turn { OnOk result (Turn self.old self.new event.client event.begins) }
-        ensures timed { OnOk result (TakesAt self.old.state.store.shards event.step event.client self.old self.new) }
+        ensures timed { OnOk result (HappensAt self.old.state.store.shards event.step event.client event.begins self.old self.new) }
     {
         let Event {
             step,
@@ -101,7 +107,7 @@ impl Machine {
         ensures legal { OnOk result (IsLegal self.new) }
         ensures same { OnOk result (IsSameRun self.old self.new) }
         ensures turn { OnOk result (Turn self.old self.new client begins) }
-        ensures timed { OnOk result (OpensAt self.old self.new) }
+        ensures timed { OnOk result (OpensAt client begins self.old self.new) }
     {
         match begins {
             Some(request) => self.begin(alloc, client, request),
@@ -117,19 +123,43 @@ impl Machine {
         ensures legal { OnOk result (IsLegal self.new) }
         ensures same { OnOk result (IsSameRun self.old self.new) }
         ensures turn { OnOk result (Turn self.old self.new client (Some request)) }
-        ensures timed { OnOk result (OpensAt self.old self.new) }
+        ensures timed { OnOk result (OpensAt client (Some request) self.old self.new) }
     {
         if self.has_open(client) {
             drop(request);
             return Ok(());
         }
+        let session = &self.sessions[client as usize];
+        match work_of(alloc, &self.state, session, client, &request.call) {
+            Ok(work) => self.open(alloc, client, request, work),
+            Err(plan) => self.say_refused(alloc, client, request, plan),
+        }
+    }
+
+    /// Opens a request that nothing refuses, and replies where it needs no step.
+    fn open(
+        &mut self,
+        alloc: Global,
+        client: u32,
+        request: Request,
+        work: Work,
+    ) -> Result<(), NoMemory>
+        requires legal { IsLegal self.old }
+        requires client { client ≤ greatest_client }
+        requires lawful { IsLawfulRequest self.old.state.store.shards client request }
+        requires closed { get_or self.old.opens client None ≡ None }
+        requires work { (d : Session) → IsWorkOf self.old.state (get_or self.old.sessions client d) request.call work }
+        ensures legal { OnOk result (IsLegal self.new) }
+        ensures same { OnOk result (IsSameRun self.old self.new) }
+        ensures turn { OnOk result (Turn self.old self.new client (Some request)) }
+        ensures timed { OnOk result (OpensAt client (Some request) self.old self.new) }
+    {
         let shards = self.state.shards();
-        let asked = asked_of(alloc, &request.call);
         open_request(
             alloc,
             &mut self.opens[client as usize],
             request,
-            asked,
+            work,
             shards,
         )?;
         self.advance(alloc, client, Step::Touch)
@@ -164,12 +194,50 @@ impl Machine {
         ensures same { OnOk result (IsSameRun self.old self.new) }
         ensures turn { OnOk result (Turn self.old self.new client None) }
         ensures timed { OnOk result (RepliesAt step client self.old self.new) }
+        ensures ended { OnOk result (EndedAt step client self.old self.new) }
     {
         let session = &self.sessions[client as usize];
         let open = &self.opens[client as usize];
-        match plan_open(alloc, &mut self.state, session, client, open, step) {
-            Some(plan) => self.say(alloc, client, plan),
+        match due_open(alloc, &mut self.state, session, client, open, step) {
+            Some(Due::Reply(plan)) => self.say(alloc, client, plan),
+            Some(Due::Waits(_next)) => Ok(()),
             None => Ok(()),
+        }
+    }
+
+    /// Says why a request is refused at its opening.
+    fn say_refused(
+        &mut self,
+        alloc: Global,
+        client: u32,
+        request: Request,
+        plan: Plan,
+    ) -> Result<(), NoMemory>
+        requires legal { IsLegal self.old }
+        requires client { client ≤ greatest_client }
+        requires lawful { IsLawfulRequest self.old.state.store.shards client request }
+        requires closed { get_or self.old.opens client None ≡ None }
+        requires due { (d : Session) → IsDuePlan self.old.state (get_or self.old.sessions client d) client request.call []
+            plan.body plan.effect }
+        requires told { (d : Session) → ToldAlways self.old.state (get_or self.old.sessions client d) plan.body plan.effect }
+        ensures legal { OnOk result (IsLegal self.new) }
+        ensures same { OnOk result (IsSameRun self.old self.new) }
+        ensures turn { OnOk result (Turn self.old self.new client (Some request)) }
+        ensures timed { OnOk result (OpensAt client (Some request) self.old self.new) }
+    {
+        if is_no_memory(&plan.body) {
+            drop(plan);
+            drop(request);
+            return Err(AllocError);
+        }
+        let Plan { body, effect } = plan;
+        match self.perform(alloc, client, effect) {
+            Ok(()) => self.note(client, request, body),
+            Err(refused) => {
+                drop(body);
+                drop(request);
+                Err(refused)
+            }
         }
     }
 
@@ -184,6 +252,8 @@ impl Machine {
         ensures turn { OnOk result (Turn self.old self.new client None) }
         ensures timed { (step : Step) → ((d : Session) (e : Option Open) → IsToldTo self.old.state (get_or self.old.sessions client d) step
             (get_or self.old.opens client e) plan.body plan.effect) → OnOk result (RepliesAt step client self.old self.new) }
+        ensures ended { (step : Step) → ((d : Session) (e : Option Open) → IsToldTo self.old.state (get_or self.old.sessions client d) step
+            (get_or self.old.opens client e) plan.body plan.effect) → OnOk result (EndedAt step client self.old self.new) }
     {
         if is_no_memory(&plan.body) {
             drop(plan);
@@ -267,14 +337,5 @@ impl Machine {
             replies,
             journal: state.end(),
         }
-    }
-}
-
-fn is_no_memory(body: &Body) -> bool
-    ensures { result ≡ false → body.now ≢ Body.NoMemory }
-{
-    match body {
-        Body::NoMemory => true,
-        _ => false,
     }
 }

@@ -1,47 +1,47 @@
-//! The open request of a client, and the plan of its reply.
-ghost use Rattle.std.specs.Prelude.{◌≡◌, ◌+◌, None, Some, replicate, IfOk, IfSome, OnOk};
-ghost use Rattle.ds_base.specs.Limits.{greatest_client};
+//! The open request of a client.
+ghost use Rattle.std.specs.Prelude.{◌≡◌, [], None, Some, IfErr, IfOk, IfSome, IsTrue, OnOk};
 ghost use Rattle.ds_request.specs.Lawful.{IsLawfulCall};
-ghost use Rattle.ds_protocol.specs.Operations.{IsAskedOf, ids_asked};
-ghost use Rattle.ds_plans.specs.States.{IsSession};
-ghost use Rattle.ds_core.specs.Machines.{IsDueTo, IsOpen, just_opened};
-ghost use Rattle.ds_core.specs.Witnesses.{IsToldTo};
+ghost use Rattle.ds_model.specs.Asked.{has_shard};
+ghost use Rattle.ds_machine.specs.Due.{IsDuePlan};
+ghost use Rattle.ds_machine.specs.States.{AreUpTo, IsSession};
+ghost use Rattle.ds_machine.specs.Told.{ToldAlways};
+ghost use Rattle.ds_core.specs.Machines.{IsDueNow, IsOpen, IsWorkOf, just_opened};
+ghost use Rattle.ds_core.specs.Steps.{IsSteppable, SteppedTo};
+ghost use Rattle.ds_core.specs.Witnesses.{IsToldNow};
 
 use crate::holding::set;
-use ds_base::limits::MAX_CLIENT;
 use ds_base::{NoMemory, TryCopy};
-use ds_plans::{Gathered, Plan, Session, State, Step};
-use ds_protocol::{Operation, OperationRefused, operation_of};
+use ds_effects::{Due, Gathered, Plan, Session, Step};
+use ds_machine::{State, Work};
 use ds_request::{Call, Request};
 use std::alloc::Global;
 
-/// A request that waits for steps of its client: what it asks, taken apart once, or why it asks nothing; and what it has gathered.
+/// A request that waits for steps of its client: what it asks, taken apart once, and what it has gathered.
 #[derive(Drop)]
 pub(crate) struct Open {
     pub(crate) request: Request,
-    pub(crate) asked: Result<Operation, OperationRefused>,
+    pub(crate) work: Work,
     pub(crate) gathered: Gathered,
 }
 
-/// No client has a request open. A refusal is want of memory.
-pub(crate) fn none_open(alloc: Global) -> Result<Vec<Option<Open>>, NoMemory>
-    ensures { IfOk result (λ opens. opens.items ≡ replicate (greatest_client + 1) None) }
-{
-    let mut opens = Vec::new(alloc);
-    for _client in 0..MAX_CLIENT + 1 {
-        opens.push(None)?;
-    }
-    Ok(opens)
-}
-
-/// What a call asks, or why it asks nothing. The call stays, for the transcript.
-pub(crate) fn asked_of(alloc: Global, call: &Call) -> Result<Operation, OperationRefused>
-    requires { IsLawfulCall call.now }
-    ensures { IsAskedOf call.now result }
+/// What a call asks, or the plan of its refusal. The call stays, for the transcript.
+pub(crate) fn work_of(
+    alloc: Global,
+    state: &State,
+    session: &Session,
+    client: u32,
+    call: &Call,
+) -> Result<Work, Plan>
+    requires lawful { IsLawfulCall call.now }
+    requires shard { IsTrue (has_shard state.now.store.shards call.now) }
+    requires seen { IsSession state.now session.now }
+    ensures work { IfOk result (IsWorkOf state.now session.now call.now) }
+    ensures refused { IfErr result (λ p. IsDuePlan state.now session.now client call.now [] p.body p.effect) }
+    ensures told { IfErr result (λ p. ToldAlways state.now session.now p.body p.effect) }
 {
     match call.copy(alloc) {
-        Ok(call) => operation_of(alloc, call),
-        Err(_) => Err(OperationRefused::NoMemory),
+        Ok(call) => state.open(alloc, session, client, call),
+        Err(_) => Err(Plan::no_memory()),
     }
 }
 
@@ -50,10 +50,10 @@ pub(crate) fn open_request(
     alloc: Global,
     open: &mut Option<Open>,
     request: Request,
-    asked: Result<Operation, OperationRefused>,
+    work: Work,
     shards: u32,
 ) -> Result<(), NoMemory>
-    ensures { OnOk result (open.new ≡ Some (just_opened request asked shards)) }
+    ensures { OnOk result (open.new ≡ Some (just_opened request work shards)) }
 {
     match Gathered::nothing(alloc, shards) {
         Ok(gathered) => {
@@ -61,7 +61,7 @@ pub(crate) fn open_request(
                 open,
                 Some(Open {
                     request,
-                    asked,
+                    work,
                     gathered,
                 }),
             );
@@ -69,7 +69,7 @@ pub(crate) fn open_request(
         }
         Err(refused) => {
             drop(request);
-            drop(asked);
+            drop(work);
             Err(refused)
         }
     }
@@ -83,39 +83,45 @@ pub(crate) fn take_open(open: &mut Option<Open>) -> Option<Open>
     open.take()
 }
 
-/// The plan of the reply to the open request, if there is one and nothing is missing.
-pub(crate) fn plan_open(
+/// What the open request, if there is one, comes to at a step.
+pub(crate) fn due_open(
     alloc: Global,
     state: &mut State,
     session: &Session,
     client: u32,
     open: &Option<Open>,
-    step: Step,
-) -> Option<Plan>
+    taken: Step,
+) -> Option<Due>
     requires seen { IsSession state.old session.now }
     requires lawful { IsOpen state.old client session.now open.now }
-    ensures plan { IfSome result (λ p. IsDueTo state.new session.now client open.now p.body p.effect) }
-    ensures told { IfSome result (λ p. IsToldTo state.new session.now step open.now p.body p.effect) }
+    ensures due { IsDueNow state.new session.now client taken open.now result }
+    ensures told { IsToldNow state.new session.now taken open.now result }
     ensures store { state.new.store ≡ state.old.store }
     ensures counts { state.new.applied.counts ≡ state.old.applied.counts }
 {
     match open {
-        Some(open) => state.plan_due(alloc, session, client, &open.asked, &open.gathered, step),
+        Some(open) => {
+            // for the proof alone: it tells that there is a count for each shard
+            let _shards = state.shards();
+            Some(state.due(alloc, session, client, &open.work, &open.gathered, taken))
+        }
         None => None,
     }
 }
 
-/// How many ids the request draws.
-pub(crate) fn ids_asked(call: &Call) -> u64
-    ensures { result ≡ ids_asked call.now }
+/// A step by which an open request, if there is one, gathers something.
+pub(crate) fn step_open(
+    alloc: Global,
+    state: &mut State,
+    open: &mut Option<Open>,
+    step: Step,
+) -> Result<(), NoMemory>
+    requires { IfSome open.old (λ o. IsSteppable state.old o.gathered) }
+    ensures stepped { OnOk result (SteppedTo step state.old open.old state.new open.new) }
+    ensures grows { AreUpTo state.old.applied.counts state.new.applied.counts }
 {
-    match call {
-        Call::Put {
-            key: _,
-            incomplete,
-            properties: _,
-        } if *incomplete => 1,
-        Call::AllocateIds { count } => *count,
-        _ => 0,
+    match open {
+        Some(open) => state.step(alloc, &open.work.operation, &mut open.gathered, step),
+        None => state.step_alone(alloc, step),
     }
 }

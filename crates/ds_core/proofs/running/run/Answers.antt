@@ -1,9 +1,9 @@
 use Rattle.std.proofs.Common.{◌≡◌, ◌∙◌, ◌++◌, [], ◌∷◌, refl, rules}
 use Rattle.std.proofs.lemmas.List.{nil_from_length}
-use Rattle.ds_core.proofs.Clients.{many-opens}
 use Rattle.ds_core.proofs.Legals.{legal-round}
 use Rattle.ds_core.proofs.Runs.{all-taken, first-lawful, more-lawful}
-use Rattle.ds_core.proofs.Turns.{event-then, happened, has-happened, past-then}
+use Rattle.ds_core.proofs.Happened.{event-then, happened, has-happened, past-then}
+use Rattle.ds_core.proofs.Serial.{round-serial}
 use Rattle.ds_core.proofs.running.run.Goals as goal
 
 pub event-requires-clause-lawful : goal.event-requires-clause-lawful
@@ -26,6 +26,7 @@ loop-event-preserved c =
       shards = c.in_ok-event.ensures.same.1 ∙ c.loop-event.invariant.shards;
       lawful = more-lawful c.args.shards asked c.next.new.self.rest.items c.loop-event.event-iterator.rest.items first
           c.loop-event.invariant.lawful;
+      waiting = c.in_ok-event.ensures.waiting;
       happenings = c.loop-event.invariant.happenings ++ now ∷ [];
       past = past-then c.args.shards was is asked.step asked.client asked.begins c.loop-event.invariant.happenings turn
           c.in_ok-event.ensures.timed c.in_ok-event.ensures.same c.loop-event.invariant.past;
@@ -46,5 +47,7 @@ returns-clause-happened c =
     has-happened c.loop-event.machine c.finish.new.self c.loop-event.invariant.happenings c.args.events c.args.shards c.end.result
     c.loop-event.invariant.past
     (all-taken c.loop-event.invariant.happenings c.loop-event.event-iterator.rest.items c.args.events c.loop-event.invariant.taken none)
-    c.in_ok-finish.ensures.goes c.in_ok-finish.ensures.closed
-    (many-opens c.finish.new.self c.in_ok-finish.ensures.legal) c.end.ensures.requests c.end.ensures.replies c.end.ensures.journal
+    c.in_ok-finish.ensures.goes c.in_ok-finish.ensures.closed c.end.ensures.requests c.end.ensures.replies c.end.ensures.journal
+
+pub returns-clause-serial : goal.returns-clause-serial
+returns-clause-serial c = round-serial c.args.defs c.args.shards c.end.result (returns-clause-legal c)

@@ -1,11 +1,14 @@
-use Rattle.std.proofs.Common.{◌<◌, arith, length, subst, sym}
-use Rattle.ds_core.specs.Machines.{MachineParts}
-use Rattle.ds_core.proofs.Clients.{client-open}
+use Rattle.std.proofs.Common.{◌<◌, arith, length, subst, sym, Some}
+use Rattle.ds_core.specs.Machines.{IsDueNow, MachineParts}
+use Rattle.ds_core.specs.Witnesses.{IsToldNow}
+use Rattle.ds_core.proofs.OneClient.{client-open}
 use Rattle.ds_core.proofs.GatheredSteps.{called-due, called-own, called-still}
 use Rattle.ds_core.proofs.Turns.{turn-silent}
 use Rattle.ds_core.proofs.Taking.{replies-none, replies-ok}
-use Rattle.ds_core.proofs.TimedSteps.{timed-still, timed-told}
+use Rattle.ds_core.proofs.TimedSteps.{timed-still, timed-told, timed-ended, timed-quiet}
 use Rattle.ds_core.proofs.machine.Machine.advance.Goals as goal
+use Rattle.ds_core.proofs.Ended.{ends-none, ends-waits, reply-due}
+use Rattle.ds_machine.proofs.Growing.{looked-shown}
 
 pub index-open-requires : goal.index-open-requires
 index-open-requires c =
@@ -13,54 +16,108 @@ index-open-requires c =
     (client-open c.args.self.now c.requires.legal c.args.client c.requires.client) in
     omega (arith, there, c.self.inside.opens.ok.0)
 
-pub plan_open-requires-clause-seen : goal.plan_open-requires-clause-seen
-plan_open-requires-clause-seen c =
+pub due_open-requires-clause-seen : goal.due_open-requires-clause-seen
+due_open-requires-clause-seen c =
     let own = called-own _ _ c.self.view_is c.requires.legal c.args.client c.requires.client
     c.index-session.result.now c.index-open.result.now c.index-session.ensures c.index-open.ensures in
     own.0
 
-pub plan_open-requires-clause-lawful : goal.plan_open-requires-clause-lawful
-plan_open-requires-clause-lawful c =
+pub due_open-requires-clause-lawful : goal.due_open-requires-clause-lawful
+due_open-requires-clause-lawful c =
     let own = called-own _ _ c.self.view_is c.requires.legal c.args.client c.requires.client
     c.index-session.result.now c.index-open.result.now c.index-session.ensures c.index-open.ensures in
     own.1
 
 pub say-requires-clause-legal : goal.say-requires-clause-legal
 say-requires-clause-legal c =
-    let quietly = called-still _ _ c.self.view_is c.requires.legal c.args.client c.requires.client c.plan_open.new.state
-    c.plan_open.ensures.store c.plan_open.ensures.counts in
+    let quietly = called-still _ _ c.self.view_is c.requires.legal c.args.client c.requires.client c.due_open.new.state
+    c.due_open.ensures.store c.due_open.ensures.counts in
     quietly.0
 
 pub say-requires-clause-due : goal.say-requires-clause-due
 say-requires-clause-due c =
-    called-due _ _ c.self.view_is c.requires.legal c.args.client c.requires.client c.plan_open.new.state
-    c.index-session.result.now c.index-open.result.now c.in-Some.plan.body c.in-Some.plan.effect c.index-session.ensures
-    c.index-open.ensures c.in-Some.ensures.plan
+    called-due _ _ c.self.view_is c.requires.legal c.args.client c.requires.client c.due_open.new.state
+    c.index-session.result.now c.index-open.result.now c.in-Some-Reply.plan.body c.in-Some-Reply.plan.effect c.index-session.ensures
+    c.index-open.ensures
+    (reply-due c.due_open.new.state c.index-session.result.now c.args.client c.args.step c.index-open.result.now c.in-Some-Reply.plan
+    (subst (λ d. IsDueNow c.due_open.new.state c.index-session.result.now c.args.client c.args.step c.index-open.result.now (Some d))
+    c.in-Some-Reply.field-0-is c.in-Some-Reply.ensures.due))
+
+pub returns-in-Some-Waits-clause-legal : goal.returns-in-Some-Waits-clause-legal
+returns-in-Some-Waits-clause-legal c =
+    let quietly = called-still _ _ c.self.view_is c.requires.legal c.args.client c.requires.client c.due_open.new.state
+    c.due_open.ensures.store c.due_open.ensures.counts in
+    quietly.0
+
+pub returns-in-Some-Waits-clause-turn : goal.returns-in-Some-Waits-clause-turn
+returns-in-Some-Waits-clause-turn c =
+    let quietly = called-still _ _ c.self.view_is c.requires.legal c.args.client c.requires.client c.due_open.new.state
+    c.due_open.ensures.store c.due_open.ensures.counts in
+    turn-silent c.args.self.now _ c.args.client quietly.2
+
+pub returns-in-Some-Reply-clause-timed : goal.returns-in-Some-Reply-clause-timed
+returns-in-Some-Reply-clause-timed c =
+    replies-ok c.say.result c.args.step c.args.client c.args.self.now _ c.say.new.self
+    (timed-still _ _ c.self.view_is c.requires.legal c.args.client c.requires.client c.due_open.new.state c.due_open.ensures.store
+    c.due_open.ensures.counts)
+    (c.say.ensures.timed c.args.step
+    (timed-told _ _ c.self.view_is c.requires.legal c.args.client c.requires.client c.due_open.new.state
+    c.index-session.result.now c.index-open.result.now c.args.step c.in-Some-Reply.plan.body c.in-Some-Reply.plan.effect
+    c.index-session.ensures
+    c.index-open.ensures (subst (λ d. IsToldNow c.due_open.new.state c.index-session.result.now c.args.step c.index-open.result.now
+    (Some d))
+    c.in-Some-Reply.field-0-is c.in-Some-Reply.ensures.told)))
+
+pub returns-in-Some-Waits-clause-timed : goal.returns-in-Some-Waits-clause-timed
+returns-in-Some-Waits-clause-timed c =
+    replies-none c.args.step c.args.client c.args.self.now _
+    (timed-still _ _ c.self.view_is c.requires.legal c.args.client c.requires.client c.due_open.new.state c.due_open.ensures.store
+    c.due_open.ensures.counts)
 
 pub returns-in-None-clause-legal : goal.returns-in-None-clause-legal
 returns-in-None-clause-legal c =
-    let quietly = called-still _ _ c.self.view_is c.requires.legal c.args.client c.requires.client c.plan_open.new.state
-    c.plan_open.ensures.store c.plan_open.ensures.counts in
+    let quietly = called-still _ _ c.self.view_is c.requires.legal c.args.client c.requires.client c.due_open.new.state
+    c.due_open.ensures.store c.due_open.ensures.counts in
     quietly.0
 
 pub returns-in-None-clause-turn : goal.returns-in-None-clause-turn
 returns-in-None-clause-turn c =
-    let quietly = called-still _ _ c.self.view_is c.requires.legal c.args.client c.requires.client c.plan_open.new.state
-    c.plan_open.ensures.store c.plan_open.ensures.counts in
+    let quietly = called-still _ _ c.self.view_is c.requires.legal c.args.client c.requires.client c.due_open.new.state
+    c.due_open.ensures.store c.due_open.ensures.counts in
     turn-silent c.args.self.now _ c.args.client quietly.2
-
-pub returns-in-Some-clause-timed : goal.returns-in-Some-clause-timed
-returns-in-Some-clause-timed c =
-    replies-ok c.say.result c.args.step c.args.client c.args.self.now _ c.say.new.self
-    (timed-still _ _ c.self.view_is c.requires.legal c.args.client c.requires.client c.plan_open.new.state c.plan_open.ensures.store
-    c.plan_open.ensures.counts)
-    (c.say.ensures.timed c.args.step
-    (timed-told _ _ c.self.view_is c.requires.legal c.args.client c.requires.client c.plan_open.new.state
-    c.index-session.result.now c.index-open.result.now c.args.step c.in-Some.plan.body c.in-Some.plan.effect c.index-session.ensures
-    c.index-open.ensures c.in-Some.ensures.told))
 
 pub returns-in-None-clause-timed : goal.returns-in-None-clause-timed
 returns-in-None-clause-timed c =
     replies-none c.args.step c.args.client c.args.self.now _
-    (timed-still _ _ c.self.view_is c.requires.legal c.args.client c.requires.client c.plan_open.new.state c.plan_open.ensures.store
-    c.plan_open.ensures.counts)
+    (timed-still _ _ c.self.view_is c.requires.legal c.args.client c.requires.client c.due_open.new.state c.due_open.ensures.store
+    c.due_open.ensures.counts)
+
+pub returns-in-Some-Reply-clause-ended : goal.returns-in-Some-Reply-clause-ended
+returns-in-Some-Reply-clause-ended c =
+    timed-ended _ _ c.self.view_is c.requires.legal c.args.client c.requires.client c.say.result c.due_open.new.state c.args.step
+    c.say.new.self c.due_open.ensures.store c.due_open.ensures.counts
+    (c.say.ensures.ended c.args.step
+    (timed-told _ _ c.self.view_is c.requires.legal c.args.client c.requires.client c.due_open.new.state
+    c.index-session.result.now c.index-open.result.now c.args.step c.in-Some-Reply.plan.body c.in-Some-Reply.plan.effect
+    c.index-session.ensures
+    c.index-open.ensures (subst (λ d. IsToldNow c.due_open.new.state c.index-session.result.now c.args.step c.index-open.result.now
+    (Some d))
+    c.in-Some-Reply.field-0-is c.in-Some-Reply.ensures.told)))
+
+pub returns-in-Some-Waits-clause-ended : goal.returns-in-Some-Waits-clause-ended
+returns-in-Some-Waits-clause-ended c =
+    timed-quiet _ _ c.self.view_is c.requires.legal c.args.client c.requires.client c.due_open.new.state c.args.step
+    c.index-session.result.now c.index-open.result.now c.due_open.ensures.store c.due_open.ensures.counts c.index-session.ensures
+    c.index-open.ensures
+    (ends-waits c.self.inside.state c.due_open.new.state c.index-session.result.now c.args.client c.args.step c.in-Some-Waits._next
+    c.index-open.result.now (looked-shown c.self.inside.state c.due_open.new.state c.due_open.ensures.store c.due_open.ensures.counts)
+    (subst (λ d. IsDueNow c.due_open.new.state c.index-session.result.now c.args.client c.args.step c.index-open.result.now (Some d))
+    c.in-Some-Waits.field-0-is c.in-Some-Waits.ensures.due))
+
+pub returns-in-None-clause-ended : goal.returns-in-None-clause-ended
+returns-in-None-clause-ended c =
+    timed-quiet _ _ c.self.view_is c.requires.legal c.args.client c.requires.client c.due_open.new.state c.args.step
+    c.index-session.result.now c.index-open.result.now c.due_open.ensures.store c.due_open.ensures.counts c.index-session.ensures
+    c.index-open.ensures
+    (ends-none c.self.inside.state c.due_open.new.state c.index-session.result.now c.args.client c.args.step c.index-open.result.now
+    c.in-None.ensures.due)

@@ -18,5 +18,6 @@ returns-clause-turn c =
 
 pub returns-clause-timed : goal.returns-clause-timed
 returns-clause-timed c =
-    takes-ok c.advance.result c.args.self.now.state.store.shards c.args.step c.args.client c.args.self.now c.gather.new.self
-    c.advance.new.self c.in_ok-gather.ensures.timed c.in_ok-gather.ensures.silent c.advance.ensures.timed
+    takes-ok c.advance.result c.args.step c.args.client c.args.self.now c.gather.new.self
+    c.advance.new.self c.in_ok-gather.ensures.timed c.in_ok-gather.ensures.steps c.in_ok-gather.ensures.silent c.advance.ensures.timed
+    c.advance.ensures.ended

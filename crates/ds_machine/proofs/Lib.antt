@@ -1,0 +1,16 @@
+pub mod DuePlans
+pub mod Gatherings
+pub mod Grown
+pub mod Growing
+pub mod Left
+pub mod Lifted
+pub mod OperationPlans
+mod Plans
+mod PutPlans
+mod QueryPlans
+pub mod ReadPlans
+pub mod Stepped
+mod ToldPlans
+mod ToldRefusals
+mod TransactionPlans
+mod WriteAnswers

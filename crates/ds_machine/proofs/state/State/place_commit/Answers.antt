@@ -1,0 +1,15 @@
+use Rattle.std.proofs.Common.{◌∙◌, ◌+◌, ap, length, List}
+use Rattle.ds_base.specs.Keys.{KeyParts}
+use Rattle.ds_log.specs.declared.Commit.{Commit}
+use Rattle.ds_model.specs.Sessions.{next_above}
+use Rattle.ds_machine.specs.States.{StateParts}
+use Rattle.ds_machine.proofs.WriteAnswers.{commit_planned_as}
+use Rattle.ds_machine.proofs.state.State.place_commit.Goals as goal
+
+pub returns-clause-plan : goal.returns-clause-plan
+returns-clause-plan c =
+    commit_planned_as c.args.self.now c.args.session.now c.args.client c.args.write c.requires.writable c.requires.seen
+    (length c.journal.result.now + 1) c.next_above-next.result c.in-Ok.draft c.requires.outside
+    (ap (λ (cs : List Commit). length cs + 1) (c.journal.ensures.value ∙ ap (λ (st : StateParts). st.store.journal) c.self.view_is))
+    (c.next_above-next.ensures ∙ ap next_above (c.as_slice.ensures ∙ c.elems.ensures.value ∙ ap (λ (k : KeyParts). k.elems) c.key.ensures))
+    c.in-Ok.ensures

@@ -1,0 +1,12 @@
+pub mod Answered
+pub mod Due
+pub mod Effects
+pub mod Gathering
+pub mod Missing
+pub mod Opening
+pub mod Queries
+pub mod ReadDues
+pub mod Reads
+pub mod States
+pub mod Told
+pub mod WritePlans

@@ -1,0 +1,27 @@
+-- What is kept of a request that waits for steps of its client.
+use Rattle.std.specs.Prelude.{◌≡◌, Option, Some, None, IsTrue, ⊤}
+use Rattle.ds_log.specs.Ids.{first_unissued}
+use Rattle.ds_model.specs.Asked.{has_shard}
+use Rattle.ds_model.specs.Refusals.{ancestor_group_refusal, refusal_of}
+use Rattle.ds_model.specs.Sessions.{Session}
+use Rattle.ds_protocol.specs.declared.operations.Operation.{Operation}
+use Rattle.ds_protocol.specs.declared.operations.Operation.TheVariants as operation
+use Rattle.ds_protocol.specs.declared.preparing.Ready.{Ready}
+use Rattle.ds_protocol.specs.Operations.{IsLawfulOperation, call_of, written_path}
+use Rattle.ds_machine.specs.Queries.{IsPrepared}
+use Rattle.ds_machine.specs.States.{StateParts}
+
+-- a search is prepared, and its group may be touched
+abbrev pub IsReadyFor : StateParts → Session → Operation → Option Ready → Type 0
+IsReadyFor st s (operation.Find search) (Some ready) =
+    IsPrepared st s search ready × (ancestor_group_refusal s.transaction search.query.ancestor ≡ None)
+IsReadyFor st s (operation.Find search) None = ⊥
+IsReadyFor st s _ ready = ⊤
+
+-- nothing refuses it but what a step may find: its ids were tested, its search is made ready, and its shard is there
+pub record IsUnrefused (st : StateParts) (s : Session) (o : Operation) (made : Option Ready) : Type 0 where
+  pub lawful : IsLawfulOperation o
+  pub shard : IsTrue (has_shard st.store.shards (call_of o))
+  pub unrefused : refusal_of st.store.definitions s (call_of o) ≡ None
+  pub issued : first_unissued st.store.next (written_path o) ≡ None
+  pub ready : IsReadyFor st s o made

@@ -1,0 +1,117 @@
+//! Queries and statements.
+ghost use Rattle.std.specs.Prelude.{◌≡◌, map, IfOk};
+ghost use Rattle.ds_query.specs.Lawful.{IsLawfulNormal};
+ghost use Rattle.ds_request.specs.declared.call.Call.{Call};
+ghost use Rattle.ds_applied.specs.AppliedLists.{AreCounts, shard_views};
+ghost use Rattle.ds_entity.specs.EntityOrder.{sorted_by_key};
+ghost use Rattle.ds_protocol.specs.Finishing.{AreByKey};
+ghost use Rattle.ds_protocol.specs.Quiet.{IsQuiet};
+ghost use Rattle.ds_protocol.specs.Searches.{IsSearchOf};
+ghost use Rattle.ds_machine.specs.Answered.{IsPlan};
+ghost use Rattle.ds_machine.specs.Queries.{IsGroupSearch, IsPrepared, told_over};
+ghost use Rattle.ds_machine.specs.Told.{ToldAtPlace};
+
+use crate::state::State;
+use ds_base::{Counts, NoMemory};
+use ds_effects::Session;
+use ds_effects::effect::{Effect, GroupRead, Plan};
+use ds_entity::{Entity, Seen};
+use ds_plain::answer_of;
+use ds_protocol::{Ready, Search, finish};
+use ds_reply::Body;
+use std::alloc::Global;
+
+impl State {
+    /// What a search finds is told, whose group's shard has applied its entries up to the place.
+    pub(crate) fn find_in_group(
+        &self,
+        alloc: Global,
+        session: &Session,
+        client: u32,
+        search: &Search,
+        ready: &Ready,
+        read: GroupRead,
+    ) -> Plan
+        requires prepared { IsPrepared self.now session.now search.now ready.now }
+        requires reached { IsGroupSearch self.now session.now search.now read }
+        ensures plan { (call : Call) → IsSearchOf call search.now → IsPlan self.now session.now client call result.body result.effect }
+        ensures told { ToldAtPlace self.now session.now read.place result.body result.effect }
+    {
+        let Ok(visible) = self.applied.visible(alloc, read.shard, read.entries) else {
+            return Plan::no_memory();
+        };
+        let Ok(entities) = visible.entities(alloc) else {
+            return Plan::no_memory();
+        };
+        let seen = Seen::Place(read.place);
+        match find(alloc, search, ready, entities.as_slice(), seen) {
+            Ok(body) => {
+                Plan {
+                    body,
+                    effect: Effect::ReadGroup(read),
+                }
+            }
+            Err(_) => { Plan::no_memory() }
+        }
+    }
+
+    /// What the reply says of the results among the entities of all shards at these counts. A refusal is want of memory.
+    pub(crate) fn find_at_counts(
+        &self,
+        alloc: Global,
+        search: &Search,
+        ready: &Ready,
+        counts: Counts,
+    ) -> Result<Body, NoMemory>
+        requires lawful { IsLawfulNormal ready.now.normal }
+        requires counts { AreCounts self.now.applied.lists counts }
+        ensures found { IfOk result (λ b. b ≡ told_over search.now ready.now.normal ready.now.window
+            (sorted_by_key (shard_views self.now.applied.lists counts)) (Seen.Counts counts)) }
+        ensures quiet { IfOk result IsQuiet }
+    {
+        let visible = match self.applied.all_visible(alloc, counts.as_slice()) {
+            Ok(visible) => visible,
+            Err(error) => {
+                return Err(error);
+            }
+        };
+        let entities = match visible.entities(alloc) {
+            Ok(entities) => entities,
+            Err(error) => {
+                return Err(error);
+            }
+        };
+        find(
+            alloc,
+            search,
+            ready,
+            entities.as_slice(),
+            Seen::Counts(counts),
+        )
+    }
+}
+
+/// What the reply says of the results of a prepared search over entities, which stand by key. A refusal is want of memory.
+fn find(
+    alloc: Global,
+    search: &Search,
+    ready: &Ready,
+    entities: &[&Entity],
+    seen: Seen,
+) -> Result<Body, NoMemory>
+    requires lawful { IsLawfulNormal ready.now.normal }
+    requires by_key { AreByKey (map (λ e. e.now) entities.now) }
+    ensures found { IfOk result (λ b. b ≡ told_over search.now ready.now.normal ready.now.window (map (λ e. e.now) entities.now) seen) }
+    ensures quiet { IfOk result IsQuiet }
+{
+    let page = answer_of(alloc, entities, &ready.normal, &ready.window)?;
+    finish(
+        alloc,
+        search,
+        &ready.normal,
+        entities,
+        page.rows,
+        page.next.as_ref(),
+        seen,
+    )
+}
