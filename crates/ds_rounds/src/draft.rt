@@ -30,7 +30,8 @@ pub(crate) struct Draft {
     spans: Vec<Span>,
     /// How many lines there are.
     count: usize,
-    /// How many bytes of them are kept.
+    /// How many bytes they count towards the most of a round: of a line that is too long, whose bytes are dropped, one more than a
+    /// line may have.
     total: usize,
     /// Where the line that is being read begins.
     start: usize,
