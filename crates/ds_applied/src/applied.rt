@@ -27,7 +27,7 @@ pub struct Applied {
 impl Model for Applied {
     ghost use Rattle.std.specs.Prelude.{◌≤◌, length};
     ghost use Rattle.ds_base.specs.Limits.{most_shards};
-    ghost use Rattle.ds_applied.specs.AppliedLists.{AppliedParts, entries_of, applied_of};
+    ghost use Rattle.ds_applied.specs.AppliedLists.{AppliedParts, AreCounts, entries_of, applied_of};
 
     ghost Value = { AppliedParts };
 
@@ -38,7 +38,8 @@ impl Model for Applied {
       counts = applied_of a.shards.items;
     } };
 
-    ghost invariant = { λ a. (1 ≤ length a.shards.items) × (length a.shards.items ≤ most_shards) };
+    ghost invariant = { λ a. (1 ≤ length a.shards.items) × (length a.shards.items ≤ most_shards)
+        × AreCounts (entries_of a.shards.items) (applied_of a.shards.items) };
 }
 
 impl Applied {
@@ -58,13 +59,14 @@ impl Applied {
         })
     }
 
-    /// How many shards there are, 1 to 16, with a list and a count for each.
+    /// How many shards there are, 1 to 16, with a list and a count for each, of no more entries than are on the list.
     pub fn shards(&self) -> u32
         ensures value { result ≡ self.now.shards }
         ensures least { 1 ≤ self.now.shards }
         ensures most { self.now.shards ≤ most_shards }
         ensures lists { length self.now.lists ≡ self.now.shards }
         ensures counts { length self.now.counts ≡ self.now.shards }
+        ensures within { AreCounts self.now.lists self.now.counts }
     {
         self.shards.len() as u32
     }

@@ -1,11 +1,13 @@
 //! The journal with its heads and the id counter.
-ghost use Rattle.std.specs.Prelude.{◌≡◌, ◌+◌, ◌<◌, ◌≤◌, ◌^◌, ◌↔◌, ◌++◌, ◌∷◌, [], None, Some, cond, length, IsOk, IfOk, IfErr, OnOk, OnErr};
+ghost use Rattle.std.specs.Prelude.{◌≡◌, ◌+◌, ◌<◌, ◌≤◌, ◌^◌, ◌↔◌, ◌++◌, ◌∷◌, [], List, None, Some, cond, length};
+ghost use Rattle.std.specs.Prelude.{IsOk, IfOk, IfErr, OnOk, OnErr};
 ghost use Rattle.std.specs.List.{All, list_any};
 ghost use Rattle.std.specs.Option.{option_map};
 ghost use Rattle.std.specs.Result.{result_err};
 ghost use Rattle.ds_base.specs.Keys.{KeyParts};
 ghost use Rattle.ds_base.specs.KeyOrder.{same_key};
 ghost use Rattle.ds_base.specs.Limits.{first_drawn_id, greatest_id};
+ghost use Rattle.ds_log.specs.declared.Touch.{Touch};
 ghost use Rattle.ds_log.specs.Conflicts.{conflict_from, conflict_of};
 ghost use Rattle.ds_log.specs.Heads.{last_noted};
 ghost use Rattle.ds_log.specs.Ids.{AreIssued, unissued_id};
@@ -87,6 +89,14 @@ impl Book {
             next: _next,
         } = self;
         Journal::from(journal)
+    }
+
+    /// The heads of the groups' logs, which tell the conflict of any touched groups with the journal. It takes no memory.
+    pub fn heads(&self) -> &Heads
+        ensures { (touched : List Touch) → conflict_from (last_noted result.now) result.now.commits 0 touched
+            ≡ conflict_of self.now.journal touched }
+    {
+        &self.heads
     }
 
     /// The answer on conflicts that `commit` would give to the draft: the first touched group that a commit after its touch

@@ -1,6 +1,6 @@
 //! A transaction before its commit.
 ghost use Rattle.std.specs.Prelude.{◌≡◌, ◌+◌, ◌<◌, ◌≤◌, ◌⊎◌, ◌++◌, ◌∷◌, [], Some, None, length, unwrap_or};
-ghost use Rattle.std.specs.Prelude.{IsOk, IfOk, IfErr, OnOk, OnErr};
+ghost use Rattle.std.specs.Prelude.{slice_get, IsOk, IfOk, IfErr, OnOk, OnErr};
 ghost use Rattle.std.specs.Option.{option_copied, option_map};
 ghost use Rattle.std.specs.Result.{result_err};
 ghost use Rattle.ds_base.specs.Limits.{most_groups, most_writes};
@@ -79,6 +79,16 @@ impl Txn {
         ensures { result ≡ touch_place group.now self.now.touched }
     {
         self.groups.get(group).copied()
+    }
+
+    /// The i-th touched group in touch order, the first one being that at 0; `None` exactly where there are no more. It takes no memory.
+    pub fn group(&self, i: usize) -> Option<&Key>
+        ensures { option_copied result ≡ option_map (λ t. t.group) (slice_get self.now.touched i) }
+    {
+        match self.groups.get_index(i) {
+            Some((group, _)) => Some(group),
+            None => None,
+        }
     }
 
     /// How many writes there are, at most 500. It takes no memory.
