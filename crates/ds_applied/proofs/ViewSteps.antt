@@ -65,34 +65,17 @@ views_all lists counts n are whole =
 
 -- ---- counts
 
-AreCounts-push : (lists : List (List Entry)) (counts : List ℕ) (l : List Entry) (c : ℕ) → AreCounts lists counts → c ≤ length l
-    → AreCounts (lists ++ l ∷ []) (counts ++ c ∷ [])
-AreCounts-push [] [] l c are low = (low, tt)
-AreCounts-push (k ∷ lists) (d ∷ counts) l c are low = (are.0, AreCounts-push lists counts l c are.1 low)
-AreCounts-push [] (d ∷ counts) l c are low = absurd are
-AreCounts-push (k ∷ lists) [] l c are low = absurd are
-
-entries-push : (ss : List AppliedShard) (s : AppliedShard) → entries_of (ss ++ s ∷ []) ≡ entries_of ss ++ s.entries ∷ []
-entries-push [] s = refl
-entries-push (t ∷ ss) s = ap (λ ls. t.entries ∷ ls) (entries-push ss s)
-
 applied-push : (ss : List AppliedShard) (s : AppliedShard) → applied_of (ss ++ s ∷ []) ≡ applied_of ss ++ s.applied ∷ []
 applied-push [] s = refl
 applied-push (t ∷ ss) s = ap (λ ns. t.applied ∷ ns) (applied-push ss s)
 
 -- one shard's count more
 pub counts_more : (ss : List AppliedShard) (i : ℕ) (s : AppliedShard) (counts : List ℕ) (c : ℕ) → i < length ss → s ≡ get_or ss i s
-    → c ≡ s.applied
-    → s.applied ≤ length s.entries → counts ≡ applied_of (take i ss) → AreCounts (entries_of (take i ss)) counts
-    → (counts ++ c ∷ [] ≡ applied_of (take (i + 1) ss)) × AreCounts (entries_of (take (i + 1) ss)) (counts ++ c ∷ [])
-counts_more ss i s counts c below is count within so_far are =
+    → c ≡ s.applied → counts ≡ applied_of (take i ss) → counts ++ c ∷ [] ≡ applied_of (take (i + 1) ss)
+counts_more ss i s counts c below is count so_far =
     let more : take (i + 1) ss ≡ take i ss ++ s ∷ [] = take_more ss i s below ∙ ap (λ t. take i ss ++ t ∷ []) (sym is) in
-    let pushed : AreCounts (entries_of (take i ss) ++ s.entries ∷ []) (counts ++ c ∷ []) =
-    AreCounts-push (entries_of (take i ss)) counts s.entries c are (omega (arith, count, within)) in (
-      ap (λ cs. cs ++ c ∷ []) so_far ∙ ap (λ d. applied_of (take i ss) ++ d ∷ []) count
-          ∙ sym (ap applied_of more ∙ applied-push (take i ss) s),
-      subst (λ ls. AreCounts ls (counts ++ c ∷ [])) (sym (ap entries_of more ∙ entries-push (take i ss) s)) pushed,
-    )
+    ap (λ cs. cs ++ c ∷ []) so_far ∙ ap (λ d. applied_of (take i ss) ++ d ∷ []) count
+    ∙ sym (ap applied_of more ∙ applied-push (take i ss) s)
 
 -- ---- one shard among all
 

@@ -7,4 +7,4 @@ loop-shard-preserved c =
     let below : c.loop-shard.shard-index < length c.as_slice-shard-items.result.now = search rules in
     rw c.in_ok-push.ensures.items
     (counts_more c.as_slice-shard-items.result.now c.loop-shard.shard-index c.shard-item.result c.loop-shard.counts.items c.applied.result
-    below c.shard-item.is c.applied.ensures.value c.applied.ensures.within c.loop-shard.invariant.0 c.loop-shard.invariant.1)
+    below c.shard-item.is c.applied.ensures.value c.loop-shard.invariant)

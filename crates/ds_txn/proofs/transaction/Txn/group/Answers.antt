@@ -14,6 +14,6 @@ returns-in-Some c =
 
 pub returns-in-None : goal.returns-in-None
 returns-in-None c =
-    ap (λ o. option_map (λ (t : Touch). t.group) (option_map touch_of o)) c.in-None.ensures
+    ap (λ o. option_map (λ (t : Touch). t.group) (option_map touch_of o)) c.in-None.ensures.entry
     ∙ ap (option_map (λ (t : Touch). t.group)) (sym (slice_get-map touch_of c.self.inside.groups.entries c.args.i))
     ∙ ap (λ (t : TxnParts). option_map (λ (u : Touch). u.group) (slice_get t.touched c.args.i)) c.self.view_is
