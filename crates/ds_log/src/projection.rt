@@ -122,8 +122,28 @@ fn entry_for(alloc: Global, number: u64, group: Key, writes: &Writes) -> Result<
 pub fn groups_of(alloc: Global, writes: &Writes) -> Result<Vec<Key>, NoMemory>
     ensures { IfOk result (λ groups. groups.items ≡ groups_of writes.now) }
 {
+    match writes.as_slice() {
+        [only] => group_alone(alloc, only),
+        several => distinct_groups(alloc, several),
+    }
+}
+
+/// The group of the only write, which most commits have: no set is made for it.
+fn group_alone(alloc: Global, write: &Write) -> Result<Vec<Key>, NoMemory>
+    ensures { IfOk result (λ groups. groups.items ≡ groups_of (write.now ∷ [])) }
+{
+    let group = write.key().root(alloc)?;
+    let mut groups = Vec::with_capacity(alloc, 1)?;
+    groups.push(group)?;
+    Ok(groups)
+}
+
+/// The groups that are written, each once, by root key, by way of a set.
+fn distinct_groups(alloc: Global, writes: &[Write]) -> Result<Vec<Key>, NoMemory>
+    ensures { IfOk result (λ groups. groups.items ≡ groups_of writes.now) }
+{
     let mut sorted = BTreeSet::new(alloc);
-    for write in writes.as_slice() {
+    for write in writes {
         let group = write.key().root(alloc)?;
         sorted.insert(group)?;
     }

@@ -17,7 +17,7 @@ use Rattle.ds_base.specs.KeyOrder.{bytes_cmp}
 use Rattle.ds_base.specs.KeyOrderLaws.{bytes_cmp-same}
 use Rattle.ds_entity.specs.Entities.{EntityParts, names_ascend}
 use Rattle.ds_base.specs.declared.index_value.IndexValue.{IndexValue}
-use Rattle.ds_rows.specs.IndexedValues.{property_values, indexed_values}
+use Rattle.ds_rows.specs.IndexedValues.{property_values, value_count, indexed_values}
 
 less_from : (r : Ordering) → IsTrue (is_lt r) → r ≡ Less
 less_from Less t = refl
@@ -106,6 +106,17 @@ named_at (p ∷ ps) lists k name values t of_each within named is e same =
     is ∙ ap (λ (ls : List (List IndexValue)). get_or ls k values) of_each ∙ get_or-map property_values (p ∷ ps) k p values within
     ∙ ap (λ (o : Option Property). option_map_or property_values o []) (sym found)
     ∙ ap (λ (qs : List Property). option_map_or property_values (find (λ q. bytes_eq q.name name) qs) []) (sym same)
+
+-- and so many are they
+pub counted_at : (ps : List Property) (counts : List ℕ) (k : ℕ) (name : List ℕ) (d : ℕ) → IsTrue (names_ascend ps)
+    → counts ≡ map value_count ps → k < length ps → ((d : Property) → bytes_cmp (get_or ps k d).name name ≡ Equal)
+    → (e : EntityParts) → e.properties ≡ ps → get_or counts k d ≡ length (indexed_values e name)
+counted_at [] counts k name d t of_each within named e same = absurd (omega arith)
+counted_at (p ∷ ps) counts k name d t of_each within named e same =
+    let values : List IndexValue = property_values (get_or (p ∷ ps) k p) in
+    ap (λ (ns : List ℕ). get_or ns k d) of_each ∙ get_or-map value_count (p ∷ ps) k p d within
+    ∙ ap length (named_at (p ∷ ps) (map property_values (p ∷ ps)) k name values t refl within named
+    (sym (get_or-map property_values (p ∷ ps) k p values within)) e same)
 
 -- no value is found by a name that stands between those of two neighbours
 pub named_nowhere : (ps : List Property) (i : ℕ) (name : List ℕ)

@@ -7,8 +7,7 @@ use Rattle.std.proofs.lemmas.List.Sums.{sum_by-cons}
 use Rattle.std.proofs.Math.Nat.{mul_assoc}
 use Rattle.std.proofs.lemmas.Bool.{cases_lt}
 use Rattle.ds_entity.specs.declared.entity.Property.{Property}
-use Rattle.ds_base.specs.declared.index_value.IndexValue.{IndexValue}
-use Rattle.ds_rows.specs.IndexedValues.{property_values}
+use Rattle.ds_rows.specs.IndexedValues.{value_count}
 use Rattle.ds_base.specs.Limits.{greatest_told}
 use Rattle.ds_rows.specs.Counts.{product}
 
@@ -43,14 +42,12 @@ product_done f xs i count most whole all told so_far =
     let one : count ≡ min (count * 1) most = omega arith in
     one ∙ ap (λ n. min (count * n) most) (sym left) ∙ so_far
 
--- two rows for each of the values, list by list and property by property
-pub two_each : (ps : List Property) → sum_by (λ values. 2 * length values) (map property_values ps)
-    ≡ sum_by (λ p. 2 * length (property_values p)) ps
+-- two rows for each value, count by count and property by property
+pub two_each : (ps : List Property) → sum_by (λ n. 2 * n) (map value_count ps) ≡ sum_by (λ p. 2 * value_count p) ps
 two_each [] = refl
 two_each (p ∷ ps) =
-    sum_by-cons (λ (values : List IndexValue). 2 * length values) (property_values p) (map property_values ps)
-    ∙ ap (λ n. 2 * length (property_values p) + n) (two_each ps)
-    ∙ sym (sum_by-cons (λ (p : Property). 2 * length (property_values p)) p ps)
+    sum_by-cons (λ (n : ℕ). 2 * n) (value_count p) (map value_count ps) ∙ ap (λ n. 2 * value_count p + n) (two_each ps)
+    ∙ sym (sum_by-cons (λ (p : Property). 2 * value_count p) p ps)
 
 -- the rows of the properties and those of the composite indexes
 pub counts_joined : (a b single composite added count : ℕ) → single ≡ min (1 + a) greatest_told → composite ≡ min b greatest_told

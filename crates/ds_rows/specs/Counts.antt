@@ -5,7 +5,7 @@ use Rattle.ds_entity.specs.Entities.{EntityParts}
 use Rattle.ds_indexdef.specs.declared.IndexDef.{IndexDef}
 use Rattle.ds_rows.specs.declared.refused.RowsRefused.{RowsRefused}
 use Rattle.ds_rows.specs.declared.refused.RowsRefused.TheVariants.{TooManyRows, NoMemory}
-use Rattle.ds_rows.specs.IndexedValues.{kind_in, property_values, indexed_values}
+use Rattle.ds_rows.specs.IndexedValues.{kind_in, value_count, indexed_values}
 use Rattle.ds_base.specs.KeyColumn.{is_key_name}
 
 -- the product of the numbers, and 1 where there are none
@@ -25,7 +25,7 @@ composite_count e d = product (map (λ c. column_count e c.name) d.columns) * co
 -- one row by kind, two for each property and indexed value of it, and those of the composite indexes of the kind
 abbrev pub row_count : List IndexDef → EntityParts → ℕ
 row_count defs e =
-    1 + sum_by (λ p. 2 * length (property_values p)) e.properties
+    1 + sum_by (λ p. 2 * value_count p) e.properties
     + sum_by (λ d. cond (kind_in d.kind e.key) (composite_count e d) 0) defs
 
 -- the number of rows; above 20,000 the refusal, which tells the number, or 2^63 - 1 where it is larger

@@ -1,5 +1,5 @@
 -- What the indexes hold of an entity: its kind, and the values of its properties.
-use Rattle.std.specs.Prelude.{ℕ, Bool, List, [], ◌∷◌, bytes_eq, codes, cond, find, filter_map, flat_map, fold, map}
+use Rattle.std.specs.Prelude.{ℕ, Bool, List, [], ◌∷◌, bytes_eq, codes, cond, find, filter_map, flat_map, fold, length, map}
 use Rattle.std.specs.Option.{option_map_or}
 use Rattle.std.specs.BTreeSet.{insert_key}
 use Rattle.ds_base.specs.declared.key.Elem.{Elem}
@@ -34,6 +34,10 @@ kind_in kind k = bytes_eq kind (kind_of k)
 -- long texts and blobs
 abbrev pub property_values : Property → List IndexValue
 property_values p = cond p.indexed (fold (insert_key index_value_cmp) [] (filter_map index_of p.values)) []
+
+-- how many there are
+abbrev pub value_count : Property → ℕ
+value_count p = length (property_values p)
 
 -- the indexed values of the property of this name, each once, ascending; none where the entity hasn't this property
 abbrev pub indexed_values : EntityParts → List ℕ → List IndexValue

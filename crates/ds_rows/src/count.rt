@@ -2,13 +2,13 @@
 ghost use Rattle.std.specs.Prelude.{◌≡◌, ℕ, ◌+◌, ◌*◌, ◌≤◌, min, map, length, sum_by, cond, IsTrue, IfOk};
 ghost use Rattle.ds_base.specs.Limits.{greatest_told};
 ghost use Rattle.ds_entity.specs.Entities.{EntityParts, names_ascend};
-ghost use Rattle.ds_rows.specs.IndexedValues.{property_values, kind_in};
+ghost use Rattle.ds_rows.specs.IndexedValues.{value_count, kind_in};
 ghost use Rattle.ds_rows.specs.Counts.{product, column_count, composite_count, row_count, IsCounted};
 
-use crate::indexed::{indexed_lists, kind_of, values_named};
+use crate::indexed::{count_named, indexed_counts, kind_of};
 use crate::refused::RowsRefused;
 use ds_base::limits::{MAX_INDEX_ROWS, MAX_TOLD_SIZE};
-use ds_base::{Column, IndexValues, is_key_name};
+use ds_base::{Column, is_key_name};
 use ds_entity::Entity;
 use ds_indexdef::{Defs, IndexDef};
 use std::alloc::Global;
@@ -18,14 +18,14 @@ use std::alloc::Global;
 /// values of its columns, once for each element of the path where it has the ancestor flag. The row in the index of all
 /// entities isn't counted. Above 20,000 it answers TooManyRows with the number, or with 2^63 - 1 where that is less.
 ///
-/// It takes memory for the indexed values.
+/// It takes memory for a number a property, and for the indexed values of those that have several.
 pub fn count_rows(alloc: Global, defs: &Defs, entity: &Entity) -> Result<u64, RowsRefused>
     ensures { IsCounted (row_count defs.now entity.now) result }
 {
     let properties = entity.properties().as_slice();
-    let lists = indexed_lists(alloc, properties)?;
-    let single = single_count(lists.as_slice());
-    let composite = composite_counts(defs.as_slice(), entity, lists.as_slice());
+    let counts = indexed_counts(alloc, properties)?;
+    let single = single_count(counts.as_slice());
+    let composite = composite_counts(defs.as_slice(), entity, counts.as_slice());
     checked(single.saturating_add(composite).min(MAX_TOLD_SIZE))
 }
 
@@ -40,40 +40,40 @@ fn checked(count: u64) -> Result<u64, RowsRefused>
     Ok(count)
 }
 
-/// One row by kind, and two for each of these values, or 2^63 - 1 where there are more.
-fn single_count(lists: &[IndexValues]) -> u64
-    ensures { result ≡ min (1 + sum_by (λ values. 2 * length values) lists.now) greatest_told }
+/// One row by kind, and two for each value of these counts, or 2^63 - 1 where there are more.
+fn single_count(counts: &[u64]) -> u64
+    ensures { result ≡ min (1 + sum_by (λ n. 2 * n) counts.now) greatest_told }
 {
     let mut count = 1u64;
-    for values in lists {
-        let rows = (values.len() as u64).saturating_mul(2).min(MAX_TOLD_SIZE);
+    for values in counts {
+        let rows = values.saturating_mul(2).min(MAX_TOLD_SIZE);
         count = count.saturating_add(rows).min(MAX_TOLD_SIZE);
     }
     count
 }
 
 /// The rows in the composite indexes of the entity's kind, or 2^63 - 1 where there are more.
-fn composite_counts(defs: &[IndexDef], entity: &Entity, lists: &[IndexValues]) -> u64
-    requires { lists.now ≡ map property_values entity.now.properties }
+fn composite_counts(defs: &[IndexDef], entity: &Entity, counts: &[u64]) -> u64
+    requires { counts.now ≡ map value_count entity.now.properties }
     ensures { result ≡ min (sum_by (λ d. cond (kind_in d.kind entity.now.key) (composite_count entity.now d) 0) defs.now) greatest_told }
 {
     let mut count = 0u64;
     for def in defs {
-        let rows = composite_count(def, entity, lists);
+        let rows = composite_count(def, entity, counts);
         count = count.saturating_add(rows).min(MAX_TOLD_SIZE);
     }
     count
 }
 
 /// The rows in one composite index, or 2^63 - 1 where there are more; none where it is of another kind.
-fn composite_count(def: &IndexDef, entity: &Entity, lists: &[IndexValues]) -> u64
-    requires { lists.now ≡ map property_values entity.now.properties }
+fn composite_count(def: &IndexDef, entity: &Entity, counts: &[u64]) -> u64
+    requires { counts.now ≡ map value_count entity.now.properties }
     ensures { result ≡ min (cond (kind_in def.now.kind entity.now.key) (composite_count entity.now def.now) 0) greatest_told }
 {
     if def.kind.bytes() != kind_of(entity.key()) {
         return 0;
     }
-    let combinations = combinations(def.columns.as_slice(), entity, lists);
+    let combinations = combinations(def.columns.as_slice(), entity, counts);
     let ancestors = if def.ancestor {
         entity.key().elems().len() as u64
     } else {
@@ -83,26 +83,26 @@ fn composite_count(def: &IndexDef, entity: &Entity, lists: &[IndexValues]) -> u6
 }
 
 /// How many ways there are to take one value per column, or 2^63 - 1 where there are more.
-fn combinations(columns: &[Column], entity: &Entity, lists: &[IndexValues]) -> u64
-    requires { lists.now ≡ map property_values entity.now.properties }
+fn combinations(columns: &[Column], entity: &Entity, counts: &[u64]) -> u64
+    requires { counts.now ≡ map value_count entity.now.properties }
     ensures { result ≡ min (product (map (λ c. column_count entity.now c.name) columns.now)) greatest_told }
 {
     let mut count = 1u64;
     for column in columns {
         count = count
-            .saturating_mul(column_count(column, entity, lists))
+            .saturating_mul(column_count(column, entity, counts))
             .min(MAX_TOLD_SIZE);
     }
     count
 }
 
 /// How many values the entity has in the column.
-fn column_count(column: &Column, entity: &Entity, lists: &[IndexValues]) -> u64
-    requires { lists.now ≡ map property_values entity.now.properties }
+fn column_count(column: &Column, entity: &Entity, counts: &[u64]) -> u64
+    requires { counts.now ≡ map value_count entity.now.properties }
     ensures { result ≡ column_count entity.now column.now.name }
 {
     if is_key_name(&column.name) {
         return 1;
     }
-    values_named(entity.properties().as_slice(), lists, &column.name).len() as u64
+    count_named(entity.properties().as_slice(), counts, &column.name)
 }

@@ -1,10 +1,10 @@
 //! What the indexes hold of an entity.
-ghost use Rattle.std.specs.Prelude.{◌≡◌, ◌∷◌, [], map, fold, filter_map, IsTrue, IfOk, OnOk};
+ghost use Rattle.std.specs.Prelude.{◌≡◌, ◌∷◌, [], length, map, fold, filter_map, IsTrue, IfOk, OnOk};
 ghost use Rattle.ds_entity.specs.Entities.{EntityParts, names_ascend};
 ghost use Rattle.ds_base.specs.IndexOrder.{index_value_cmp};
 ghost use Rattle.ds_base.specs.Values.{index_of};
 ghost use Rattle.std.specs.BTreeSet.{insert_key};
-ghost use Rattle.ds_rows.specs.IndexedValues.{kind_of, property_values, indexed_values};
+ghost use Rattle.ds_rows.specs.IndexedValues.{kind_of, property_values, value_count, indexed_values};
 
 use ds_base::{IndexValue, IndexValues, Key, NoMemory, TextString, Value};
 use ds_entity::{Entity, Property};
@@ -36,6 +36,18 @@ pub(crate) fn indexed_lists(
     Ok(lists)
 }
 
+/// How many values of each property its indexes hold, in the order of the properties.
+pub(crate) fn indexed_counts(alloc: Global, properties: &[Property]) -> Result<Vec<u64>, NoMemory>
+    ensures { IfOk result (λ counts. counts.items ≡ map value_count properties.now) }
+{
+    let mut counts = Vec::with_capacity(alloc, properties.len())?;
+    for property in properties {
+        let count = value_count(alloc, property)?;
+        counts.push(count)?;
+    }
+    Ok(counts)
+}
+
 /// The values that the indexes hold of the entity's property of this name, each once, ascending; none where it has no such property.
 /// One pass over the properties. A refusal is want of memory.
 pub fn indexed_values(
@@ -63,6 +75,29 @@ fn property_values(alloc: Global, property: &Property) -> Result<IndexValues, No
     match property.values.as_slice() {
         [only] => value_alone(alloc, only),
         _ => distinct_values(alloc, property),
+    }
+}
+
+/// How many values of a property its indexes hold. It takes memory only where there are several.
+fn value_count(alloc: Global, property: &Property) -> Result<u64, NoMemory>
+    ensures { IfOk result (λ count. count ≡ value_count property.now) }
+{
+    if !property.indexed {
+        return Ok(0);
+    }
+    match property.values.as_slice() {
+        [only] => Ok(count_alone(only)),
+        _ => Ok(distinct_values(alloc, property)?.len() as u64),
+    }
+}
+
+/// Whether an index holds a property's only value: 1, or 0 of a long text and a blob.
+fn count_alone(value: &Value) -> u64
+    ensures { result ≡ length (filter_map index_of (value.now ∷ [])) }
+{
+    match value {
+        Value::Text(_) | Value::Blob(_) => 0,
+        _ => 1,
     }
 }
 
@@ -119,5 +154,17 @@ pub(crate) fn values_named<'a>(
     match properties.binary_search_by(|p| p.name.cmp(name)) {
         Ok(place) => lists[place].as_slice(),
         Err(_) => &[],
+    }
+}
+
+/// How many values the property of this name has, out of the counts of all properties; 0 where there is no such property.
+pub(crate) fn count_named(properties: &[Property], counts: &[u64], name: &TextString) -> u64
+    requires ascending { IsTrue (names_ascend properties.now) }
+    requires theirs { counts.now ≡ map value_count properties.now }
+    ensures { (e : EntityParts) → e.properties ≡ properties.now → result ≡ length (indexed_values e name.now) }
+{
+    match properties.binary_search_by(|p| p.name.cmp(name)) {
+        Ok(place) => counts[place],
+        Err(_) => 0,
     }
 }

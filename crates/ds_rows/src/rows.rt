@@ -20,6 +20,9 @@ use ds_entity::{Entity, Property};
 use ds_indexdef::Defs;
 use std::alloc::Global;
 
+/// Room for the bytes of most keys and most fronts of rows, so that they don't move as they grow.
+const ROOM: usize = 64;
+
 /// The rows of the entity in all indexes, with these definitions of composite indexes: in the index of all entities, in that of
 /// its kind, in an ascending and a descending index for each property, and in the composite indexes of its kind. Each row is
 /// there once, however many there are.
@@ -34,12 +37,20 @@ pub fn rows_of(alloc: Global, defs: &Defs, entity: &Entity) -> Result<RowSet, No
 {
     let properties = entity.properties().as_slice();
     let lists = indexed_lists(alloc, properties)?;
-    let mut key = Buffer::new(alloc);
-    encode_key(entity.key(), false, &mut key)?;
+    let mut suffix = Buffer::new(alloc);
+    suffix.make_room(ROOM)?;
+    encode_key(entity.key(), false, &mut suffix)?;
     let mut front = Buffer::new(alloc);
+    front.make_room(ROOM)?;
     let mut rows = RowWriter::new(alloc);
-    put_key_rows(entity, key.bytes(), &mut front, &mut rows)?;
-    put_property_rows(entity, lists.as_slice(), key.bytes(), &mut front, &mut rows)?;
+    put_key_rows(entity, suffix.bytes(), &mut front, &mut rows)?;
+    put_property_rows(
+        entity,
+        lists.as_slice(),
+        suffix.bytes(),
+        &mut front,
+        &mut rows,
+    )?;
     put_composite_rows(alloc, defs, entity, lists.as_slice(), &mut front, &mut rows)?;
     Ok(rows.finish())
 }
