@@ -11,3 +11,4 @@ pub mod SortedRefs
 pub mod StrongViews
 pub mod UpTo
 pub mod ViewSteps
+pub mod Within

@@ -92,6 +92,7 @@ impl Shard {
         ensures ok { OnOk result (self.new.applied ≡ self.old.applied + 1) }
         ensures err { OnErr result (self.new.applied ≡ self.old.applied) }
         ensures entries { self.new.entries ≡ self.old.entries }
+        ensures within { self.new.applied ≤ length self.new.entries }
     {
         while self.has_writes_left() {
             self.apply_write(alloc)?;
