@@ -1,12 +1,13 @@
 -- Windows between ends, and what texts that are no cursors refuse.
-use Rattle.std.proofs.Common.{◌≡◌, ℕ, ◌≤◌, ◌<◌, arith, length, get_or, Bool, true, false, List, [], ◌∷◌, Option, Some, None, Ok, refl, ap}
-use Rattle.std.proofs.Common.{sym, ◌∙◌, subst}
+use Rattle.std.proofs.Common.{◌≡◌, ℕ, ◌≤◌, ◌<◌, arith, length, get_or, Bool, true, false, List, [], ◌∷◌, Option, Some, None, Ok, Err, refl}
+use Rattle.std.proofs.Common.{ap, sym, ◌∙◌, subst}
 use Rattle.ds_query.specs.declared.branch.Branch.{Branch}
 use Rattle.ds_query.specs.declared.branch.Window.{Window}
 use Rattle.ds_query.specs.declared.field.Field.{Field}
 use Rattle.ds_query.specs.declared.field.Field.TheVariants as field
 use Rattle.ds_query.specs.declared.row.Place.{Place}
 use Rattle.ds_query.specs.Lawful.{IsPlaceless}
+use Rattle.ds_cursor.specs.declared.cursor.CursorRefused.{CursorRefused}
 use Rattle.ds_cursor.specs.Cursors.{CursorParts, CursorIs, PartsAre, OfBranch, IsPlaceIn, parts_of, is_of_branch}
 use Rattle.ds_reply.specs.declared.reply.Body.{Body}
 use Rattle.ds_model.specs.Answers.{place_found, window_of}
@@ -36,6 +37,12 @@ pub told-unrefused : (f : Field) (e : End) → cursor_refusal f (told e) ≡ Non
 told-unrefused f end.Nothing = refl
 told-unrefused f end.BeforeFirst = refl
 told-unrefused f (end.Behind place) = refl
+
+-- a text that is no cursor of the branch is refused
+pub text_refused : (q : Branch) (f : Field) (text : List ℕ) (o : Option (List ℕ)) (why : CursorRefused) (b : Body) → o ≡ Some text
+    → CursorIs q text (Err why) → cursor_refusal f (Refused why) ≡ Some b → IsEndRefused q f o b
+text_refused q f text o why b is read refused =
+    subst (λ o. IsEndRefused q f o b) (sym is) (record { end = Refused why; read = read; refused = refused })
 
 pub in_any_case : (o : Option Body) (F : Type 0) → F → IfUnrefused o F
 in_any_case None F fact = fact

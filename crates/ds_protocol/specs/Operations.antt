@@ -1,21 +1,17 @@
 -- What a request asks, taken apart: which call it stands for, and what of it the store is asked.
-use Rattle.std.specs.Prelude.{◌≡◌, ◌≤◌, ◌⊎◌, ℕ, true, List, [], Option, Some, None, Result, Ok, Err, ⊤, IsTrue}
-use Rattle.std.specs.Option.{option_map}
+use Rattle.std.specs.Prelude.{◌≡◌, ◌≤◌, ◌⊎◌, ℕ, true, List, [], Some, None, Err, ⊤, IsTrue}
 use Rattle.ds_base.specs.declared.key.Elem.{Elem}
-use Rattle.ds_base.specs.Keys.{KeyParts, root_of, ends_in_id}
+use Rattle.ds_base.specs.Keys.{ends_in_id}
 use Rattle.ds_indexdef.specs.declared.IndexDef.{IndexDef}
 use Rattle.ds_request.specs.declared.call.Call.{Call}
 use Rattle.ds_request.specs.declared.call.Call.TheVariants as call
 use Rattle.ds_reply.specs.declared.reply.Body.{Body}
 use Rattle.ds_model.specs.Asked.{search_of}
-use Rattle.ds_model.specs.Refusals.{group_asked, refusal_of}
+use Rattle.ds_model.specs.Refusals.{refusal_of}
 use Rattle.ds_model.specs.Sessions.{Session}
 use Rattle.ds_protocol.specs.declared.operations.Operation.{Operation}
 use Rattle.ds_protocol.specs.declared.operations.Operation.TheVariants as operation
 use Rattle.ds_protocol.specs.declared.searching.Search.{Search}
-use Rattle.ds_protocol.specs.declared.operations.OperationRefused.{OperationRefused}
-use Rattle.ds_protocol.specs.declared.operations.OperationRefused.TheVariants as refused
-use Rattle.ds_protocol.specs.Refused.{operation_body}
 use Rattle.ds_protocol.specs.Searches.{IsLawfulSearch, IsSearchOf}
 
 -- the query of a search as a call
@@ -54,20 +50,6 @@ abbrev pub IsAlwaysRefused : Call → Body → Type 0
 IsAlwaysRefused c b =
     (search_of c ≡ Some (Err b))
     ⊎ ((search_of c ≡ None) × ((definitions : List IndexDef) (s : Session) → refusal_of definitions s c ≡ Some b))
-
--- what was asked: the operation, or why there is none; want of memory is free
-abbrev pub IsAskedOf : Call → Result Operation OperationRefused → Type 0
-IsAskedOf c (Ok o) = IsOperationOf c o × IsLawfulOperation o
-IsAskedOf c (Err why) = (why ≡ refused.NoMemory) ⊎ IsAlwaysRefused c (operation_body why)
-
--- the group that is read or written: none for a write under a new root, whose id isn't drawn yet, for a search without an ancestor, and for
--- what reads and writes no entities
-abbrev pub group_of : Operation → Option KeyParts
-group_of (operation.Put entity incomplete) = group_asked incomplete entity.key
-group_of (operation.Delete key) = Some (root_of key)
-group_of (operation.Get key) = Some (root_of key)
-group_of (operation.Find search) = option_map root_of search.query.ancestor
-group_of _ = None
 
 -- the path that is written, whose ids are tested against the id counter
 abbrev pub written_path : Operation → List Elem

@@ -7,12 +7,9 @@ use Rattle.ds_query.specs.declared.branch.Window.{Window}
 use Rattle.ds_query.specs.Normals.{normal_form}
 use Rattle.ds_cursor.specs.Cursors.{IsPlaceIn}
 use Rattle.ds_planner.specs.declared.planned.ScanPlan.{ScanPlan}
-use Rattle.ds_planner.specs.declared.planning.PlanRefused.{PlanRefused}
-use Rattle.ds_planner.specs.declared.planning.PlanRefused.TheVariants as refused
 use Rattle.ds_planner.specs.Lean.{IsLean}
 use Rattle.ds_planner.specs.Suits.{suits}
 use Rattle.ds_reply.specs.declared.reply.Body.{Body}
-use Rattle.ds_reply.specs.declared.reply.Body.TheVariants as body
 use Rattle.ds_model.specs.Answers.{window_of}
 use Rattle.ds_model.specs.Asked.{Search}
 use Rattle.ds_model.specs.Refusals.{Places, PlacesRead, IfUnrefused, form_refusal, search_refusal, ancestor_group_refusal}
@@ -57,10 +54,3 @@ abbrev pub ArePlansFor : List IndexDef → List Branch → List ScanPlan → Typ
 ArePlansFor definitions [] [] = ⊤
 ArePlansFor definitions (q ∷ qs) (p ∷ ps) = IsPlanFor definitions q p × ArePlansFor definitions qs ps
 ArePlansFor definitions _ _ = ⊥
-
--- ---- the planner's refusals
-
--- what is told of a branch that has no plan
-abbrev pub missing_told : PlanRefused → Body
-missing_told (refused.MissingIndex constraint suggestion) = body.MissingIndex constraint suggestion
-missing_told refused.NoMemory = body.NoMemory

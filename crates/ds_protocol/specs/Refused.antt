@@ -1,13 +1,10 @@
 -- Refusals, and other answers that tell of no commit and of no id.
 use Rattle.std.specs.Prelude.{◌≡◌, ◌⊎◌, Bool, true, false, Option, Some}
-use Rattle.ds_base.specs.Keys.{KeyParts}
 use Rattle.ds_query.specs.declared.field.Field.TheVariants as field
 use Rattle.ds_reply.specs.declared.reply.Body.{Body}
 use Rattle.ds_reply.specs.declared.reply.Body.TheVariants as body
 use Rattle.ds_rows.specs.declared.refused.RowsRefused.{RowsRefused}
 use Rattle.ds_rows.specs.declared.refused.RowsRefused.TheVariants as rows
-use Rattle.ds_txn.specs.declared.refusals.TxnRefused.{TxnRefused}
-use Rattle.ds_txn.specs.declared.refusals.TxnRefused.TheVariants as txn
 use Rattle.ds_protocol.specs.declared.operations.OperationRefused.{OperationRefused}
 use Rattle.ds_protocol.specs.declared.operations.OperationRefused.TheVariants as refused
 
@@ -38,12 +35,6 @@ tells_no_step (body.AllocateIds first count) = false
 tells_no_step (body.Settle m counts) = false
 tells_no_step (body.Apply applied count m shard) = false
 tells_no_step _ = true
-
--- what is told where a transaction refuses a group
-abbrev pub group_body : Option KeyParts → TxnRefused → Body
-group_body group txn.SecondGroup = body.SecondGroup group
-group_body group txn.TooManyGroups = body.TooManyGroups
-group_body group txn.NoMemory = body.NoMemory
 
 -- what is told where an entity's index rows are refused
 abbrev pub rows_body : RowsRefused → Body

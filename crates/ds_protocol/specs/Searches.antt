@@ -1,5 +1,5 @@
 -- What is promised of the search of a call.
-use Rattle.std.specs.Prelude.{◌≡◌, ◌⊎◌, Bool, true, false, Option, Some, None, Result, Ok, Err, IsTrue}
+use Rattle.std.specs.Prelude.{◌≡◌, Bool, true, false, Some, Ok, IsTrue}
 use Rattle.std.specs.List.{list_all}
 use Rattle.ds_base.specs.Keys.{is_namespace}
 use Rattle.ds_query.specs.Filters.{has_operands}
@@ -8,10 +8,7 @@ use Rattle.ds_request.specs.declared.call.Call.{Call}
 use Rattle.ds_request.specs.declared.call.Call.TheVariants as call
 use Rattle.ds_model.specs.Asked
 use Rattle.ds_model.specs.Asked.{search_of, has_cursors}
-use Rattle.ds_protocol.specs.declared.operations.OperationRefused.{OperationRefused}
-use Rattle.ds_protocol.specs.declared.operations.OperationRefused.TheVariants as refused
 use Rattle.ds_protocol.specs.declared.searching.Search.{Search}
-use Rattle.ds_protocol.specs.Refused.{operation_body}
 
 -- a search, however it was written
 abbrev pub search_parts : Search → Asked.Search
@@ -37,9 +34,3 @@ pub record IsSearchOf (c : Call) (s : Search) : Type 0 where
   pub exact : search_of c ≡ Some (Ok (search_parts s))
   pub written : s.statement ≡ is_statement c
   pub lawful : IsLawfulSearch s
-
--- the call's search, or why its statement can't be read; want of memory is free
-abbrev pub SearchRead : Call → Option (Result Search OperationRefused) → Type 0
-SearchRead c None = search_of c ≡ None
-SearchRead c (Some (Ok s)) = IsSearchOf c s
-SearchRead c (Some (Err why)) = (why ≡ refused.NoMemory) ⊎ (search_of c ≡ Some (Err (operation_body why)))

@@ -45,7 +45,10 @@ pub fn ask(
     match line {
         Line::Kept(bytes) => match read_request_with(alloc, bytes, scratch) {
             Ok(request) => within(shards, request),
-            Err(refused) => Err(told(refused)),
+            Err(refused) => {
+                let (client, body) = told(refused);
+                Err(Refused { client, body })
+            }
         },
         Line::TooLong => Err(Refused {
             client: 0,
@@ -54,7 +57,7 @@ pub fn ask(
     }
 }
 
-/// The request, where its shard is below the number of shards.
+/// The request, where the shard that its call names, if it names one, is below the number of shards.
 fn within(shards: u32, request: Request) -> Result<Request, Refused>
     ensures ok { IfOk result (λ r. request_within shards (Ok request) ≡ Ok r) }
     ensures same { IfOk result (λ r. r ≡ request) }
@@ -63,54 +66,28 @@ fn within(shards: u32, request: Request) -> Result<Request, Refused>
     ensures client { IfErr result (λ e. e.client ≡ request.client) }
     ensures quiet { IfErr result (λ e. IsQuiet e.body) }
 {
-    if has_shard(shards, &request.call) {
-        Ok(request)
-    } else {
-        Err(Refused {
+    match request.call {
+        Call::Apply { shard } if shard >= shards as u64 => Err(Refused {
             client: request.client,
             body: Body::BadRequest {
                 field: Field::Shard,
             },
-        })
+        }),
+        _ => Ok(request),
     }
 }
 
-/// Whether the shard that the call names, if it names one, is below the number of shards.
-fn has_shard(shards: u32, call: &Call) -> bool
-    ensures { result ≡ has_shard shards call.now }
-{
-    match call {
-        Call::Apply { shard } => *shard < shards as u64,
-        _ => true,
-    }
-}
-
-/// What the reply to a line says that is no request.
-fn told(refused: RequestRefused) -> Refused
-    ensures told { refused_line refused ≡ (result.client, result.body) }
-    ensures client { result.client ≡ client_told refused }
-    ensures quiet { IsQuiet result.body }
+/// Whose a line is that is no request, and what its reply says.
+fn told(refused: RequestRefused) -> (u32, Body)
+    ensures told { result ≡ refused_line refused }
+    ensures client { result.0 ≡ client_told refused }
+    ensures quiet { IsQuiet result.1 }
 {
     match refused {
-        RequestRefused::BadJson => Refused {
-            client: 0,
-            body: Body::BadJson,
-        },
-        RequestRefused::BadRequest { client, field } => Refused {
-            client,
-            body: Body::BadRequest { field },
-        },
-        RequestRefused::BadKey { client, field } => Refused {
-            client,
-            body: Body::BadKey { field },
-        },
-        RequestRefused::BadValue { client, field } => Refused {
-            client,
-            body: Body::BadValue { field },
-        },
-        RequestRefused::NoMemory => Refused {
-            client: 0,
-            body: Body::NoMemory,
-        },
+        RequestRefused::BadJson => (0, Body::BadJson),
+        RequestRefused::BadRequest { client, field } => (client, Body::BadRequest { field }),
+        RequestRefused::BadKey { client, field } => (client, Body::BadKey { field }),
+        RequestRefused::BadValue { client, field } => (client, Body::BadValue { field }),
+        RequestRefused::NoMemory => (0, Body::NoMemory),
     }
 }

@@ -1,16 +1,15 @@
-//! The ends of a window, from the texts of their cursors; and the cursor of the next place.
-ghost use Rattle.std.specs.Prelude.{◌≡◌, ◌⊎◌, ◌∷◌, [], IfOk, IfErr, Some, All};
-ghost use Rattle.std.specs.Option.{option_copied};
-ghost use Rattle.ds_model.specs.Answers.{cursor_of, place_found};
+//! The ends of a window, from the texts of their cursors.
+ghost use Rattle.std.specs.Prelude.{◌≡◌, ◌⊎◌, IfOk, IfErr, All};
+ghost use Rattle.ds_model.specs.Answers.{place_found};
 ghost use Rattle.ds_protocol.specs.Cursors.{told, IsEnd, IsEndRefused, WindowRead, WindowRefused, window_between};
 ghost use Rattle.ds_protocol.specs.Preparing.{ArePlacesOf};
 ghost use Rattle.ds_protocol.specs.Quiet.{IsQuiet};
 ghost use Rattle.ds_protocol.specs.Searches.{search_parts};
 
 use crate::searching::Search;
-use ds_base::{NoMemory, TextString, TryCopy};
-use ds_cursor::{CursorRefused, read, write};
-use ds_query::{Branch, Branches, Field, Place, Window};
+use ds_base::TextString;
+use ds_cursor::{CursorRefused, read};
+use ds_query::{Branch, Field, Place, Window};
 use ds_reply::Body;
 use std::alloc::Global;
 
@@ -32,20 +31,9 @@ pub(crate) fn window_of(alloc: Global, branches: &[Branch], search: &Search) -> 
     ensures refused { IfErr result (λ b. (b ≡ Body.NoMemory) ⊎ WindowRefused branches.now (search_parts search.now) b) }
     ensures quiet { IfErr result IsQuiet }
 {
-    if branches.len() == 1 {
-        window_in(alloc, &branches[0], search)
-    } else {
-        Ok(window_between(End::Nothing, End::Nothing, search.offset, search.limit))
-    }
-}
-
-/// The window of a search in the rows of one branch.
-fn window_in(alloc: Global, branch: &Branch, search: &Search) -> Result<Window, Body>
-    ensures ok { IfOk result (WindowRead (branch.now ∷ []) (search_parts search.now)) }
-    ensures places { IfOk result (λ w. ArePlacesOf w branch.now) }
-    ensures refused { IfErr result (λ b. (b ≡ Body.NoMemory) ⊎ WindowRefused (branch.now ∷ []) (search_parts search.now) b) }
-    ensures quiet { IfErr result IsQuiet }
-{
+    let [branch] = branches else {
+        return Ok(window_between(End::Nothing, End::Nothing, search.offset, search.limit));
+    };
     let start = end_of(alloc, branch, Field::Start, &search.start)?;
     let end = end_of(alloc, branch, Field::End, &search.end)?;
     Ok(window_between(start, end, search.offset, search.limit))
@@ -62,17 +50,9 @@ fn end_of(
     ensures refused { IfErr result (λ b. (b ≡ Body.NoMemory) ⊎ IsEndRefused branch.now field text.now b) }
     ensures quiet { IfErr result IsQuiet }
 {
-    match text {
-        None => Ok(End::Nothing),
-        Some(text) => read_end(alloc, branch, field, text),
-    }
-}
-
-fn read_end(alloc: Global, branch: &Branch, field: Field, text: &TextString) -> Result<End, Body>
-    ensures ok { IfOk result (IsEnd branch.now (Some text.now)) }
-    ensures refused { IfErr result (λ b. (b ≡ Body.NoMemory) ⊎ IsEndRefused branch.now field (Some text.now) b) }
-    ensures quiet { IfErr result IsQuiet }
-{
+    let Some(text) = text else {
+        return Ok(End::Nothing);
+    };
     match read(alloc, branch, text.text()) {
         Ok(Some(place)) => Ok(End::Behind(place)),
         Ok(None) => Ok(End::BeforeFirst),
@@ -109,23 +89,5 @@ fn place_in(end: End) -> Option<Place>
     match end {
         End::Behind(place) => Some(place),
         End::Nothing | End::BeforeFirst => None,
-    }
-}
-
-/// The cursor of the next place, where it was asked for and there is one branch.
-pub(crate) fn next_cursor(
-    alloc: Global,
-    wanted: bool,
-    branches: &Branches,
-    next: Option<&Place>,
-) -> Result<Option<TextString>, NoMemory>
-    ensures { IfOk result (λ text. text ≡ cursor_of wanted branches.now (option_copied next.entry)) }
-{
-    if !wanted {
-        return Ok(None);
-    }
-    match branches.as_slice() {
-        [branch] => Ok(Some(write(alloc, branch, next)?)),
-        _ => Ok(None),
     }
 }

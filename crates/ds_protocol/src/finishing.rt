@@ -1,20 +1,20 @@
 //! What a reply tells of a page of rows.
-ghost use Rattle.std.specs.Prelude.{◌≡◌, ◌++◌, ◌∷◌, [], List, map, IfOk, unwrap_or, Some};
+ghost use Rattle.std.specs.Prelude.{◌≡◌, map, IfOk, unwrap_or};
 ghost use Rattle.std.specs.Option.{option_copied};
 ghost use Rattle.ds_base.specs.declared.index_value.IndexValue.TheVariants.{Null};
+ghost use Rattle.ds_model.specs.Answers.{cursor_of};
 ghost use Rattle.ds_model.specs.Results.{items_of, item_of, projected_values, entity_of};
 ghost use Rattle.ds_query.specs.RowValues.{value_named, value_columns};
-ghost use Rattle.ds_protocol.specs.Finishing.{AreByKey, row_parts, found, found_of};
+ghost use Rattle.ds_protocol.specs.Finishing.{AreByKey, IsPlaceOf, row_parts, found_of};
 ghost use Rattle.ds_protocol.specs.Quiet.{IsQuiet};
 
-use crate::cursors::next_cursor;
-use crate::finding::entity_of;
 use crate::searching::Search;
 use ds_base::{
-    Column, Columns, IndexValue, IndexValues, Names, NoMemory, TextString, TryCopy, copy_of,
+    Column, Columns, IndexValue, IndexValues, Key, Names, NoMemory, TextString, TryCopy, copy_of,
 };
+use ds_cursor::write;
 use ds_entity::{Entity, Item, Results, Seen};
-use ds_query::{Normal, Place, Row, RowList, Select, value_named};
+use ds_query::{Branches, Normal, Place, Row, RowList, Select, value_named};
 use ds_reply::Body;
 use std::alloc::Global;
 
@@ -38,40 +38,44 @@ pub fn finish(
     let results = items(alloc, &normal.merged, &search.query.select, entities, rows)?;
     let cursor = next_cursor(alloc, search.cursor, &normal.branches, next)?;
     let select = search.query.select.copy(alloc)?;
-    Ok(found(search.statement, select, results, seen, cursor))
+    if search.statement {
+        Ok(Body::Gql {
+            select,
+            results,
+            seen,
+            cursor,
+        })
+    } else {
+        Ok(Body::Query {
+            select,
+            results,
+            seen,
+            cursor,
+        })
+    }
 }
 
-/// What a statement or a query found.
-fn found(
-    statement: bool,
-    select: Select,
-    results: Results,
-    seen: Seen,
-    cursor: Option<TextString>,
-) -> Body
-    ensures found { result ≡ found statement select results seen cursor }
-    ensures quiet { IsQuiet result }
+/// The cursor of the next place, where it was asked for and there is one branch.
+fn next_cursor(
+    alloc: Global,
+    wanted: bool,
+    branches: &Branches,
+    next: Option<&Place>,
+) -> Result<Option<TextString>, NoMemory>
+    ensures { IfOk result (λ text. text ≡ cursor_of wanted branches.now (option_copied next.entry)) }
 {
-    if statement {
-        Body::Gql {
-            select,
-            results,
-            seen,
-            cursor,
-        }
-    } else {
-        Body::Query {
-            select,
-            results,
-            seen,
-            cursor,
-        }
+    if !wanted {
+        return Ok(None);
+    }
+    match branches.as_slice() {
+        [branch] => Ok(Some(write(alloc, branch, next)?)),
+        _ => Ok(None),
     }
 }
 
 /// What is told of each row: the entity of its key among these, which stand by key, the key alone, or the key with the values of the
 /// projected columns. The columns are those that the rows are united by. A refusal is want of memory.
-pub fn items(
+fn items(
     alloc: Global,
     columns: &Columns,
     select: &Select,
@@ -141,4 +145,37 @@ fn value_of(
         Some(value) => value.copy(alloc),
         None => Ok(IndexValue::Null),
     }
+}
+
+/// The entity of the key, found by halving; `None` exactly where there is none.
+fn entity_of<'a>(entities: &[&'a Entity], key: &Key) -> Option<&'a Entity>
+    requires { AreByKey (map (λ e. e.now) entities.now) }
+    ensures { option_copied result ≡ entity_of (map (λ e. e.now) entities.now) key.now }
+{
+    let place = place_of(entities, key);
+    if place < entities.len() {
+        let entity = entities[place];
+        if entity.key() == key {
+            return Some(entity);
+        }
+    }
+    None
+}
+
+/// How many of the entities have keys before this one.
+fn place_of(entities: &[&Entity], key: &Key) -> usize
+    requires { AreByKey (map (λ e. e.now) entities.now) }
+    ensures { IsPlaceOf (map (λ e. e.now) entities.now) key.now result }
+{
+    let mut low = 0;
+    let mut high = entities.len();
+    while low < high {
+        let middle = low + (high - low) / 2;
+        if entities[middle].key().cmp(key).is_lt() {
+            low = middle + 1;
+        } else {
+            high = middle;
+        }
+    }
+    low
 }

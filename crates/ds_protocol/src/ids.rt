@@ -3,7 +3,7 @@ ghost use Rattle.std.specs.Prelude.{◌≡◌, IfOk, IsTrue};
 ghost use Rattle.std.specs.List.{list_all};
 ghost use Rattle.ds_base.specs.Keys.{is_elem, is_ident};
 ghost use Rattle.ds_log.specs.Ids.{first_unissued};
-ghost use Rattle.ds_model.specs.Refusals.{group_asked, is_root};
+ghost use Rattle.ds_model.specs.Refusals.{group_asked};
 ghost use Rattle.ds_model.specs.Sessions.{next_above};
 ghost use Rattle.ds_protocol.specs.Writing.{id_above};
 
@@ -53,17 +53,8 @@ pub(crate) fn group_asked(
 ) -> Result<Option<Key>, NoMemory>
     ensures { IfOk result (λ group. group ≡ group_asked incomplete key.now) }
 {
-    if incomplete && is_root(key.elems().as_slice()) {
-        return Ok(None);
-    }
-    Ok(Some(key.root(alloc)?))
-}
-
-fn is_root(path: &[Elem]) -> bool
-    ensures { result ≡ is_root path.now }
-{
-    match path {
-        [_] => true,
-        _ => false,
+    match key.elems().as_slice() {
+        [_] if incomplete => Ok(None),
+        _ => Ok(Some(key.root(alloc)?)),
     }
 }

@@ -6,15 +6,13 @@
 //! `refusal_of` is the first refusal of what is no search, and `prepare` the normal form, the window and the plans of a search or its first
 //! refusal. `OpenTransaction` is a client's transaction and `Watermark` what it has seen, with the rules by which replies raise it. A
 //! server then asks its store; `draft_of_write` and `draft_of_transaction` are the commits that are asked for, `finish` makes the body of a
-//! search's rows, and `say` writes a reply into room that was taken before.
+//! search's rows, and `say_if_room` writes a reply, or `say_no_memory` into room that was taken before.
 #![tactic(auto)]
 
 mod asking;
 mod cursors;
 mod drafting;
-mod finding;
 mod finishing;
-mod forms;
 mod ids;
 mod operations;
 mod preparing;
@@ -26,12 +24,12 @@ mod watermark;
 
 pub use asking::{Refused, ask};
 pub use drafting::{draft_of_transaction, draft_of_write};
-pub use finishing::{finish, items};
+pub use finishing::finish;
 pub use ids::{first_unissued, next_above};
 pub use operations::{Operation, OperationRefused, operation_of};
 pub use preparing::{Ready, prepare};
 pub use refusing::refusal_of;
-pub use saying::{make_room, room, say, say_if_room, say_no_memory, write_within};
+pub use saying::{make_room, room, say_if_room, say_no_memory};
 pub use searching::{Search, group_of};
 pub use transaction::OpenTransaction;
 pub use watermark::Watermark;

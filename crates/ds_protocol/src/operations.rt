@@ -1,7 +1,5 @@
 //! What a request asks, taken apart once.
 ghost use Rattle.std.specs.Prelude.{◌≡◌, ◌⊎◌, Some, IfErr, IfOk};
-ghost use Rattle.ds_request.specs.declared.call.Call.{Call};
-ghost use Rattle.ds_request.specs.Entities.{IsPut};
 ghost use Rattle.ds_request.specs.Lawful.{IsLawfulCall};
 ghost use Rattle.ds_model.specs.Refusals.{entity_body};
 ghost use Rattle.ds_protocol.specs.Operations.{IsAlwaysRefused, IsLawfulOperation, IsOperationOf};
@@ -9,7 +7,7 @@ ghost use Rattle.ds_protocol.specs.Refused.{operation_body};
 
 use crate::searching::{Search, search_of};
 use ds_base::Key;
-use ds_entity::{Entity, EntityRefused, Properties};
+use ds_entity::{Entity, EntityRefused};
 use ds_query::Field;
 use ds_reply::Body;
 use ds_request::Call;
@@ -87,13 +85,10 @@ impl OperationRefused {
     pub fn body(&self) -> Body
         ensures { result ≡ operation_body self.now }
     {
+        let field = Field::Entity;
         match self {
-            OperationRefused::BadKey => Body::BadKey {
-                field: Field::Entity,
-            },
-            OperationRefused::BadValue => Body::BadValue {
-                field: Field::Entity,
-            },
+            OperationRefused::BadKey => Body::BadKey { field },
+            OperationRefused::BadValue => Body::BadValue { field },
             OperationRefused::TooLarge { size } => Body::TooLarge { size: *size },
             OperationRefused::BadGql { place } => Body::BadGql { at: *place },
             OperationRefused::NoMemory => Body::NoMemory,
@@ -116,7 +111,10 @@ pub fn operation_of(alloc: Global, call: Call) -> Result<Operation, OperationRef
             key,
             incomplete,
             properties,
-        } => put_of(key, incomplete, properties),
+        } => match Entity::new(key, properties) {
+            Ok(entity) => Ok(Operation::Put { entity, incomplete }),
+            Err(refused) => Err(refused_entity(refused)),
+        },
         Call::Delete { key } => Ok(Operation::Delete { key }),
         Call::Get { key } => Ok(Operation::Get { key }),
         Call::Begin { xg } => Ok(Operation::Begin { several_groups: xg }),
@@ -125,35 +123,7 @@ pub fn operation_of(alloc: Global, call: Call) -> Result<Operation, OperationRef
         Call::Settle => Ok(Operation::Settle),
         Call::AllocateIds { count } => Ok(Operation::AllocateIds { count }),
         Call::Apply { shard } => Ok(Operation::Apply { shard }),
-        call => find_of(alloc, call),
-    }
-}
-
-/// The put of an entity that can be made.
-fn put_of(key: Key, incomplete: bool, properties: Properties) -> Result<Operation, OperationRefused>
-    requires { IsPut key incomplete properties }
-    ensures ok { IfOk result (IsOperationOf (Call.Put key incomplete properties)) }
-    ensures lawful { IfOk result IsLawfulOperation }
-    ensures refused { IfErr result (λ e. (e ≡ OperationRefused.NoMemory)
-        ⊎ IsAlwaysRefused (Call.Put key incomplete properties) (operation_body e)) }
-{
-    match Entity::new(key, properties) {
-        Ok(entity) => Ok(Operation::Put { entity, incomplete }),
-        Err(refused) => Err(refused_entity(refused)),
-    }
-}
-
-/// What a query or a statement searches for. Any other call is none, and is told want of memory.
-fn find_of(alloc: Global, call: Call) -> Result<Operation, OperationRefused>
-    requires { IsLawfulCall call }
-    ensures ok { IfOk result (IsOperationOf call) }
-    ensures lawful { IfOk result IsLawfulOperation }
-    ensures refused { IfErr result (λ e. (e ≡ OperationRefused.NoMemory) ⊎ IsAlwaysRefused call (operation_body e)) }
-{
-    match search_of(alloc, call) {
-        Some(Ok(search)) => Ok(Operation::Find(search)),
-        Some(Err(refused)) => Err(refused),
-        None => Err(OperationRefused::NoMemory),
+        call => Ok(Operation::Find(search_of(alloc, call)?)),
     }
 }
 

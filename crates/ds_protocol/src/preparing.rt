@@ -1,21 +1,23 @@
 //! The normal form and the window of a search, or the first refusal before its group is looked at.
-ghost use Rattle.std.specs.Prelude.{◌≡◌, ◌⊎◌, ◌++◌, ◌∷◌, [], IfOk, IfErr, OnOk, None, Some, All, IsTrue};
+ghost use Rattle.std.specs.Prelude.{◌≡◌, ◌⊎◌, IfOk, IfErr, OnOk, None, Some, All, IsTrue};
 ghost use Rattle.std.specs.List.{list_all};
 ghost use Rattle.ds_base.specs.Keys.{is_namespace};
 ghost use Rattle.ds_query.specs.Filters.{has_operands};
 ghost use Rattle.ds_query.specs.Lawful.{IsLawfulBranch, IsLawfulNormal, SuitsSeveral};
+ghost use Rattle.ds_query.specs.Normals.{normal_form};
+ghost use Rattle.ds_query.specs.Reasons.{reason_of};
 ghost use Rattle.ds_planner.specs.Missing.{missing_of};
-ghost use Rattle.ds_model.specs.Refusals.{missing_body, missing_refusal};
-ghost use Rattle.ds_protocol.specs.Preparing.{IsReady, IsRefused, IsPlanFor, ArePlacesOf, ArePlansFor, missing_told};
+ghost use Rattle.ds_model.specs.Refusals.{form_refusal, missing_body, missing_refusal};
+ghost use Rattle.ds_model.specs.Sessions.{Session};
+ghost use Rattle.ds_protocol.specs.Preparing.{IsInside, IsReady, IsRefused, IsPlanFor, ArePlacesOf, ArePlansFor};
 ghost use Rattle.ds_protocol.specs.Quiet.{IsQuiet};
 ghost use Rattle.ds_protocol.specs.Searches.{IsLawfulSearch, search_parts};
 
 use crate::cursors::window_of;
-use crate::forms::normal_form;
 use crate::searching::Search;
 use ds_indexdef::Defs;
 use ds_planner::{PlanRefused, ScanPlan, plan};
-use ds_query::{Branch, Normal, Window};
+use ds_query::{Branch, Normal, Query, QueryRefused, Window, normalize};
 use ds_reply::Body;
 use std::alloc::Global;
 
@@ -61,6 +63,32 @@ pub fn prepare(
     })
 }
 
+/// The normal form, or the refusal of the query's form: a rule that it breaks, too many branches, or in a transaction no ancestor.
+fn normal_form(alloc: Global, in_transaction: bool, query: &Query) -> Result<Normal, Body>
+    requires namespace { IsTrue (is_namespace query.now.namespace) }
+    requires values { IsTrue (list_all has_operands query.now.filters) }
+    ensures ok { IfOk result (λ n. n ≡ normal_form query.now) }
+    ensures lawful { IfOk result IsLawfulNormal }
+    ensures unrefused { IfOk result (λ n. (s : Session) → IsInside in_transaction s → form_refusal s query.now ≡ None) }
+    ensures no_reason { IfOk result (λ n. reason_of query.now ≡ None) }
+    ensures refused { IfErr result (λ b. (b ≡ Body.NoMemory)
+        ⊎ ((s : Session) → IsInside in_transaction s → form_refusal s query.now ≡ Some b)) }
+    ensures quiet { IfErr result IsQuiet }
+{
+    match normalize(alloc, query) {
+        Ok(normal) => {
+            if in_transaction && query.ancestor.is_none() {
+                Err(Body::NeedAncestor)
+            } else {
+                Ok(normal)
+            }
+        }
+        Err(QueryRefused::Bad(reason)) => Err(Body::BadQuery { reason }),
+        Err(QueryRefused::TooManySubqueries { count }) => Err(Body::TooManySubqueries { count }),
+        Err(QueryRefused::NoMemory) => Err(Body::NoMemory),
+    }
+}
+
 /// A plan for each branch, or what the first without one misses.
 fn plans_of(alloc: Global, defs: &Defs, branches: &[Branch]) -> Result<Vec<ScanPlan>, Body>
     requires { All IsLawfulBranch branches.now }
@@ -72,21 +100,11 @@ fn plans_of(alloc: Global, defs: &Defs, branches: &[Branch]) -> Result<Vec<ScanP
     let mut plans = Vec::new(alloc);
     for branch in branches {
         let plan = plan_of(alloc, defs, branch)?;
-        put_plan(&mut plans, plan)?;
+        if plans.push(plan).is_err() {
+            return Err(Body::NoMemory);
+        }
     }
     Ok(plans)
-}
-
-/// Puts a plan behind the others, or tells that there is no memory.
-fn put_plan(plans: &mut Vec<ScanPlan>, plan: ScanPlan) -> Result<(), Body>
-    ensures ok { OnOk result (plans.new.items ≡ plans.old.items ++ plan ∷ []) }
-    ensures refused { IfErr result (λ b. b ≡ Body.NoMemory) }
-    ensures quiet { IfErr result IsQuiet }
-{
-    match plans.push(plan) {
-        Ok(()) => Ok(()),
-        Err(_) => Err(Body::NoMemory),
-    }
 }
 
 /// A plan for the branch, or what it misses.
@@ -99,23 +117,15 @@ fn plan_of(alloc: Global, defs: &Defs, branch: &Branch) -> Result<ScanPlan, Body
 {
     match plan(alloc, branch, defs) {
         Ok(plan) => Ok(plan),
-        Err(refused) => Err(missing_body(refused)),
-    }
-}
-
-/// What the reply says where there is no plan.
-fn missing_body(refused: PlanRefused) -> Body
-    ensures told { result ≡ missing_told refused }
-    ensures quiet { IsQuiet result }
-{
-    match refused {
-        PlanRefused::MissingIndex {
+        Err(
+            PlanRefused::MissingIndex {
+                constraint,
+                suggestion,
+            },
+        ) => Err(Body::MissingIndex {
             constraint,
             suggestion,
-        } => Body::MissingIndex {
-            constraint,
-            suggestion,
-        },
-        PlanRefused::NoMemory => Body::NoMemory,
+        }),
+        Err(PlanRefused::NoMemory) => Err(Body::NoMemory),
     }
 }

@@ -1,7 +1,7 @@
 //! Writing one reply into room that is taken before anything is changed.
 ghost use Rattle.std.specs.Prelude.{◌≡◌, ◌+◌, ◌-◌, ◌^◌, ◌≤◌, ◌++◌, false, min, length, IsTrue};
 ghost use Rattle.ds_reply.specs.Replies.{reply_text};
-ghost use Rattle.ds_protocol.specs.Saying.{Says, no_memory_reply};
+ghost use Rattle.ds_protocol.specs.Saying.{no_memory_reply};
 
 use ds_base::Buffer;
 use ds_reply::{Body, Reply, reply_room, write_reply};
@@ -47,7 +47,9 @@ pub fn say_no_memory(client: u32, number: u64, keep: usize, out: &mut Buffer) ->
     ensures kept { keep ≤ out.new.spare }
 {
     let reply = no_memory(client, number);
-    write_within(&reply, out);
+    if write_reply(&reply, out).is_err() {
+        unreachable!();
+    }
     reply
 }
 
@@ -68,33 +70,4 @@ pub fn say_if_room(reply: &Reply, keep: usize, out: &mut Buffer) -> bool
         return false;
     }
     true
-}
-
-/// Writes a reply to a line, or where there is no room for it that there was no memory; `keep` bytes of room are left.
-pub fn say(client: u32, number: u64, body: Body, keep: usize, out: &mut Buffer) -> Reply
-    requires { keep + length (reply_text (no_memory_reply client number)) ≤ out.old.spare }
-    ensures said { Says client number body result }
-    ensures text { out.new.bytes ≡ out.old.bytes ++ reply_text result }
-    ensures kept { keep ≤ out.new.spare }
-{
-    let reply = Reply {
-        client,
-        line: number,
-        body,
-    };
-    if !say_if_room(&reply, keep, out) {
-        return say_no_memory(client, number, keep, out);
-    }
-    reply
-}
-
-/// Writes a reply for which there is room; the room is lowered by the reply's length at most.
-pub fn write_within(reply: &Reply, out: &mut Buffer)
-    requires { length (reply_text reply.now) ≤ out.old.spare }
-    ensures text { out.new.bytes ≡ out.old.bytes ++ reply_text reply.now }
-    ensures room { out.old.spare ≤ out.new.spare + length (reply_text reply.now) }
-{
-    if write_reply(reply, out).is_err() {
-        unreachable!();
-    }
 }

@@ -1,10 +1,11 @@
 //! What a query or a statement searches for.
-ghost use Rattle.std.specs.Prelude.{◌≡◌, ◌⊎◌, ℕ, Ok, Err, option_map, IfOk, IfErr, IsTrue};
+ghost use Rattle.std.specs.Prelude.{◌≡◌, ◌⊎◌, ℕ, Some, Ok, Err, option_map, IfOk, IfErr, IsTrue};
 ghost use Rattle.ds_base.specs.Keys.{root_of};
 ghost use Rattle.ds_gql.specs.Statements.{statement_of};
 ghost use Rattle.ds_request.specs.Lawful.{IsLawfulCall};
-ghost use Rattle.ds_model.specs.Asked.{statement_search};
-ghost use Rattle.ds_protocol.specs.Searches.{search_parts, SearchRead, has_operands_of};
+ghost use Rattle.ds_model.specs.Asked.{search_of, statement_search};
+ghost use Rattle.ds_protocol.specs.Refused.{operation_body};
+ghost use Rattle.ds_protocol.specs.Searches.{IsSearchOf, search_parts, has_operands_of};
 
 use crate::operations::OperationRefused;
 use ds_base::{Key, NoMemory, TextString};
@@ -33,12 +34,13 @@ pub struct Search {
     pub cursor: bool,
 }
 
-/// What a query or a statement searches for; `None` for every other call. The parts of a query are moved; a statement is read, in the
-/// namespace of its request, and its cursors work as a query's. `BadGql` comes exactly where its text is no statement; `NoMemory` is want
-/// of memory alone.
-pub(crate) fn search_of(alloc: Global, call: Call) -> Option<Result<Search, OperationRefused>>
+/// What a query or a statement searches for. The parts of a query are moved; a statement is read, in the namespace of its request, and
+/// its cursors work as a query's. `BadGql` comes exactly where its text is no statement; `NoMemory` is want of memory, and what any other
+/// call is told, which is none.
+pub(crate) fn search_of(alloc: Global, call: Call) -> Result<Search, OperationRefused>
     requires { IsLawfulCall call }
-    ensures { SearchRead call result }
+    ensures ok { IfOk result (IsSearchOf call) }
+    ensures refused { IfErr result (λ e. (e ≡ OperationRefused.NoMemory) ⊎ (search_of call ≡ Some (Err (operation_body e)))) }
 {
     match call {
         Call::Query {
@@ -55,7 +57,7 @@ pub(crate) fn search_of(alloc: Global, call: Call) -> Option<Result<Search, Oper
             cursor,
         } => {
             let cursors = start.is_some() || end.is_some() || cursor;
-            Some(Ok(Search {
+            Ok(Search {
                 statement: false,
                 query: Query {
                     namespace,
@@ -71,7 +73,7 @@ pub(crate) fn search_of(alloc: Global, call: Call) -> Option<Result<Search, Oper
                 start,
                 end,
                 cursor,
-            }))
+            })
         }
         Call::Gql {
             namespace,
@@ -82,13 +84,12 @@ pub(crate) fn search_of(alloc: Global, call: Call) -> Option<Result<Search, Oper
             end,
             cursor,
         } => {
-            let bindings = Bindings { args, names };
-            Some(match read(alloc, &text, &bindings) {
+            match read(alloc, &text, &Bindings { args, names }) {
                 Ok(statement) => Ok(search_in(namespace, statement, start, end, cursor)),
                 Err(refused) => Err(refused),
-            })
+            }
         }
-        _ => None,
+        _ => Err(OperationRefused::NoMemory),
     }
 }
 
@@ -123,25 +124,17 @@ fn search_in(
     ensures parts { search_parts result ≡ statement_search namespace start end cursor statement }
     ensures statement { IsTrue result.statement }
 {
-    let Statement {
-        query,
-        offset,
-        limit,
-    } = statement;
+    let query = statement.query;
     let cursors = start.is_some() || end.is_some() || cursor;
     Search {
         statement: true,
         query: Query {
             namespace,
-            kind: query.kind,
-            ancestor: query.ancestor,
-            filters: query.filters,
-            orders: query.orders,
-            select: query.select,
             cursors,
+            ..query
         },
-        offset,
-        limit,
+        offset: statement.offset,
+        limit: statement.limit,
         start,
         end,
         cursor,

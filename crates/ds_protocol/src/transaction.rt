@@ -1,16 +1,16 @@
 //! The transaction of a client: what it touches and writes, and what it refuses.
-ghost use Rattle.std.specs.Prelude.{◌≡◌, ◌⊎◌, ◌<◌, ◌∷◌, [], None, Some, is_some, length, IfSome, IsTrue, OnOk};
+ghost use Rattle.std.specs.Prelude.{◌≡◌, ◌<◌, ◌∷◌, [], None, Some, is_some, length, IfSome, IsTrue, OnOk};
 ghost use Rattle.std.specs.Option.{option_copied, option_map};
 ghost use Rattle.ds_base.specs.Keys.{root_of};
 ghost use Rattle.ds_base.specs.Limits.{most_writes};
 ghost use Rattle.ds_model.specs.Answers.{begun};
 ghost use Rattle.ds_model.specs.Groups.{group_refusal, place_in, touching, touching_if, write_refusal, writing};
 ghost use Rattle.ds_model.specs.Refusals.{first_refusal, group_asked};
-ghost use Rattle.ds_protocol.specs.Refused.{IsRefusal, group_body, is_quiet, tells_no_step};
+ghost use Rattle.ds_protocol.specs.Refused.{IsRefusal, is_quiet, tells_no_step};
 ghost use Rattle.ds_protocol.specs.Transactions.{MayWrite, transaction_of};
 
 use crate::ids::group_asked;
-use ds_base::{Key, NoMemory, TryCopy};
+use ds_base::{Key, NoMemory, copy_of};
 use ds_log::Write;
 use ds_reply::Body;
 use ds_txn::{Txn, TxnRefused};
@@ -126,21 +126,17 @@ impl OpenTransaction {
         ensures quiet { IfSome result (λ b. IsTrue (is_quiet b)) }
         ensures numberless { IfSome result (λ b. IsTrue (tells_no_step b)) }
     {
-        match &self.open {
-            Some(txn) => group_refusal(alloc, txn, group),
-            None => None,
-        }
-    }
-
-    /// Why the transaction, if there is one, takes no further write.
-    pub fn write_refusal(&self) -> Option<Body>
-        ensures told { result ≡ write_refusal self.now.transaction }
-        ensures quiet { IfSome result (λ b. IsTrue (is_quiet b)) }
-        ensures numberless { IfSome result (λ b. IsTrue (tells_no_step b)) }
-    {
-        match &self.open {
-            Some(txn) if txn.may_write().is_err() => Some(Body::TooManyWrites),
-            _ => None,
+        let Some(txn) = &self.open else {
+            return None;
+        };
+        match txn.may_touch(group) {
+            Ok(()) => None,
+            Err(TxnRefused::SecondGroup) => match copy_of(alloc, group) {
+                Ok(group) => Some(Body::SecondGroup { group }),
+                Err(_) => Some(Body::NoMemory),
+            },
+            Err(TxnRefused::TooManyGroups) => Some(Body::TooManyGroups),
+            Err(TxnRefused::NoMemory) => Some(Body::NoMemory),
         }
     }
 
@@ -153,7 +149,10 @@ impl OpenTransaction {
     {
         match self.group_refusal(alloc, group) {
             Some(body) => Some(body),
-            None => self.write_refusal(),
+            None => match &self.open {
+                Some(txn) if txn.may_write().is_err() => Some(Body::TooManyWrites),
+                _ => None,
+            },
         }
     }
 
@@ -188,44 +187,6 @@ impl OpenTransaction {
             Ok(group) => self.refusal(alloc, group.as_ref()),
             Err(_) => Some(Body::NoMemory),
         }
-    }
-}
-
-fn group_refusal(alloc: Global, txn: &Txn, group: Option<&Key>) -> Option<Body>
-    ensures told { IsRefusal (group_refusal (Some (transaction_of txn.now)) (option_copied group.entry)) result }
-    ensures quiet { IfSome result (λ b. IsTrue (is_quiet b)) }
-    ensures numberless { IfSome result (λ b. IsTrue (tells_no_step b)) }
-{
-    match txn.may_touch(group) {
-        Ok(()) => None,
-        Err(refused) => Some(group_body(alloc, refused, group)),
-    }
-}
-
-/// What the reply says of a group that may not be touched.
-fn group_body(alloc: Global, refused: TxnRefused, group: Option<&Key>) -> Body
-    ensures told { (result ≡ group_body (option_copied group.entry) refused) ⊎ (result ≡ Body.NoMemory) }
-    ensures quiet { IsTrue (is_quiet result) }
-    ensures numberless { IsTrue (tells_no_step result) }
-{
-    match refused {
-        TxnRefused::SecondGroup => second_group(alloc, group),
-        TxnRefused::TooManyGroups => Body::TooManyGroups,
-        TxnRefused::NoMemory => Body::NoMemory,
-    }
-}
-
-fn second_group(alloc: Global, group: Option<&Key>) -> Body
-    ensures told { (result ≡ Body.SecondGroup (option_copied group.entry)) ⊎ (result ≡ Body.NoMemory) }
-    ensures quiet { IsTrue (is_quiet result) }
-    ensures numberless { IsTrue (tells_no_step result) }
-{
-    match group {
-        Some(group) => match group.copy(alloc) {
-            Ok(group) => Body::SecondGroup { group: Some(group) },
-            Err(_) => Body::NoMemory,
-        },
-        None => Body::SecondGroup { group: None },
     }
 }
 

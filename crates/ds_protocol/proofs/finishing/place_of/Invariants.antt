@@ -3,7 +3,7 @@ use Rattle.std.proofs.Common.{◌≡◌, ℕ, ◌<◌, ◌≤◌, ◌-◌, true,
 use Rattle.std.specs.Ordering.{is_lt}
 use Rattle.ds_entity.specs.Entities.{EntityParts}
 use Rattle.ds_base.specs.KeyOrder.{key_cmp}
-use Rattle.ds_protocol.proofs.finding.place_of.Given as goal
+use Rattle.ds_protocol.proofs.finishing.place_of.Given as goal
 
 abbrev pub invariant-loop-low : goal.invariant-loop-low
 invariant-loop-low l = record {

@@ -6,7 +6,7 @@ use Rattle.ds_base.specs.Keys.{KeyParts}
 use Rattle.ds_entity.specs.Entities.{EntityParts}
 use Rattle.ds_base.specs.KeyOrder.{key_cmp}
 use Rattle.ds_protocol.proofs.Halving.{before_before, behind_behind}
-use Rattle.ds_protocol.proofs.finding.place_of.Goals as goal
+use Rattle.ds_protocol.proofs.finishing.place_of.Goals as goal
 
 pub loop-low-preserved-then-is_lt : goal.loop-low-preserved-then-is_lt
 loop-low-preserved-then-is_lt c =

@@ -4,8 +4,8 @@ use Rattle.ds_base.specs.Keys.{KeyParts}
 use Rattle.ds_entity.specs.Entities.{EntityParts}
 use Rattle.ds_base.specs.KeyOrder.{same_key}
 use Rattle.ds_protocol.proofs.Halving.{entity_at, no_entity_at}
-use Rattle.ds_protocol.proofs.finding.entity_of.Goals as goal
-use Rattle.ds_protocol.proofs.finding.entity_of.Goals.{then-place-entities+else-eq, else-place-entities}
+use Rattle.ds_protocol.proofs.finishing.entity_of.Goals as goal
+use Rattle.ds_protocol.proofs.finishing.entity_of.Goals.{then-place-entities+else-eq, else-place-entities}
 
 pub returns-then-eq : goal.returns-then-eq
 returns-then-eq c =
