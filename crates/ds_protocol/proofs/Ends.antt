@@ -14,8 +14,8 @@ use Rattle.ds_model.specs.Answers.{place_found, window_of}
 use Rattle.ds_model.specs.Asked.{Search}
 use Rattle.ds_model.specs.Refusals.{Told, Nothing, Refused, BeforeFirst, Behind, Places, PlaceRead, PlacesRead, IfUnrefused, cursor_refusal}
 use Rattle.ds_model.specs.Refusals.{first_refusal}
-use Rattle.ds_protocol.specs.declared.cursors.End.{End}
-use Rattle.ds_protocol.specs.declared.cursors.End.TheVariants as end
+use Rattle.ds_protocol.specs.declared.preparing.End.{End}
+use Rattle.ds_protocol.specs.declared.preparing.End.TheVariants as end
 use Rattle.ds_protocol.specs.Cursors.{told, IsEndRefused, WindowRead, WindowRefused, window_between}
 use Rattle.ds_protocol.specs.Preparing.{ArePlacesOf}
 

@@ -9,8 +9,8 @@ use Rattle.ds_query.specs.declared.field.Field.TheVariants as field
 use Rattle.ds_model.specs.Answers.{place_found, window_of}
 use Rattle.ds_model.specs.Asked.{Search}
 use Rattle.ds_model.specs.Refusals.{Told, Nothing, BeforeFirst, Behind, Places, PlaceRead, PlacesRead, cursor_refusal, first_refusal}
-use Rattle.ds_protocol.specs.declared.cursors.End.{End}
-use Rattle.ds_protocol.specs.declared.cursors.End.TheVariants as end
+use Rattle.ds_protocol.specs.declared.preparing.End.{End}
+use Rattle.ds_protocol.specs.declared.preparing.End.TheVariants as end
 
 -- an end that isn't refused
 abbrev pub told : End → Told

@@ -10,7 +10,7 @@ ghost use Rattle.ds_protocol.specs.Quiet.{IsQuiet};
 
 use crate::searching::Search;
 use ds_base::{
-    Column, Columns, IndexValue, IndexValues, Key, Names, NoMemory, TextString, TryCopy, copy_of,
+    Columns, IndexValue, IndexValues, Key, Names, NoMemory, TextString, TryCopy, copy_of,
 };
 use ds_cursor::write;
 use ds_entity::{Entity, Item, Results, Seen};
@@ -64,11 +64,8 @@ fn next_cursor(
 ) -> Result<Option<TextString>, NoMemory>
     ensures { IfOk result (λ text. text ≡ cursor_of wanted branches.now (option_copied next.entry)) }
 {
-    if !wanted {
-        return Ok(None);
-    }
     match branches.as_slice() {
-        [branch] => Ok(Some(write(alloc, branch, next)?)),
+        [branch] if wanted => Ok(Some(write(alloc, branch, next)?)),
         _ => Ok(None),
     }
 }
@@ -128,23 +125,13 @@ fn projected_values(
 {
     let mut projected = Vec::with_capacity(alloc, names.len())?;
     for name in names.as_slice() {
-        projected.push(value_of(alloc, name, columns.as_slice(), values.as_slice())?)?;
+        let value = copy_of(
+            alloc,
+            value_named(name, columns.as_slice(), values.as_slice()),
+        )?;
+        projected.push(value.unwrap_or(IndexValue::Null))?;
     }
     Ok(IndexValues::from(projected))
-}
-
-fn value_of(
-    alloc: Global,
-    name: &TextString,
-    columns: &[Column],
-    values: &[IndexValue],
-) -> Result<IndexValue, NoMemory>
-    ensures { IfOk result (λ v. v ≡ unwrap_or (value_named name.now (value_columns columns.now) values.now) Null) }
-{
-    match value_named(name, columns, values) {
-        Some(value) => value.copy(alloc),
-        None => Ok(IndexValue::Null),
-    }
 }
 
 /// The entity of the key, found by halving; `None` exactly where there is none.

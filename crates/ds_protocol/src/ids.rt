@@ -16,10 +16,7 @@ use std::alloc::Global;
 pub fn first_unissued(path: &[Elem], next: u64) -> Option<u64>
     ensures { result ≡ first_unissued next path.now }
 {
-    match check_path(next, path) {
-        Ok(()) => None,
-        Err(refused) => Some(refused.id),
-    }
+    check_path(next, path).err().map(|refused| refused.id)
 }
 
 /// The id counter above each id of a path that only the server gives; 0 where there is none. A reply that accepts the path shows it. It

@@ -10,7 +10,6 @@
 #![tactic(auto)]
 
 mod asking;
-mod cursors;
 mod drafting;
 mod finishing;
 mod ids;

@@ -1,7 +1,6 @@
 //! What a request asks, taken apart once.
 ghost use Rattle.std.specs.Prelude.{◌≡◌, ◌⊎◌, Some, IfErr, IfOk};
 ghost use Rattle.ds_request.specs.Lawful.{IsLawfulCall};
-ghost use Rattle.ds_model.specs.Refusals.{entity_body};
 ghost use Rattle.ds_protocol.specs.Operations.{IsAlwaysRefused, IsLawfulOperation, IsOperationOf};
 ghost use Rattle.ds_protocol.specs.Refused.{operation_body};
 
@@ -113,7 +112,10 @@ pub fn operation_of(alloc: Global, call: Call) -> Result<Operation, OperationRef
             properties,
         } => match Entity::new(key, properties) {
             Ok(entity) => Ok(Operation::Put { entity, incomplete }),
-            Err(refused) => Err(refused_entity(refused)),
+            Err(EntityRefused::BadKey) => Err(OperationRefused::BadKey),
+            Err(EntityRefused::BadValue { .. }) => Err(OperationRefused::BadValue),
+            Err(EntityRefused::TooLarge { size }) => Err(OperationRefused::TooLarge { size }),
+            Err(EntityRefused::NoMemory) => Err(OperationRefused::NoMemory),
         },
         Call::Delete { key } => Ok(Operation::Delete { key }),
         Call::Get { key } => Ok(Operation::Get { key }),
@@ -124,18 +126,5 @@ pub fn operation_of(alloc: Global, call: Call) -> Result<Operation, OperationRef
         Call::AllocateIds { count } => Ok(Operation::AllocateIds { count }),
         Call::Apply { shard } => Ok(Operation::Apply { shard }),
         call => Ok(Operation::Find(search_of(alloc, call)?)),
-    }
-}
-
-/// Why an entity isn't made.
-fn refused_entity(refused: EntityRefused) -> OperationRefused
-    ensures body { entity_body (Some refused) ≡ Some (operation_body result) }
-    ensures memory { refused ≡ EntityRefused.NoMemory → result ≡ OperationRefused.NoMemory }
-{
-    match refused {
-        EntityRefused::BadKey => OperationRefused::BadKey,
-        EntityRefused::BadValue { property: _ } => OperationRefused::BadValue,
-        EntityRefused::TooLarge { size } => OperationRefused::TooLarge { size },
-        EntityRefused::NoMemory => OperationRefused::NoMemory,
     }
 }

@@ -1,7 +1,6 @@
 //! The refusals of requests that are no searches, as the definitions, the transaction and the request decide them.
 ghost use Rattle.std.specs.Prelude.{◌≡◌, None, Some, IfSome, IsTrue};
 ghost use Rattle.ds_log.specs.Ids.{first_unissued};
-ghost use Rattle.ds_request.specs.declared.call.Call.{Call};
 ghost use Rattle.ds_model.specs.Groups.{with_transaction};
 ghost use Rattle.ds_model.specs.Refusals.{refusal_of};
 ghost use Rattle.ds_model.specs.Sessions.{Session};
@@ -11,7 +10,6 @@ ghost use Rattle.ds_protocol.specs.Refused.{IsRefusal, is_quiet, tells_no_step};
 use crate::ids::first_unissued;
 use crate::operations::Operation;
 use crate::transaction::OpenTransaction;
-use ds_entity::Entity;
 use ds_indexdef::Defs;
 use ds_reply::Body;
 use ds_rows::{RowsRefused, count_rows};
@@ -33,7 +31,12 @@ pub fn refusal_of(
 {
     match operation {
         Operation::Put { entity, incomplete } => {
-            put_refusal(alloc, defs, transaction, entity, *incomplete)
+            let key = entity.key();
+            match count_rows(alloc, defs, entity) {
+                Ok(_) => transaction.key_refusal(alloc, key, *incomplete),
+                Err(RowsRefused::TooManyRows { count }) => Some(Body::TooManyRows { count }),
+                Err(RowsRefused::NoMemory) => Some(Body::NoMemory),
+            }
         }
         Operation::Delete { key } => transaction.key_refusal(alloc, key, false),
         Operation::Get { key } => transaction.read_refusal(alloc, key),
@@ -48,27 +51,6 @@ pub fn refusal_of(
             None => Some(Body::NoTransaction),
         },
         Operation::Find(_) | Operation::AllocateIds { .. } => None,
-    }
-}
-
-/// Why the entity isn't put: its index rows, its group, or the number of writes.
-fn put_refusal(
-    alloc: Global,
-    defs: &Defs,
-    transaction: &OpenTransaction,
-    entity: &Entity,
-    incomplete: bool,
-) -> Option<Body>
-    ensures told { (s : Session) → IsRefusal (refusal_of defs.now (with_transaction transaction.now.transaction s)
-        (Call.Put entity.now.key incomplete entity.now.properties)) result }
-    ensures quiet { IfSome result (λ b. IsTrue (is_quiet b)) }
-    ensures numberless { IfSome result (λ b. IsTrue (tells_no_step b)) }
-{
-    let key = entity.key();
-    match count_rows(alloc, defs, entity) {
-        Ok(_) => transaction.key_refusal(alloc, key, incomplete),
-        Err(RowsRefused::TooManyRows { count }) => Some(Body::TooManyRows { count }),
-        Err(RowsRefused::NoMemory) => Some(Body::NoMemory),
     }
 }
 

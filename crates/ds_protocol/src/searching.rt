@@ -84,7 +84,7 @@ pub(crate) fn search_of(alloc: Global, call: Call) -> Result<Search, OperationRe
             end,
             cursor,
         } => {
-            match read(alloc, &text, &Bindings { args, names }) {
+            match read(alloc, &text, Bindings { args, names }) {
                 Ok(statement) => Ok(search_in(namespace, statement, start, end, cursor)),
                 Err(refused) => Err(refused),
             }
@@ -94,19 +94,15 @@ pub(crate) fn search_of(alloc: Global, call: Call) -> Result<Search, OperationRe
 }
 
 /// The statement that a text is, or where it is none.
-fn read(
-    alloc: Global,
-    text: &TextString,
-    bindings: &Bindings,
-) -> Result<Statement, OperationRefused>
-    ensures ok { IfOk result (λ s. statement_of text.now bindings.now ≡ Ok s) }
+fn read(alloc: Global, text: &TextString, bindings: Bindings) -> Result<Statement, OperationRefused>
+    ensures ok { IfOk result (λ s. statement_of text.now bindings ≡ Ok s) }
     ensures lawful { IfOk result has_operands_of }
     ensures refused { IfErr result (λ e. (e ≡ OperationRefused.NoMemory)
-        ⊎ ((place : ℕ) × (statement_of text.now bindings.now ≡ Err place) × (e ≡ OperationRefused.BadGql place))) }
+        ⊎ ((place : ℕ) × (statement_of text.now bindings ≡ Err place) × (e ≡ OperationRefused.BadGql place))) }
 {
     // A law, which does nothing: the proof alone needs it.
     statements_have_values();
-    match parse(alloc, text.text(), bindings) {
+    match parse(alloc, text.text(), &bindings) {
         Ok(statement) => Ok(statement),
         Err(GqlRefused::At(place)) => Err(OperationRefused::BadGql { place }),
         Err(GqlRefused::NoMemory) => Err(OperationRefused::NoMemory),

@@ -73,10 +73,7 @@ impl OpenTransaction {
     pub fn place(&self, group: &Key) -> Option<u64>
         ensures { result ≡ place_in self.now.transaction group.now }
     {
-        match &self.open {
-            Some(txn) => txn.place(group),
-            None => None,
-        }
+        self.open.as_ref()?.place(group)
     }
 
     /// Makes room for a touch and a write behind it, where there is a transaction. A refusal is want of memory and changes nothing.
@@ -96,9 +93,8 @@ impl OpenTransaction {
         requires room { IsTrue (is_some self.old.transaction) → 0 < self.old.room }
         ensures { self.new.transaction ≡ touching_if group place self.old.transaction }
     {
-        match &mut self.open {
-            Some(txn) => touch(txn, group, place),
-            None => (),
+        if let Some(txn) = &mut self.open {
+            touch(txn, group, place);
         }
     }
 
@@ -108,17 +104,12 @@ impl OpenTransaction {
         requires room { 0 < self.old.room }
         ensures { self.new.transaction ≡ option_map (λ t. writing write (touching group place t)) self.old.transaction }
     {
-        match &mut self.open {
-            Some(txn) => {
-                touch(txn, group, place);
-                add_write(txn, write);
-            }
-            None => (),
+        if let Some(txn) = &mut self.open {
+            touch(txn, group, place);
+            add_write(txn, write);
         }
     }
-}
 
-impl OpenTransaction {
     /// Why the transaction, if there is one, may not touch the group, `None` standing for one of a new root; or that there is no memory
     /// to tell it.
     pub fn group_refusal(&self, alloc: Global, group: Option<&Key>) -> Option<Body>

@@ -1,5 +1,5 @@
 //! What a client has seen: how far it has been shown the journal, each shard and the id counter.
-ghost use Rattle.std.specs.Prelude.{◌≡◌, List, None, length, replicate, take, IfOk};
+ghost use Rattle.std.specs.Prelude.{◌≡◌, List, None, length, take, IfOk};
 ghost use Rattle.ds_log.specs.declared.Entry.{Entry};
 ghost use Rattle.ds_model.specs.Sessions.{counted_place, first_session, greater_counts, last_commit, list_of, raised_at};
 ghost use Rattle.ds_model.specs.Sessions.{saw_counts, saw_entries, saw_next, saw_place, saw_shard_count};
@@ -35,9 +35,13 @@ impl Watermark {
     pub fn first(alloc: Global, shards: u32) -> Result<Watermark, NoMemory>
         ensures { IfOk result (λ w. w ≡ first_session shards) }
     {
+        let mut counts = Vec::new(alloc);
+        for _shard in 0..shards {
+            counts.push(0)?;
+        }
         Ok(Watermark {
             place: 0,
-            counts: zeros(alloc, shards)?,
+            counts,
             next: FIRST_DRAWN_ID,
         })
     }
@@ -103,9 +107,7 @@ impl Watermark {
         raise_all(&mut self.counts, counts);
         self.see_place(commit);
     }
-}
 
-impl Watermark {
     /// What the other has seen, this one has seen too. Clients meet by taking the greatest of all into one, and that into each.
     pub fn raise(&mut self, other: &Watermark)
         ensures { self.new ≡ raised_by other.now self.old }
@@ -144,15 +146,4 @@ fn raise_all(counts: &mut [u64], others: &[u64])
             counts[i] = others[i];
         }
     }
-}
-
-/// A zero for each shard. A refusal is want of memory.
-fn zeros(alloc: Global, shards: u32) -> Result<Vec<u64>, NoMemory>
-    ensures { IfOk result (λ counts. counts.items ≡ replicate shards 0) }
-{
-    let mut counts = Vec::new(alloc);
-    for _shard in 0..shards {
-        counts.push(0)?;
-    }
-    Ok(counts)
 }

@@ -7,9 +7,9 @@ use Rattle.ds_reply.specs.declared.reply.Body.TheVariants as body
 use Rattle.ds_protocol.specs.Cursors.{IsEndRefused, WindowRead, WindowRefused, window_between}
 use Rattle.ds_protocol.specs.Searches.{search_parts}
 use Rattle.ds_protocol.proofs.Ends.{one_branch, window_read, window_unread, start_refused, end_refused}
-use Rattle.ds_protocol.proofs.cursors.window_of.Goals as goal
-use Rattle.ds_protocol.proofs.cursors.window_of.Goals.{in_default-via-then-branches-lt1}
-use Rattle.ds_protocol.proofs.cursors.window_of.Goals.{in_default-via-else-branches-lt1+else-branches-lt2}
+use Rattle.ds_protocol.proofs.preparing.window_of.Goals as goal
+use Rattle.ds_protocol.proofs.preparing.window_of.Goals.{in_default-via-then-branches-lt1}
+use Rattle.ds_protocol.proofs.preparing.window_of.Goals.{in_default-via-else-branches-lt1+else-branches-lt2}
 
 pub returns-in_err-start-clause-refused : goal.returns-in_err-start-clause-refused
 returns-in_err-start-clause-refused c =

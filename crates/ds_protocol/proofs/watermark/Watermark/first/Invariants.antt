@@ -1,6 +1,6 @@
 use Rattle.std.proofs.Common.{◌≡◌}
 use Rattle.std.specs.Prelude.{replicate}
-use Rattle.ds_protocol.proofs.watermark.zeros.Given as goal
+use Rattle.ds_protocol.proofs.watermark.Watermark.first.Given as goal
 
 abbrev pub invariant-loop-shard : goal.invariant-loop-shard
 invariant-loop-shard l = l.counts.items ≡ replicate l._shard 0

@@ -4,7 +4,7 @@ use Rattle.ds_cursor.specs.declared.cursor.CursorRefused.TheVariants as cursor
 use Rattle.ds_base.specs.Memory.{UnlessNoMemory}
 use Rattle.ds_cursor.specs.Cursors.{CursorIs, cursor_fault}
 use Rattle.ds_protocol.proofs.Ends.{text_refused}
-use Rattle.ds_protocol.proofs.cursors.end_of.Goals as goal
+use Rattle.ds_protocol.proofs.preparing.end_of.Goals as goal
 
 pub returns-in-Err-BadCursor-clause-refused : goal.returns-in-Err-BadCursor-clause-refused
 returns-in-Err-BadCursor-clause-refused c =
