@@ -21,7 +21,12 @@ use Rattle.ds_model.specs.Sessions.{Session, Transaction}
 use Rattle.ds_protocol.specs.declared.operations.OperationRefused.{OperationRefused}
 use Rattle.ds_protocol.specs.declared.operations.OperationRefused.TheVariants as refused
 use Rattle.ds_protocol.specs.Operations.{IsAlwaysRefused}
-use Rattle.ds_protocol.specs.Refused.{IsRefusal, operation_body, rows_body}
+use Rattle.ds_protocol.specs.Refused.{IsRefusal, operation_body}
+
+-- what is told where an entity's index rows are refused
+abbrev pub rows_body : RowsRefused → Body
+rows_body (rows.TooManyRows count) = body.TooManyRows count
+rows_body rows.NoMemory = body.NoMemory
 
 -- the entity's own refusal comes whatever the definitions and the session
 pub entity_always : (key : KeyParts) (incomplete : Bool) (properties : List Property) (why : EntityRefused) (e : OperationRefused)

@@ -3,8 +3,6 @@ use Rattle.std.specs.Prelude.{◌≡◌, ◌⊎◌, Bool, true, false, Option, S
 use Rattle.ds_query.specs.declared.field.Field.TheVariants as field
 use Rattle.ds_reply.specs.declared.reply.Body.{Body}
 use Rattle.ds_reply.specs.declared.reply.Body.TheVariants as body
-use Rattle.ds_rows.specs.declared.refused.RowsRefused.{RowsRefused}
-use Rattle.ds_rows.specs.declared.refused.RowsRefused.TheVariants as rows
 use Rattle.ds_protocol.specs.declared.operations.OperationRefused.{OperationRefused}
 use Rattle.ds_protocol.specs.declared.operations.OperationRefused.TheVariants as refused
 
@@ -35,11 +33,6 @@ tells_no_step (body.AllocateIds first count) = false
 tells_no_step (body.Settle m counts) = false
 tells_no_step (body.Apply applied count m shard) = false
 tells_no_step _ = true
-
--- what is told where an entity's index rows are refused
-abbrev pub rows_body : RowsRefused → Body
-rows_body (rows.TooManyRows count) = body.TooManyRows count
-rows_body rows.NoMemory = body.NoMemory
 
 -- what the reply says of a call that asks nothing
 abbrev pub operation_body : OperationRefused → Body

@@ -41,10 +41,7 @@ pub fn refusal_of(
         Operation::Delete { key } => transaction.key_refusal(alloc, key, false),
         Operation::Get { key } => transaction.read_refusal(alloc, key),
         Operation::Begin { .. } | Operation::Settle | Operation::Apply { .. } => {
-            match transaction.transaction() {
-                Some(_) => Some(Body::InTransaction),
-                None => None,
-            }
+            transaction.transaction().map(|_| Body::InTransaction)
         }
         Operation::Commit | Operation::Rollback => match transaction.transaction() {
             Some(_) => None,

@@ -117,9 +117,7 @@ impl OpenTransaction {
         ensures quiet { IfSome result (λ b. IsTrue (is_quiet b)) }
         ensures numberless { IfSome result (λ b. IsTrue (tells_no_step b)) }
     {
-        let Some(txn) = &self.open else {
-            return None;
-        };
+        let txn = self.open.as_ref()?;
         match txn.may_touch(group) {
             Ok(()) => None,
             Err(TxnRefused::SecondGroup) => match copy_of(alloc, group) {

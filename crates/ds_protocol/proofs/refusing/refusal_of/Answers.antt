@@ -4,8 +4,8 @@ use Rattle.ds_model.specs.Refusals.{refusal_of}
 use Rattle.ds_reply.specs.declared.reply.Body.TheVariants as body
 use Rattle.ds_protocol.specs.declared.operations.Operation.{Operation}
 use Rattle.ds_protocol.specs.Operations.{call_of}
-use Rattle.ds_protocol.specs.Refused.{IsRefusal, rows_body}
-use Rattle.ds_protocol.proofs.PutRefusals.{rows_refused}
+use Rattle.ds_protocol.specs.Refused.{IsRefusal}
+use Rattle.ds_protocol.proofs.PutRefusals.{rows_body, rows_refused}
 use Rattle.ds_protocol.proofs.refusing.refusal_of.Goals as goal
 
 pub returns-in-Err-TooManyRows-clause-told : goal.returns-in-Err-TooManyRows-clause-told
