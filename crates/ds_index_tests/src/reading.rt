@@ -1,7 +1,6 @@
 //! Texts that are index files, with how many definitions they give, and texts that aren't, with the line that is refused.
 use ds_indexdef::{Defs, YamlRefused, read_yaml};
 use std::alloc::Global;
-use std::test::Fail;
 
 /// The line that a text is refused with; 0 where it is read.
 fn refused(alloc: Global, text: &[u8]) -> u64 {
@@ -20,137 +19,162 @@ fn count(alloc: Global, text: &str) -> usize {
     }
 }
 
-#[test]
-fn wrong_lines_are_told(rt: HostRuntime) -> Result<(), Fail> {
-    let alloc = rt.alloc();
-    for (text, line) in [
-        ("kind: T", 1),
-        ("- kind: T\n", 1),
-        ("indexes :\n", 1),
-        ("indexes:\nindexes:\n", 2),
-        ("indexes:\n- kind: T\n  order: yes\n", 3),
-        ("indexes:\n- kind: T\n  ancestor: maybe\n", 3),
-        ("indexes:\n- kind: T\n  ancestor: yes\n  ancestor: yes\n", 4),
-        ("indexes:\n- kind: T\n- kind: U\n", 3),
-        ("indexes:\n- kind: T\n  properties: a\n", 3),
-        ("indexes:\n- kind: T\n  properties:\n  direction: asc\n", 4),
-        ("indexes:\n- kind: T\n  properties:\n- kind: U\n", 4),
-        (
-            "indexes:\n- kind: T\n  properties:\n  - name: a\n    direction: up\n",
-            5,
-        ),
-        (
-            "indexes:\n- kind: T\n  properties:\n  - name: a\n    direction: asc\n    direction: asc\n",
-            6,
-        ),
-        (
-            "indexes:\n- kind: T\n  properties:\n  - name: a\n  x\n  - name: b\n",
-            5,
-        ),
-    ] {
-        assert_eq!(rt; refused(alloc, text.as_bytes()), line, "{text}");
+/// The number of the first text that is refused with another line than is told beside it.
+fn first_refused_elsewhere(alloc: Global, rows: &[(&[u8], u64)]) -> Option<usize> {
+    for (number, row) in rows.iter().enumerate() {
+        if refused(alloc, row.0) != row.1 {
+            return Some(number);
+        }
     }
-    Ok(())
+    None
 }
 
-#[test]
-fn names_keep_their_rules(rt: HostRuntime) -> Result<(), Fail> {
-    let alloc = rt.alloc();
-    for (text, line) in [
-        ("indexes:\n- kind: \"T\"\n", 2),
-        ("indexes:\n- kind: 'T'\n", 2),
-        ("indexes:\n- kind: T#\n", 2),
-        ("indexes:\n- kind: T U\n", 2),
-        ("indexes:\n- kind:T\n", 2),
-        ("indexes:\n-kind: T\n", 2),
-        ("indexes:\n- kind: __T__\n", 2),
-        ("indexes:\n- kind: __key__\n", 2),
-        ("indexes:\n- kind: T\n  properties:\n  - name: __a__\n", 4),
-        (
-            "indexes:\n- kind: T\n  properties:\n  - name: a\n  - name: a\n",
-            5,
-        ),
-        (
-            "indexes:\n- kind: T\n  properties:\n  - name: a\n  - name: b\n  - name: a\n    direction: desc\n",
-            6,
-        ),
-        (
-            "indexes:\n- kind: T\n  properties:\n  - name: __key__\n  - name: a\n",
-            5,
-        ),
-        (
-            "indexes:\n- kind: T\n  properties:\n  - name: a\n  - name: __key__\n    direction: desc\n",
-            0,
-        ),
-    ] {
-        assert_eq!(rt; refused(alloc, text.as_bytes()), line, "{text}");
+/// The first text that gives another number of definitions than is told beside it.
+fn first_counted_otherwise<'a>(
+    alloc: Global,
+    rows: &'a [(&'static str, usize)],
+) -> Option<&'a str> {
+    for row in rows {
+        if count(alloc, row.0) != row.1 {
+            return Some(row.0);
+        }
     }
-    Ok(())
+    None
 }
 
-#[test]
-fn ends_are_told(rt: HostRuntime) -> Result<(), Fail> {
-    let alloc = rt.alloc();
-    for (text, line) in [
-        ("", 0),
-        ("\n\n", 0),
-        ("# nothing", 0),
-        ("indexes:", 0),
-        ("indexes:\n- kind: T", 3),
-        ("indexes:\n- kind: T\n", 3),
-        ("indexes:\n- kind: T\n\n", 4),
-        ("indexes:\n- kind: T\n  ancestor: no\n", 4),
-        ("indexes:\n- kind: T\n  properties:\n", 4),
-        ("indexes:\n- kind: T\n  properties:\n  - name: a", 0),
-    ] {
-        assert_eq!(rt; refused(alloc, text.as_bytes()), line, "{text}");
-    }
-    Ok(())
-}
+/// Texts, and the line that each is refused with.
+const WRONG_LINES: [(&[u8], u64); 14] = [
+    (b"kind: T", 1),
+    (b"- kind: T\n", 1),
+    (b"indexes :\n", 1),
+    (b"indexes:\nindexes:\n", 2),
+    (b"indexes:\n- kind: T\n  order: yes\n", 3),
+    (b"indexes:\n- kind: T\n  ancestor: maybe\n", 3),
+    (
+        b"indexes:\n- kind: T\n  ancestor: yes\n  ancestor: yes\n",
+        4,
+    ),
+    (b"indexes:\n- kind: T\n- kind: U\n", 3),
+    (b"indexes:\n- kind: T\n  properties: a\n", 3),
+    (b"indexes:\n- kind: T\n  properties:\n  direction: asc\n", 4),
+    (b"indexes:\n- kind: T\n  properties:\n- kind: U\n", 4),
+    (
+        b"indexes:\n- kind: T\n  properties:\n  - name: a\n    direction: up\n",
+        5,
+    ),
+    (
+        b"indexes:\n- kind: T\n  properties:\n  - name: a\n    direction: asc\n    direction: asc\n",
+        6,
+    ),
+    (
+        b"indexes:\n- kind: T\n  properties:\n  - name: a\n  x\n  - name: b\n",
+        5,
+    ),
+];
 
 #[test]
-fn definitions_are_counted(rt: HostRuntime) -> Result<(), Fail> {
-    let alloc = rt.alloc();
-    for (text, wanted) in [
-        (
-            "# c\n\r\n\tindexes:\t# c\r\n-\t kind:\tT\r\n\n  ancestor: no #\n properties: \n-  name:  a\n-  name: b\t\r",
-            1,
-        ),
-        ("indexes:\n- kind: T\n  properties:\n  - name: a\n", 0),
-        (
-            "indexes:\n- kind: T\n  properties:\n  - name: a\n    direction: desc\n",
-            0,
-        ),
-        ("indexes:\n- kind: T\n  properties:\n  - name: __key__\n", 0),
-        (
-            "indexes:\n- kind: T\n  properties:\n  - name: __key__\n    direction: desc\n",
-            1,
-        ),
-        (
-            "indexes:\n- kind: T\n  ancestor: yes\n  properties:\n  - name: __key__\n",
-            1,
-        ),
-        (
-            "indexes:\n- kind: T\n  ancestor: yes\n  properties:\n  - name: a\n\
-            - kind: T\n  ancestor: yes\n  properties:\n  - name: a\n  - name: __key__\n    direction: asc\n",
-            1,
-        ),
-        (
-            "indexes:\n- kind: T\n  properties:\n  - name: a\n  - name: b\n- kind: T\n  properties:\n  - name: b\n  - name: a\n",
-            2,
-        ),
-    ] {
-        assert_eq!(rt; count(alloc, text), wanted, "{text}");
-    }
-    Ok(())
+fn wrong_lines_are_told(rt: HostRuntime) {
+    assert_eq!(rt; first_refused_elsewhere(rt.alloc(), &WRONG_LINES), None);
 }
 
+/// Texts with kinds and names, and the line that each is refused with; 0 where it is read.
+const NAMES: [(&[u8], u64); 13] = [
+    (b"indexes:\n- kind: \"T\"\n", 2),
+    (b"indexes:\n- kind: 'T'\n", 2),
+    (b"indexes:\n- kind: T#\n", 2),
+    (b"indexes:\n- kind: T U\n", 2),
+    (b"indexes:\n- kind:T\n", 2),
+    (b"indexes:\n-kind: T\n", 2),
+    (b"indexes:\n- kind: __T__\n", 2),
+    (b"indexes:\n- kind: __key__\n", 2),
+    (b"indexes:\n- kind: T\n  properties:\n  - name: __a__\n", 4),
+    (
+        b"indexes:\n- kind: T\n  properties:\n  - name: a\n  - name: a\n",
+        5,
+    ),
+    (
+        b"indexes:\n- kind: T\n  properties:\n  - name: a\n  - name: b\n  - name: a\n    direction: desc\n",
+        6,
+    ),
+    (
+        b"indexes:\n- kind: T\n  properties:\n  - name: __key__\n  - name: a\n",
+        5,
+    ),
+    (
+        b"indexes:\n- kind: T\n  properties:\n  - name: a\n  - name: __key__\n    direction: desc\n",
+        0,
+    ),
+];
+
 #[test]
-fn bytes_are_utf8(rt: HostRuntime) -> Result<(), Fail> {
-    let alloc = rt.alloc();
-    assert_eq!(rt; refused(alloc, b"\xff"), 1);
-    assert_eq!(rt; refused(alloc, b"indexes:\n# \xc3\n"), 2);
-    assert_eq!(rt; refused(alloc, b"indexes:\n- kind: \xc3\xa9\n"), 3);
-    assert_eq!(rt; refused(alloc, b"indexes:\n\n\n- kind: \xc3\n"), 4);
-    Ok(())
+fn names_keep_their_rules(rt: HostRuntime) {
+    assert_eq!(rt; first_refused_elsewhere(rt.alloc(), &NAMES), None);
+}
+
+/// Texts that end early, and the line that each is refused with; 0 where it is read.
+const ENDS: [(&[u8], u64); 10] = [
+    (b"", 0),
+    (b"\n\n", 0),
+    (b"# nothing", 0),
+    (b"indexes:", 0),
+    (b"indexes:\n- kind: T", 3),
+    (b"indexes:\n- kind: T\n", 3),
+    (b"indexes:\n- kind: T\n\n", 4),
+    (b"indexes:\n- kind: T\n  ancestor: no\n", 4),
+    (b"indexes:\n- kind: T\n  properties:\n", 4),
+    (b"indexes:\n- kind: T\n  properties:\n  - name: a", 0),
+];
+
+#[test]
+fn ends_are_told(rt: HostRuntime) {
+    assert_eq!(rt; first_refused_elsewhere(rt.alloc(), &ENDS), None);
+}
+
+/// Texts, and how many definitions each gives.
+const COUNTED: [(&str, usize); 8] = [
+    (
+        "# c\n\r\n\tindexes:\t# c\r\n-\t kind:\tT\r\n\n  ancestor: no #\n properties: \n-  name:  a\n-  name: b\t\r",
+        1,
+    ),
+    ("indexes:\n- kind: T\n  properties:\n  - name: a\n", 0),
+    (
+        "indexes:\n- kind: T\n  properties:\n  - name: a\n    direction: desc\n",
+        0,
+    ),
+    ("indexes:\n- kind: T\n  properties:\n  - name: __key__\n", 0),
+    (
+        "indexes:\n- kind: T\n  properties:\n  - name: __key__\n    direction: desc\n",
+        1,
+    ),
+    (
+        "indexes:\n- kind: T\n  ancestor: yes\n  properties:\n  - name: __key__\n",
+        1,
+    ),
+    (
+        "indexes:\n- kind: T\n  ancestor: yes\n  properties:\n  - name: a\n\
+        - kind: T\n  ancestor: yes\n  properties:\n  - name: a\n  - name: __key__\n    direction: asc\n",
+        1,
+    ),
+    (
+        "indexes:\n- kind: T\n  properties:\n  - name: a\n  - name: b\n- kind: T\n  properties:\n  - name: b\n  - name: a\n",
+        2,
+    ),
+];
+
+#[test]
+fn definitions_are_counted(rt: HostRuntime) {
+    assert_eq!(rt; first_counted_otherwise(rt.alloc(), &COUNTED), None);
+}
+
+/// Bytes that are no text, in a line of their own or among others, and the line that is refused.
+const NO_TEXTS: [(&[u8], u64); 4] = [
+    (b"\xff", 1),
+    (b"indexes:\n# \xc3\n", 2),
+    (b"indexes:\n- kind: \xc3\xa9\n", 3),
+    (b"indexes:\n\n\n- kind: \xc3\n", 4),
+];
+
+#[test]
+fn bytes_are_utf8(rt: HostRuntime) {
+    assert_eq!(rt; first_refused_elsewhere(rt.alloc(), &NO_TEXTS), None);
 }
