@@ -122,13 +122,18 @@ fn close_even(rows: &mut Numbered) -> bool {
     true
 }
 
+/// Whether each of these rows is new, then each of the even ones is there, and they fill few blocks.
+fn hold_a_thousand(rows: &mut Numbered) -> Result<bool, AllocError> {
+    if !add_scattered(rows)? || !close_even(rows) {
+        return Ok(false);
+    }
+    Ok(rows.table.versions() == 1000 && rows.table.blocks() <= 16)
+}
+
 #[test]
 fn seeks_among_a_thousand_rows(rt: HostRuntime) -> Result<(), Fail> {
     let mut rows = Numbered::make(rt.alloc())?;
-    assert!(rt; add_scattered(&mut rows)?, "each row is new");
-    assert!(rt; close_even(&mut rows), "each row is there");
-    assert!(rt; rows.table.versions() == 1000);
-    assert!(rt; rows.table.blocks() <= 16, "few blocks");
+    assert!(rt; hold_a_thousand(&mut rows)?);
     assert!(rt; finds_each_at_three::<Brand>(Blank::new(1), &rows.table));
     Ok(())
 }
@@ -162,17 +167,20 @@ fn finds_three_lives<L: Ledger>(blank: Blank, table: &Table, first: u64) -> bool
     true
 }
 
+/// Whether a trim takes out the first of the three lives, and then one the second.
+fn loses_two_lives(rows: &mut Numbered) -> bool {
+    let three = rows.table.versions() == 3;
+    let first = rows.trim(2) && rows.table.versions() == 2 && rows.table.floor() == 2;
+    let second = rows.trim(6) && rows.table.versions() == 1;
+    three && first && second
+}
+
 #[test]
 fn sees_each_of_three_lives(rt: HostRuntime) -> Result<(), Fail> {
     let mut rows = Numbered::make(rt.alloc())?;
     assert!(rt; live_three_times(&mut rows)?);
     assert!(rt; finds_three_lives::<Brand>(Blank::new(1), &rows.table, 0));
-    assert!(rt; rows.table.versions() == 3);
-    assert!(rt; rows.trim(2));
-    assert!(rt; rows.table.versions() == 2);
-    assert!(rt; rows.table.floor() == 2);
-    assert!(rt; rows.trim(6));
-    assert!(rt; rows.table.versions() == 1);
+    assert!(rt; loses_two_lives(&mut rows));
     assert!(rt;
         finds_three_lives::<Brand>(Blank::new(1), &rows.table, 6),
         "the last one"
@@ -193,7 +201,8 @@ fn live_between_trims(rows: &mut Numbered) -> Result<bool, AllocError> {
             && rows.trim(5)
             && rows.table.versions() == 1
             && !rows.add(5, 5)?
-            && rows.add(5, 6)?,
+            && rows.add(5, 6)?
+            && rows.table.versions() == 2,
     )
 }
 
@@ -201,7 +210,6 @@ fn live_between_trims(rows: &mut Numbered) -> Result<bool, AllocError> {
 fn trims_between_three_lives(rt: HostRuntime) -> Result<(), Fail> {
     let mut rows = Numbered::make(rt.alloc())?;
     assert!(rt; live_between_trims(&mut rows)?);
-    assert!(rt; rows.table.versions() == 2);
     assert!(rt; finds_three_lives::<Brand>(Blank::new(1), &rows.table, 5));
     Ok(())
 }
@@ -232,14 +240,16 @@ fn finds_those_below<L: Ledger>(blank: Blank, table: &Table, at: u64, end: usize
     found(table, at, end, &mut steps).is_none()
 }
 
+/// Whether stamp 2 can be undone, after which there are few blocks.
+fn undo_all_at_two(rows: &mut Numbered) -> bool {
+    let before = rows.table.versions() == 901;
+    before && rows.undo(2) && rows.table.versions() == 600 && rows.table.blocks() <= 10
+}
+
 #[test]
 fn undoes_what_was_done_at_a_stamp(rt: HostRuntime) -> Result<(), Fail> {
     let mut rows = Numbered::make(rt.alloc())?;
-    assert!(rt; replace_half(&mut rows)?);
-    assert!(rt; rows.table.versions() == 901);
-    assert!(rt; rows.undo(2));
-    assert!(rt; rows.table.versions() == 600);
-    assert!(rt; rows.table.blocks() <= 10, "few blocks");
+    assert!(rt; replace_half(&mut rows)? && undo_all_at_two(&mut rows));
     assert!(rt; finds_those_below::<Brand>(Blank::new(1), &rows.table, 2, 600));
     Ok(())
 }
@@ -253,14 +263,16 @@ fn replace_after_a_trim(rows: &mut Numbered) -> Result<bool, AllocError> {
     Ok(close_each(rows, 0, 250, 4) && add_each(rows, 500, 600, 4)?)
 }
 
+/// Whether stamp 2, which was trimmed, can't be undone, and stamp 4 can.
+fn undo_all_at_four(rows: &mut Numbered) -> bool {
+    let before = rows.table.versions() == 600 && !rows.undo(2);
+    before && rows.undo(4) && rows.table.versions() == 500
+}
+
 #[test]
 fn undoes_a_stamp_after_a_trim(rt: HostRuntime) -> Result<(), Fail> {
     let mut rows = Numbered::make(rt.alloc())?;
-    assert!(rt; replace_after_a_trim(&mut rows)?);
-    assert!(rt; rows.table.versions() == 600);
-    assert!(rt; !rows.undo(2), "a stamp that was trimmed");
-    assert!(rt; rows.undo(4));
-    assert!(rt; rows.table.versions() == 500);
+    assert!(rt; replace_after_a_trim(&mut rows)? && undo_all_at_four(&mut rows));
     assert!(rt; finds_those_below::<Brand>(Blank::new(1), &rows.table, 4, 500));
     Ok(())
 }
@@ -275,18 +287,27 @@ fn close_most(rows: &mut Numbered) -> bool {
     true
 }
 
+/// Whether a trim leaves the second half of the rows, and of the first those that are alive.
+fn trims_the_first_half(rows: &mut Numbered) -> bool {
+    rows.trim(3) && rows.table.versions() == 1010 && rows.table.blocks() <= 16
+}
+
+/// Whether a trim leaves the rows that are alive, in one block.
+fn trims_the_rest(rows: &mut Numbered) -> bool {
+    let few = rows.trim(4) && rows.table.versions() == 20 && rows.table.blocks() == 1;
+    few && rows.table.block_len(0) == Some(20) && rows.table.block_len(1).is_none()
+}
+
+fn trims_both_halves(rows: &mut Numbered) -> Result<bool, AllocError> {
+    if !add_each(rows, 0, 2000, 1)? || !close_most(rows) {
+        return Ok(false);
+    }
+    Ok(trims_the_first_half(rows) && trims_the_rest(rows))
+}
+
 #[test]
 fn trims_to_few_blocks(rt: HostRuntime) -> Result<(), Fail> {
     let mut rows = Numbered::make(rt.alloc())?;
-    assert!(rt; add_each(&mut rows, 0, 2000, 1)?);
-    assert!(rt; close_most(&mut rows));
-    assert!(rt; rows.trim(3), "the first half");
-    assert!(rt; rows.table.versions() == 1010);
-    assert!(rt; rows.table.blocks() <= 16, "few blocks");
-    assert!(rt; rows.trim(4), "the rest");
-    assert!(rt; rows.table.versions() == 20);
-    assert!(rt; rows.table.blocks() == 1);
-    assert!(rt; rows.table.block_len(0) == Some(20));
-    assert!(rt; rows.table.block_len(1).is_none());
+    assert!(rt; trims_both_halves(&mut rows)?);
     Ok(())
 }
