@@ -1,7 +1,6 @@
 //! Commits of a book: which conflict, and what is recorded.
-ghost use Rattle.std.specs.Prelude.{◌≤◌, length, IsTrue, IfOk};
+ghost use Rattle.std.specs.Prelude.{◌≤◌, IsTrue, IfOk};
 ghost use Rattle.std.specs.List.{All};
-ghost use Rattle.ds_base.specs.Limits.{most_writes};
 ghost use Rattle.ds_log.specs.Ids.{AreIssued};
 
 use crate::made::{deletes, touches};
@@ -10,11 +9,13 @@ use ds_log::Touch;
 use std::alloc::Global;
 use std::test::Fail;
 
-/// A draft of client 1 that touched these groups and deletes the keys with these names.
+/// A draft of client 1 that touched these groups and deletes the keys with these names, of which there are at most 500.
 fn draft(alloc: Global, touched: &[(&str, u64)], names: &[&str]) -> Result<Draft, Fail>
-    requires { length names.now ≤ most_writes }
     ensures { IfOk result (λ draft. AreIssued 0 draft.writes) }
 {
+    if names.len() > 500 {
+        return Err(Fail::new("many writes"));
+    }
     let touched = touches(alloc, touched)?;
     let writes = deletes(alloc, names)?;
     Ok(Draft::make(alloc, 1, touched, writes)?)
@@ -61,75 +62,95 @@ fn is_conflict(
     }
 }
 
+/// What is answered to a commit: its number, or of a conflict the group, the last commit that wrote it, and the journal's length.
+type Answer = Result<u64, (u32, u64, u64)>;
+
+/// The groups that a draft touched, each with its place, the keys that it deletes, and the answer to its commit.
+type Row = (
+    &'static [(&'static str, u64)],
+    &'static [&'static str],
+    Answer,
+);
+
 /// Two transactions touch [T,a] at place 1 and write it; the second one to commit conflicts with the first one.
-fn second_writer_conflicts(alloc: Global) -> Result<bool, Fail> {
-    let mut book = Book::make(alloc);
-    let first = is_commit(commit(&mut book, draft(alloc, &[], &["a"])?), 1);
-    let one = draft(alloc, &[("a", 1)], &["a"])?;
-    let other = draft(alloc, &[("a", 1)], &["a"])?;
-    let second = is_commit(commit(&mut book, one), 2);
-    let refused = is_conflict(commit(&mut book, other), 0, 2, 2);
-    Ok(first && second && refused && book.journal().len() == 2)
-}
+const SECOND_WRITER: [Row; 3] = [
+    (&[], &["a"], Ok(1)),
+    (&[("a", 1)], &["a"], Ok(2)),
+    (&[("a", 1)], &["a"], Err((0, 2, 2))),
+];
 
 /// A group that is only read is checked too, and so is each group after the first one.
-fn readers_conflict(alloc: Global) -> Result<bool, Fail> {
-    let mut book = Book::make(alloc);
-    let first = is_commit(commit(&mut book, draft(alloc, &[], &["a"])?), 1);
-    let read = draft(alloc, &[("a", 0), ("b", 0)], &["b"])?;
-    let first_group = is_conflict(commit(&mut book, read), 0, 1, 1);
-    let later = draft(alloc, &[("c", 0), ("b", 0), ("a", 0)], &["c"])?;
-    let third_group = is_conflict(commit(&mut book, later), 2, 1, 1);
-    let since = draft(alloc, &[("a", 1), ("b", 0)], &["b"])?;
-    let taken = is_commit(commit(&mut book, since), 2);
-    Ok(first && first_group && third_group && taken)
-}
+const READERS: [Row; 4] = [
+    (&[], &["a"], Ok(1)),
+    (&[("a", 0), ("b", 0)], &["b"], Err((0, 1, 1))),
+    (&[("c", 0), ("b", 0), ("a", 0)], &["c"], Err((2, 1, 1))),
+    (&[("a", 1), ("b", 0)], &["b"], Ok(2)),
+];
 
 /// A write outside a transaction touches nothing and never conflicts; a transaction without touches and writes is numbered too.
-fn untouched_commits(alloc: Global) -> Result<bool, Fail> {
+const UNTOUCHED: [Row; 4] = [
+    (&[], &["a"], Ok(1)),
+    (&[], &["a"], Ok(2)),
+    (&[], &["a"], Ok(3)),
+    (&[], &[], Ok(4)),
+];
+
+/// The last commit that wrote the group is told, and the journal's length at the check.
+const LAST_WRITER: [Row; 4] = [
+    (&[], &["a"], Ok(1)),
+    (&[], &["a", "b"], Ok(2)),
+    (&[], &["b"], Ok(3)),
+    (&[("a", 0)], &["a"], Err((0, 2, 3))),
+];
+
+fn is_as_wanted(answer: Option<Result<u64, CommitRefused>>, wanted: Answer) -> bool {
+    match wanted {
+        Ok(number) => is_commit(answer, number),
+        Err((group, commit, place)) => is_conflict(answer, group, commit, place),
+    }
+}
+
+fn is_answered(alloc: Global, book: &mut Book, row: &Row) -> Result<bool, Fail> {
+    let draft = draft(alloc, row.0, row.1)?;
+    Ok(is_as_wanted(commit(book, draft), row.2))
+}
+
+/// Whether the commits of a new book are answered as the rows say in turn, and leave a journal of this length.
+fn are_answered(alloc: Global, rows: &[Row], length: usize) -> Result<bool, Fail> {
     let mut book = Book::make(alloc);
-    for number in 1..4 {
-        if !is_commit(commit(&mut book, draft(alloc, &[], &["a"])?), number) {
+    for row in rows {
+        if !is_answered(alloc, &mut book, row)? {
             return Ok(false);
         }
     }
-    Ok(is_commit(commit(&mut book, draft(alloc, &[], &[])?), 4))
-}
-
-/// The last commit that wrote the group is told, and the journal's length at the check.
-fn last_writer_is_told(alloc: Global) -> Result<bool, Fail> {
-    let mut book = Book::make(alloc);
-    let one = is_commit(commit(&mut book, draft(alloc, &[], &["a"])?), 1);
-    let two = is_commit(commit(&mut book, draft(alloc, &[], &["a", "b"])?), 2);
-    let three = is_commit(commit(&mut book, draft(alloc, &[], &["b"])?), 3);
-    let refused = is_conflict(
-        commit(&mut book, draft(alloc, &[("a", 0)], &["a"])?),
-        0,
-        2,
-        3,
-    );
-    Ok(one && two && three && refused)
+    Ok(book.journal().len() == length)
 }
 
 #[test]
 fn commits_conflict(rt: HostRuntime) -> Result<(), Fail> {
     let alloc = rt.alloc();
-    assert!(rt; second_writer_conflicts(alloc)?);
-    assert!(rt; readers_conflict(alloc)?);
-    assert!(rt; untouched_commits(alloc)?);
-    assert!(rt; last_writer_is_told(alloc)?);
+    assert!(rt; are_answered(alloc, &SECOND_WRITER, 2)?);
+    assert!(rt; are_answered(alloc, &READERS, 2)?);
+    assert!(rt; are_answered(alloc, &UNTOUCHED, 4)?);
+    assert!(rt; are_answered(alloc, &LAST_WRITER, 3)?);
     Ok(())
+}
+
+/// Whether a draft commits where room was made, and it had no conflict.
+fn commits_in_room(book: &mut Book, draft: Draft) -> Result<bool, Fail>
+    requires { AreIssued 0 draft.writes }
+{
+    book.make_room(&draft)?;
+    let free = book.check(&draft).is_ok();
+    Ok(is_commit(commit(book, draft), 1) && free)
 }
 
 /// With room made a draft without conflict is appended, and the journal that is left has it.
 fn room_is_made(alloc: Global) -> Result<bool, Fail> {
-    let mut book = Book::make(alloc);
     let draft = draft(alloc, &[("a", 0)], &["a", "b"])?;
-    book.make_room(&draft)?;
-    let free = book.check(&draft).is_ok();
-    let first = is_commit(commit(&mut book, draft), 1);
-    let journal = book.end();
-    Ok(free && first && journal.len() == 1)
+    let mut book = Book::make(alloc);
+    let holds = commits_in_room(&mut book, draft)?;
+    Ok(holds && book.end().len() == 1)
 }
 
 #[test]

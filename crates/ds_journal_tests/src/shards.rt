@@ -21,11 +21,15 @@ fn commit(alloc: Global, names: &[&str]) -> Result<Commit, Fail> {
     })
 }
 
+/// The names of the keys that three commits delete.
+const COMMITS: [&[&str]; 3] = [&["a", "b"], &["b"], &["c", "a", "c"]];
+
 fn journal(alloc: Global) -> Result<Journal, Fail> {
     let mut commits = Vec::new(alloc);
-    commits.push(commit(alloc, &["a", "b"])?)?;
-    commits.push(commit(alloc, &["b"])?)?;
-    commits.push(commit(alloc, &["c", "a", "c"])?)?;
+    for names in &COMMITS {
+        let commit = commit(alloc, *names)?;
+        commits.push(commit)?;
+    }
     Ok(Journal::from(commits))
 }
 
@@ -45,25 +49,41 @@ fn are_entries(entries: &[Entry], wanted: &[(u64, &str, usize)]) -> bool {
     true
 }
 
+/// Whether these are the entries of the journal for one of two shards.
+fn gives(
+    alloc: Global,
+    journal: &Journal,
+    shard: u32,
+    wanted: &[(u64, &str, usize)],
+) -> Result<bool, Fail> {
+    let entries = project(alloc, journal, shard, 2)?;
+    Ok(are_entries(entries.as_slice(), wanted))
+}
+
 /// Of [T,a], [T,b] and [T,c] the second has an even hash. In commit 3 the groups stand by their root keys.
+fn is_shared_by_two(alloc: Global) -> Result<bool, Fail> {
+    let journal = journal(alloc)?;
+    let even = gives(alloc, &journal, 0, &[(1, "b", 1), (2, "b", 1)])?;
+    let odd = gives(alloc, &journal, 1, &[(1, "a", 1), (3, "a", 1), (3, "c", 2)])?;
+    Ok(even && odd)
+}
+
 #[test]
 fn two_shards_share_a_journal(rt: HostRuntime) -> Result<(), Fail> {
-    let alloc = rt.alloc();
-    let journal = journal(alloc)?;
-    let even = project(alloc, &journal, 0, 2)?;
-    assert!(rt; are_entries(even.as_slice(), &[(1, "b", 1), (2, "b", 1)]));
-    let odd = project(alloc, &journal, 1, 2)?;
-    assert!(rt; are_entries(odd.as_slice(), &[(1, "a", 1), (3, "a", 1), (3, "c", 2)]));
+    assert!(rt; is_shared_by_two(rt.alloc())?);
     Ok(())
 }
 
 /// The entries of one commit for a shard are those with which its list goes on.
-#[test]
-fn a_commit_gives_a_shard_its_entries(rt: HostRuntime) -> Result<(), Fail> {
-    let alloc = rt.alloc();
+fn gives_its_entries(alloc: Global) -> Result<bool, Fail> {
     let last = commit(alloc, &["c", "a", "c"])?;
     let odd = shard_entries(alloc, 3, &last, 1, 2)?;
-    assert!(rt; are_entries(odd.as_slice(), &[(3, "a", 1), (3, "c", 2)]));
+    Ok(are_entries(odd.as_slice(), &[(3, "a", 1), (3, "c", 2)]))
+}
+
+#[test]
+fn a_commit_gives_a_shard_its_entries(rt: HostRuntime) -> Result<(), Fail> {
+    assert!(rt; gives_its_entries(rt.alloc())?);
     Ok(())
 }
 

@@ -11,16 +11,39 @@ const GROUPS: [&str; 26] = [
     "t", "u", "v", "w", "x", "y", "z",
 ];
 
+/// Whether the group [T,name] can be touched at this place, and is then touched at the wanted one.
+fn touches(
+    alloc: Global,
+    txn: &mut Txn,
+    name: &str,
+    place: u64,
+    wanted: u64,
+) -> Result<bool, Fail> {
+    match txn.touch(key(alloc, name)?, place) {
+        Ok(found) => Ok(found == wanted),
+        Err(_) => Ok(false),
+    }
+}
+
 /// Whether these groups are touched at places 0, 1, 2 and so on.
 fn takes_groups(alloc: Global, txn: &mut Txn, groups: &[&str]) -> Result<bool, Fail> {
     for (i, group) in groups.iter().enumerate() {
-        let place = i as u64;
-        match txn.touch(key(alloc, *group)?, place) {
-            Ok(m) if m == place => {}
-            _ => return Ok(false),
+        if !touches(alloc, txn, *group, i as u64, i as u64)? {
+            return Ok(false);
         }
     }
     Ok(true)
+}
+
+fn may_touch(alloc: Global, txn: &Txn, name: &str) -> Result<bool, Fail> {
+    let key = key(alloc, name)?;
+    Ok(txn.may_touch(Some(&key)).is_ok())
+}
+
+/// The place at which the group [T,name] was touched.
+fn place_of(alloc: Global, txn: &Txn, name: &str) -> Result<Option<u64>, Fail> {
+    let key = key(alloc, name)?;
+    Ok(txn.place(&key))
 }
 
 fn is_second_group(refused: Result<u64, TxnRefused>) -> bool {
@@ -42,9 +65,9 @@ fn takes_25_groups(alloc: Global) -> Result<bool, Fail> {
     if !takes_groups(alloc, &mut txn, &GROUPS[..25])? {
         return Ok(false);
     }
-    let may_touch = txn.may_touch(Some(&key(alloc, "a")?)).is_ok();
+    let again = may_touch(alloc, &txn, "a")?;
     let refuses = txn.may_touch(None).is_err();
-    Ok(may_touch && refuses && is_too_many_groups(txn.touch(key(alloc, "z")?, 0)))
+    Ok(is_too_many_groups(txn.touch(key(alloc, "z")?, 0)) && again && refuses)
 }
 
 fn takes_one_group(alloc: Global) -> Result<bool, Fail> {
@@ -58,18 +81,11 @@ fn takes_one_group(alloc: Global) -> Result<bool, Fail> {
 /// A second touch gives the first one's place.
 fn keeps_the_first_place(alloc: Global) -> Result<bool, Fail> {
     let mut txn = Txn::begin(alloc, false);
-    let first = txn.touch(key(alloc, "a")?, 3);
-    let second = txn.touch(key(alloc, "a")?, 7);
-    let place = txn.place(&key(alloc, "a")?);
-    let other = txn.place(&key(alloc, "b")?);
-    Ok(is_place(first) && is_place(second) && place == Some(3) && other.is_none())
-}
-
-fn is_place(touched: Result<u64, TxnRefused>) -> bool {
-    match touched {
-        Ok(place) => place == 3,
-        Err(_) => false,
-    }
+    let first = touches(alloc, &mut txn, "a", 3, 3)?;
+    let second = touches(alloc, &mut txn, "a", 7, 3)?;
+    let place = place_of(alloc, &txn, "a")?;
+    let other = place_of(alloc, &txn, "b")?;
+    Ok(first && second && place == Some(3) && other.is_none())
 }
 
 #[test]
@@ -81,8 +97,9 @@ fn transactions_take_their_groups(rt: HostRuntime) -> Result<(), Fail> {
     Ok(())
 }
 
-fn takes_deletes<K: Drop>(taken: Result<(), WriteRefused<K>>) -> bool {
-    taken.is_ok()
+/// Whether the transaction takes a delete of [T,a].
+fn deletes(alloc: Global, txn: &mut Txn) -> Result<bool, Fail> {
+    Ok(txn.delete(key(alloc, "a")?).is_ok())
 }
 
 fn is_too_many_writes<K: Drop>(refused: Result<(), WriteRefused<K>>) -> bool {
@@ -100,7 +117,7 @@ fn is_too_many_writes<K: Drop>(refused: Result<(), WriteRefused<K>>) -> bool {
 fn takes_500_writes(alloc: Global) -> Result<bool, Fail> {
     let mut txn = Txn::begin(alloc, false);
     for _ in 0..500 {
-        if !takes_deletes(txn.delete(key(alloc, "a")?)) {
+        if !deletes(alloc, &mut txn)? {
             return Ok(false);
         }
     }
@@ -123,31 +140,59 @@ fn is_first_conflict(answer: Result<(), Conflict>, commit: u64, place: u64) -> b
     }
 }
 
-/// Commit 1 wrote [T,a]: a transaction that touched it before conflicts by the heads, one that touched it since doesn't.
-fn heads_tell_conflicts(alloc: Global) -> Result<bool, Fail> {
+/// The heads after commit 1, which wrote [T,a]; none where they don't take it.
+fn heads_of_one(alloc: Global) -> Result<Option<Heads>, Fail> {
     let mut heads = Heads::make(alloc);
     heads.make_room(1)?;
     if heads.note(key(alloc, "a")?, 1).is_err() {
-        return Ok(false);
+        return Ok(None);
     }
     heads.end_commit();
-    let last = heads.last(&key(alloc, "a")?);
-    let other = heads.last(&key(alloc, "b")?);
-    let mut before = Txn::begin(alloc, false);
-    let touched = before.touch(key(alloc, "a")?, 0).is_ok();
-    let mut since = Txn::begin(alloc, false);
-    let touched_since = since.touch(key(alloc, "a")?, 1).is_ok();
-    let told = is_first_conflict(before.check(&heads), 1, 1) && since.check(&heads).is_ok();
+    Ok(Some(heads))
+}
+
+/// The last commit that wrote [T,name].
+fn last_of(alloc: Global, heads: &Heads, name: &str) -> Result<Option<u64>, Fail> {
+    let key = key(alloc, name)?;
+    Ok(heads.last(&key))
+}
+
+/// Whether a transaction that touched [T,a] at this place conflicts with commit 1, if it is to, or is free.
+fn is_checked(alloc: Global, heads: &Heads, place: u64, conflicts: bool) -> Result<bool, Fail> {
+    let mut txn = Txn::begin(alloc, false);
+    let touched = touches(alloc, &mut txn, "a", place, place)?;
+    let answer = txn.check(heads);
+    let told = if conflicts {
+        is_first_conflict(answer, 1, 1)
+    } else {
+        answer.is_ok()
+    };
+    Ok(touched && told)
+}
+
+/// Commit 1 wrote [T,a]: a transaction that touched it before conflicts by the heads, one that touched it since doesn't.
+fn are_told(alloc: Global, heads: &Heads) -> Result<bool, Fail> {
+    let last = last_of(alloc, heads, "a")?;
+    let other = last_of(alloc, heads, "b")?;
+    let before = is_checked(alloc, heads, 0, true)?;
+    let since = is_checked(alloc, heads, 1, false)?;
     let noted = last == Some(1) && other.is_none() && heads.length() == 1;
-    Ok(touched && touched_since && told && noted)
+    Ok(before && since && noted)
+}
+
+fn heads_tell_conflicts(alloc: Global) -> Result<bool, Fail> {
+    match heads_of_one(alloc)? {
+        Some(heads) => are_told(alloc, &heads),
+        None => Ok(false),
+    }
 }
 
 /// With room made the next touch and the next write are taken, and the parts are what was given.
 fn takes_with_room(alloc: Global) -> Result<bool, Fail> {
     let mut txn = Txn::begin(alloc, false);
     txn.make_room()?;
-    let touched = txn.touch(key(alloc, "a")?, 0).is_ok();
-    let taken = txn.delete(key(alloc, "a")?).is_ok();
+    let touched = touches(alloc, &mut txn, "a", 0, 0)?;
+    let taken = deletes(alloc, &mut txn)?;
     let parts = txn.parts(alloc)?;
     Ok(touched && taken && parts.touched.len() == 1 && parts.writes.len() == 1)
 }
