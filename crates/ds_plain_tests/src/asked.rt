@@ -31,31 +31,41 @@ fn order(alloc: Global, descending: bool) -> Result<Columns, NoMemory> {
     Ok(Columns::from(vec![in alloc; Column { name, descending }]?))
 }
 
-/// The query of clauses as `> 3`, `in 1,2`, `asc` and `desc`.
-pub(crate) fn query(alloc: Global, text: &str) -> Result<Query, NoMemory> {
-    let mut filters = Filters::new(alloc);
-    let mut orders = Columns::new(alloc);
-    for clause in text.split(';') {
-        let mut words = clause.split_whitespace();
-        match words.next().unwrap_or("") {
-            "" => {}
-            "asc" => orders = order(alloc, false)?,
-            "desc" => orders = order(alloc, true)?,
-            op => put(
-                &mut filters,
-                filter(alloc, op, words.next().unwrap_or("0"))?,
-            )?,
-        }
-    }
+/// The query for all of a kind.
+fn all_asked(alloc: Global) -> Result<Query, NoMemory> {
+    let kind = TextString::of(alloc, "T")?;
     Ok(Query {
         namespace: TextString::new(alloc),
-        kind: Some(TextString::of(alloc, "T")?),
+        kind: Some(kind),
         ancestor: None,
-        filters,
-        orders,
+        filters: Filters::new(alloc),
+        orders: Columns::new(alloc),
         select: Select::Keys,
         cursors: false,
     })
+}
+
+fn add_clause(alloc: Global, query: &mut Query, clause: &str) -> Result<(), NoMemory> {
+    let mut words = clause.split_whitespace();
+    match words.next().unwrap_or("") {
+        "" => {}
+        "asc" => query.orders = order(alloc, false)?,
+        "desc" => query.orders = order(alloc, true)?,
+        op => put(
+            &mut query.filters,
+            filter(alloc, op, words.next().unwrap_or("0"))?,
+        )?,
+    }
+    Ok(())
+}
+
+/// The query of clauses as `> 3`, `in 1,2`, `asc` and `desc`.
+pub(crate) fn query(alloc: Global, text: &str) -> Result<Query, NoMemory> {
+    let mut query = all_asked(alloc)?;
+    for clause in text.split(';') {
+        add_clause(alloc, &mut query, clause)?;
+    }
+    Ok(query)
 }
 
 /// Its normal form.

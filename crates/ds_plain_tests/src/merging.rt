@@ -15,7 +15,7 @@ ghost use Rattle.ds_query.specs.Lawful.{IsLawfulBranch, IsLawfulNormal};
 ghost use Rattle.ds_shard.specs.Shards.{keeps};
 
 use crate::asked::normal;
-use crate::results::{are_keys, from};
+use crate::results::{from, has_keys};
 use crate::written::{entities, key};
 use ds_base::{Names, NoMemory};
 use ds_engine::laws::bounds_add_up;
@@ -59,13 +59,13 @@ fn entry(alloc: Global, written: &str) -> Result<Entry, Fail> {
 }
 
 /// A plan of the branch without composite indexes, no scan of which is one too many.
-fn planned(alloc: Global, branch: &Branch) -> Result<ScanPlan, Fail>
+fn planned(alloc: Global, branch: &Branch) -> Result<ScanPlan, NoMemory>
     requires { IsLawfulBranch branch.now }
     ensures { IfOk result (IsPlanFor [] branch.now) }
 {
     match plan(alloc, branch, &Defs::new(alloc)) {
         Ok(plan) => Ok(plan),
-        Err(_) => Err(Fail::new("no plan")),
+        Err(_) => Err(AllocError),
     }
 }
 
@@ -286,6 +286,23 @@ fn whole() -> Window {
     from(None, 0, None)
 }
 
+/// The second result of both shards.
+fn second_page<L: Ledger>(
+    alloc: Global,
+    first: &Shard,
+    second: &Shard,
+    branch: &Branch,
+    steps: &mut Steps<L>,
+) -> Result<Merged, NoMemory>
+    requires bare { (first.now.definitions ≡ []) × (second.now.definitions ≡ []) }
+    requires kept { IsTrue (keeps first.now first.now.count) × IsTrue (keeps second.now second.now.count) }
+    requires lawful { IsLawfulBranch branch.now }
+{
+    let window = from(None, 1, Some(1));
+    let plan = planned(alloc, branch)?;
+    Ok(page_of_both(alloc, first, second, branch, &plan, &window, steps)?)
+}
+
 /// Whether `b` is the second result of both shards.
 fn is_second<L: Ledger>(
     alloc: Global,
@@ -298,17 +315,23 @@ fn is_second<L: Ledger>(
     requires kept { IsTrue (keeps first.now first.now.count) × IsTrue (keeps second.now second.now.count) }
     requires lawful { IsLawfulBranch branch.now }
 {
-    let plan = planned(alloc, branch)?;
-    let page = page_of_both(
-        alloc,
-        first,
-        second,
-        branch,
-        &plan,
-        &from(None, 1, Some(1)),
-        steps,
-    )?;
-    Ok(are_keys(alloc, page.rows.as_slice(), " b")?)
+    let page = second_page(alloc, first, second, branch, steps)?;
+    has_keys(alloc, page.rows.as_slice(), " b")
+}
+
+/// Whether `c` and `a` are the results of a shard.
+fn are_alone<L: Ledger>(
+    alloc: Global,
+    shard: &Shard,
+    branch: &Branch,
+    steps: &mut Steps<L>,
+) -> Result<bool, Fail>
+    requires bare { shard.now.definitions ≡ [] }
+    requires kept { IsTrue (keeps shard.now shard.now.count) }
+    requires lawful { IsLawfulBranch branch.now }
+{
+    let page = page_alone(alloc, shard, branch, steps)?;
+    has_keys(alloc, page.rows.as_slice(), " c a")
 }
 
 /// Whether `b` is the second result of both shards in each branch, and `c` and `a` are those of the second shard.
@@ -327,8 +350,7 @@ fn are_merged<L: Ledger>(
         if !is_second(alloc, first, second, branch, steps)? {
             return Ok(false);
         }
-        let page = page_alone(alloc, second, branch, steps)?;
-        if !are_keys(alloc, page.rows.as_slice(), " c a")? {
+        if !are_alone(alloc, second, branch, steps)? {
             return Ok(false);
         }
     }
@@ -349,7 +371,7 @@ fn are_united<L: Ledger>(
 {
     let lists = lists_of_branches(alloc, first, second, normal, steps)?;
     let page = page_of_branches(alloc, normal, &whole(), lists)?;
-    Ok(are_keys(alloc, page.rows.as_slice(), " a c b")?)
+    has_keys(alloc, page.rows.as_slice(), " a c b")
 }
 
 fn merges_both<L: Ledger>(

@@ -3,12 +3,12 @@ ghost use Rattle.ds_query.specs.Lawful.{IsLawfulNormal};
 
 use crate::asked::{normal, query};
 use crate::written::entities;
-use ds_base::{Columns, Ident, Key, Names, NoMemory};
-use ds_engine::{extended, merge};
-use ds_entity::Entities;
+use ds_base::{Ident, Key, Names, NoMemory};
+use ds_engine::{Merged, extended, merge};
+use ds_entity::{Entities, Entity};
 use ds_pages::page_of_results;
-use ds_plain::{Plain, answer, branch_lists, rows_between};
-use ds_query::{Branch, Normal, Place, Row, RowList, Window, normalize};
+use ds_plain::{answer, branch_lists, rows_between};
+use ds_query::{Branch, Normal, Place, Query, Row, RowList, Window, normalize};
 use std::alloc::Global;
 use std::test::Fail;
 
@@ -40,50 +40,96 @@ fn show_rows(rows: &[Row], onto: &mut String) -> Result<(), NoMemory> {
 }
 
 /// Whether these are the keys of the rows.
-pub(crate) fn are_keys(alloc: Global, rows: &[Row], keys: &str) -> Result<bool, NoMemory> {
+fn are_keys(alloc: Global, rows: &[Row], keys: &str) -> Result<bool, NoMemory> {
     let mut shown = String::new(alloc);
     show_rows(rows, &mut shown)?;
     Ok(shown.as_str() == keys)
 }
 
-/// The keys of the lists of the branches, united.
-fn show_merged(
-    alloc: Global,
-    entities: &Entities,
-    normal: &Normal,
-    window: &Window,
-    onto: &mut String,
-) -> Result<(), NoMemory> {
+/// The same in a test.
+pub(crate) fn has_keys(alloc: Global, rows: &[Row], keys: &str) -> Result<bool, Fail> {
+    Ok(are_keys(alloc, rows, keys)?)
+}
+
+/// The entities where they lie.
+fn lent<'a>(alloc: Global, entities: &'a Entities) -> Result<Vec<&'a Entity>, NoMemory> {
     let mut lent = Vec::with_capacity(alloc, entities.len())?;
     for entity in entities.as_slice() {
         lent.push(entity)?;
     }
-    let lists = branch_lists(alloc, lent.as_slice(), normal)?;
-    let merged = merge(alloc, lists, &normal.merged, &Names::new(alloc), window)?;
-    show_rows(merged.rows.as_slice(), onto)
+    Ok(lent)
 }
 
-/// The keys of a page that begins with the first result, found by sorting one list and by uniting those of the branches.
+/// The lists of the branches, united.
+fn united(
+    alloc: Global,
+    entities: &Entities,
+    normal: &Normal,
+    window: &Window,
+) -> Result<Merged, NoMemory> {
+    let lent = lent(alloc, entities)?;
+    let lists = branch_lists(alloc, lent.as_slice(), normal)?;
+    merge(alloc, lists, &normal.merged, &Names::new(alloc), window)
+}
+
+/// The keys of the lists of the branches, united, where they are others than those of the rows.
+fn show_others(
+    alloc: Global,
+    rows: &[Row],
+    united: &[Row],
+    onto: &mut String,
+) -> Result<(), NoMemory> {
+    let mut keys = String::new(alloc);
+    show_rows(united, &mut keys)?;
+    if are_keys(alloc, rows, keys.as_str())? {
+        return Ok(());
+    }
+    onto.push_str(" or")?;
+    onto.push_str(keys.as_str())
+}
+
+fn show_united(
+    alloc: Global,
+    entities: &Entities,
+    normal: &Normal,
+    window: &Window,
+    rows: &[Row],
+    onto: &mut String,
+) -> Result<(), NoMemory> {
+    let united = united(alloc, entities, normal, window)?;
+    show_others(alloc, rows, united.rows.as_slice(), onto)
+}
+
+/// The keys of a page that begins with the first result, found by sorting one list and by uniting those of the branches; gives where the
+/// page ends.
 fn show_first(
     alloc: Global,
     entities: &Entities,
     normal: &Normal,
     window: &Window,
     onto: &mut String,
-) -> Result<Plain, NoMemory>
+) -> Result<Option<Place>, NoMemory>
     requires { IsLawfulNormal normal.now }
 {
     let found = answer(alloc, entities, normal, window)?;
-    let mut keys = String::new(alloc);
-    show_rows(found.rows.as_slice(), &mut keys)?;
-    let mut united = String::new(alloc);
-    show_merged(alloc, entities, normal, window, &mut united)?;
-    onto.push_str(keys.as_str())?;
-    if keys.as_str() != united.as_str() {
-        onto.push_str(" or")?;
-        onto.push_str(united.as_str())?;
-    }
-    Ok(found)
+    show_rows(found.rows.as_slice(), onto)?;
+    show_united(alloc, entities, normal, window, found.rows.as_slice(), onto)?;
+    Ok(found.next)
+}
+
+/// The keys of all that follows a page.
+fn show_rest(
+    alloc: Global,
+    entities: &Entities,
+    normal: &Normal,
+    next: Option<Place>,
+    onto: &mut String,
+) -> Result<(), NoMemory>
+    requires { IsLawfulNormal normal.now }
+{
+    onto.push_str(" |")?;
+    let rest = answer(alloc, entities, normal, &from(next, 0, None))?;
+    show_rows(rest.rows.as_slice(), onto)
 }
 
 /// The keys of a page, and those of all that follows it.
@@ -96,10 +142,8 @@ fn show_pages(
 ) -> Result<(), NoMemory>
     requires { IsLawfulNormal normal.now }
 {
-    let first = show_first(alloc, entities, normal, window, onto)?;
-    onto.push_str(" |")?;
-    let second = answer(alloc, entities, normal, &from(first.next, 0, None))?;
-    show_rows(second.rows.as_slice(), onto)
+    let next = show_first(alloc, entities, normal, window, onto)?;
+    show_rest(alloc, entities, normal, next, onto)
 }
 
 fn show_normal(
@@ -123,24 +167,33 @@ fn show_normal(
     }
 }
 
-/// What a query finds, all of it or page after page.
-fn shown(
+/// What a query finds, all of it or page after page; nothing where it isn't lawful.
+fn show_query(
+    alloc: Global,
+    entities: &Entities,
+    query: &Query,
+    page: Option<(u32, u32)>,
+    onto: &mut String,
+) -> Result<(), NoMemory> {
+    if !query.is_lawful() {
+        return Ok(());
+    }
+    match normalize(alloc, query) {
+        Ok(normal) => show_normal(alloc, entities, &normal, page, onto),
+        Err(_) => onto.push_str(" refused"),
+    }
+}
+
+fn show(
     alloc: Global,
     written: &str,
     asked: &str,
     page: Option<(u32, u32)>,
-) -> Result<String, Fail> {
-    let mut shown = String::new(alloc);
+    onto: &mut String,
+) -> Result<(), NoMemory> {
     let entities = entities(alloc, written)?;
     let query = query(alloc, asked)?;
-    if !query.is_lawful() {
-        return Ok(shown);
-    }
-    match normalize(alloc, &query) {
-        Ok(normal) => show_normal(alloc, &entities, &normal, page, &mut shown)?,
-        Err(_) => shown.push_str(" refused")?,
-    }
-    Ok(shown)
+    show_query(alloc, &entities, &query, page, onto)
 }
 
 /// Two entities whose values lie among each other.
@@ -178,16 +231,25 @@ const FOUND: [(&str, &str, Option<(u32, u32)>, &str); 16] = [
     (FEW, "in 5,4; asc", None, " b a"),
 ];
 
-fn is_found(alloc: Global, row: &(&str, &str, Option<(u32, u32)>, &str)) -> Result<bool, Fail> {
-    let text = shown(alloc, row.0, row.1, row.2)?;
+fn is_found(alloc: Global, row: &(&str, &str, Option<(u32, u32)>, &str)) -> Result<bool, NoMemory> {
+    let mut text = String::new(alloc);
+    show(alloc, row.0, row.1, row.2, &mut text)?;
     Ok(text.as_str() == row.3)
+}
+
+/// The place of the first row for which something else is found.
+fn first_wrong(alloc: Global) -> Result<Option<usize>, NoMemory> {
+    for (place, row) in FOUND.iter().enumerate() {
+        if !is_found(alloc, row)? {
+            return Ok(Some(place));
+        }
+    }
+    Ok(None)
 }
 
 #[test]
 fn finds_and_pages(rt: HostRuntime) -> Result<(), Fail> {
-    for row in &FOUND {
-        assert!(rt; is_found(rt.alloc(), row)?, "{} of {}", row.1, row.0);
-    }
+    assert_eq!(rt; first_wrong(rt.alloc())?, None);
     Ok(())
 }
 
@@ -201,45 +263,32 @@ fn has_first_value(row: &Row, branch: &Branch) -> bool {
     }
 }
 
-/// Whether the branch has one row, which has in the merged columns the value that the branch asks.
-fn is_extended(
-    alloc: Global,
-    entities: &Entities,
-    merged: &Columns,
-    branch: &Branch,
-) -> Result<bool, NoMemory> {
-    let mut lent = Vec::with_capacity(alloc, entities.len())?;
-    for entity in entities.as_slice() {
-        lent.push(entity)?;
-    }
-    let rows = rows_between(alloc, lent.as_slice(), branch, &from(None, 0, None))?;
-    let list = extended(alloc, merged, branch, RowList::from(rows))?;
+/// Whether the list has one row, which has in the merged columns the value that the branch asks.
+fn is_extended(list: &RowList, branch: &Branch) -> bool {
     match list.get(0) {
-        Some(row) => Ok(list.len() == 1 && has_first_value(row, branch)),
-        None => Ok(false),
+        Some(row) => list.len() == 1 && has_first_value(row, branch),
+        None => false,
     }
 }
 
-/// Whether each branch of a query is so.
-fn are_extended(alloc: Global, written: &str, asked: &str) -> Result<bool, Fail> {
-    let entities = entities(alloc, written)?;
-    let query = query(alloc, asked)?;
-    if !query.is_lawful() {
-        return Ok(false);
-    }
-    match normalize(alloc, &query) {
-        Ok(normal) => each_extended(alloc, &entities, &normal),
-        Err(_) => Ok(false),
-    }
-}
-
-fn each_extended(alloc: Global, entities: &Entities, normal: &Normal) -> Result<bool, Fail> {
+/// Whether each branch has one row that is so.
+fn each_extended(alloc: Global, entities: &[&Entity], normal: &Normal) -> Result<bool, Fail> {
     for branch in normal.branches.as_slice() {
-        if !is_extended(alloc, entities, &normal.merged, branch)? {
+        let rows = rows_between(alloc, entities, branch, &from(None, 0, None))?;
+        let list = extended(alloc, &normal.merged, branch, RowList::from(rows))?;
+        if !is_extended(&list, branch) {
             return Ok(false);
         }
     }
     Ok(true)
+}
+
+/// Whether each branch of a query is so.
+fn are_extended(alloc: Global, written: &str, asked: &str) -> Result<bool, Fail> {
+    let normal = normal(alloc, asked)?;
+    let entities = entities(alloc, written)?;
+    let lent = lent(alloc, &entities)?;
+    each_extended(alloc, lent.as_slice(), &normal)
 }
 
 #[test]
@@ -248,19 +297,26 @@ fn extends_the_rows_of_a_branch(rt: HostRuntime) -> Result<(), Fail> {
     Ok(())
 }
 
-/// The second of the results of three entities, which are handed over the other way round.
-fn second_of_three(alloc: Global) -> Result<bool, Fail> {
+/// The rows of three entities, the other way round.
+fn three_reversed(alloc: Global) -> Result<Vec<Row>, Fail> {
     let entities = entities(alloc, "b:2 a:1 c:3")?;
-    let all = answer(
-        alloc,
-        &entities,
-        &normal(alloc, "asc")?,
-        &from(None, 0, None),
-    )?;
+    let normal = normal(alloc, "asc")?;
+    let all = answer(alloc, &entities, &normal, &from(None, 0, None))?;
     let mut rows = all.rows.into_vec();
     rows.reverse();
+    Ok(rows)
+}
+
+/// Whether this is the key of the second of these results.
+fn has_second(alloc: Global, rows: Vec<Row>, key: &str) -> Result<bool, Fail> {
     let page = page_of_results(alloc, rows, &from(None, 1, Some(1)))?;
-    Ok(are_keys(alloc, page.rows.as_slice(), " b")?)
+    has_keys(alloc, page.rows.as_slice(), key)
+}
+
+/// The second of the results of three entities, which are handed over the other way round.
+fn second_of_three(alloc: Global) -> Result<bool, Fail> {
+    let rows = three_reversed(alloc)?;
+    has_second(alloc, rows, " b")
 }
 
 #[test]

@@ -14,7 +14,7 @@ ghost use Rattle.ds_plain.specs.Answers.{query_page};
 ghost use Rattle.ds_query.specs.Lawful.{IsLawfulNormal};
 
 use crate::asked::normal;
-use crate::results::{are_keys, from};
+use crate::results::{from, has_keys};
 use crate::written::{entities, key};
 use ds_base::{Elem, Elems, Ident, Key, NoMemory, TextString};
 use ds_entity::{Entities, Entity};
@@ -76,16 +76,21 @@ fn finds(alloc: Global, written: &str, normal: &Normal, keys: &str) -> Result<bo
 {
     let ordered = entities(alloc, written)?;
     let found = over_ordered(alloc, &ordered, normal, &from(None, 0, None))?;
-    Ok(are_keys(alloc, found.rows.as_slice(), keys)?)
+    has_keys(alloc, found.rows.as_slice(), keys)
+}
+
+fn finds_in_both(alloc: Global, normal: &Normal, keys: &str) -> Result<bool, Fail>
+    requires { IsLawfulNormal normal.now }
+{
+    let one = finds(alloc, "a:1,5 b:4 c:3", normal, keys)?;
+    let other = finds(alloc, "c:3 b:4 a:1,5", normal, keys)?;
+    Ok(one && other)
 }
 
 /// Whether it finds them over entities in either order.
 fn finds_always(alloc: Global, asked: &str, keys: &str) -> Result<bool, Fail> {
     let normal = normal(alloc, asked)?;
-    Ok(
-        finds(alloc, "a:1,5 b:4 c:3", &normal, keys)?
-            && finds(alloc, "c:3 b:4 a:1,5", &normal, keys)?,
-    )
+    finds_in_both(alloc, &normal, keys)
 }
 
 #[test]
