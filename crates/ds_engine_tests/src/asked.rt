@@ -10,7 +10,7 @@ use ds_engine::EngineRefused;
 use ds_entity::Entity;
 use ds_io::Steps;
 use ds_plain::answer_of;
-use ds_query::{Branch, Branches, Normal, Place, Row, Window};
+use ds_query::{Branch, Branches, Normal, Place, Row, RowList, Window};
 use std::alloc::Global;
 use std::marker::Model;
 use std::sync::ledger::Ledger;
@@ -59,11 +59,36 @@ impl Asked {
         most: Option<u32>,
         steps: &mut Steps<L>,
     ) -> Result<bool, Fail> {
-        let part = part(alloc, self.low.as_ref(), self.high.as_ref(), most)?;
-        if !is_same(alloc, store, at, self, entities, &part, steps)? {
+        if !self.agrees_in_part(alloc, store, at, entities, most, steps)? {
             return Ok(false);
         }
-        is_same(alloc, store, at, self, entities, &whole(), steps)
+        self.agrees_in(alloc, store, at, entities, &whole(), steps)
+    }
+
+    fn agrees_in_part<L: Ledger>(
+        &self,
+        alloc: Global,
+        store: &Store,
+        at: u64,
+        entities: &[&Entity],
+        most: Option<u32>,
+        steps: &mut Steps<L>,
+    ) -> Result<bool, Fail> {
+        let part = part(alloc, self.low.as_ref(), self.high.as_ref(), most)?;
+        self.agrees_in(alloc, store, at, entities, &part, steps)
+    }
+
+    fn agrees_in<L: Ledger>(
+        &self,
+        alloc: Global,
+        store: &Store,
+        at: u64,
+        entities: &[&Entity],
+        window: &Window,
+        steps: &mut Steps<L>,
+    ) -> Result<bool, Fail> {
+        let plain = answer_of(alloc, entities, &self.normal, window)?;
+        self.gives(alloc, store, at, window, plain.rows.as_slice(), steps)
     }
 
     /// Keeps the places of two rows, one and three quarters down the list, where there are any.
@@ -75,15 +100,15 @@ impl Asked {
         steps: &mut Steps<L>,
     ) -> Result<(), Fail> {
         match store.rows(alloc, at, &self.branch, &whole(), steps) {
-            Ok(rows) => {
-                let low = place_at(alloc, rows.as_slice(), rows.len() / 4)?;
-                let high = place_at(alloc, rows.as_slice(), rows.len() / 4 * 3)?;
-                self.low = low;
-                self.high = high;
-                Ok(())
-            }
+            Ok(rows) => self.cut_at(alloc, rows.as_slice()),
             Err(refused) => Err(fail_of(refused)),
         }
+    }
+
+    fn cut_at(&mut self, alloc: Global, rows: &[Row]) -> Result<(), Fail> {
+        self.low = place_at(alloc, rows, rows.len() / 4)?;
+        self.high = place_at(alloc, rows, rows.len() / 4 * 3)?;
+        Ok(())
     }
 
     /// Whether another store, which keeps the stamp too, gives the same rows.
@@ -96,7 +121,7 @@ impl Asked {
         steps: &mut Steps<L>,
     ) -> Result<bool, Fail> {
         match store.rows(alloc, at, &self.branch, &whole(), steps) {
-            Ok(rows) => self.gives(alloc, other, at, rows.as_slice(), steps),
+            Ok(rows) => self.gives(alloc, other, at, &whole(), rows.as_slice(), steps),
             Err(refused) => Err(fail_of(refused)),
         }
     }
@@ -106,10 +131,11 @@ impl Asked {
         alloc: Global,
         store: &Store,
         at: u64,
+        window: &Window,
         rows: &[Row],
         steps: &mut Steps<L>,
     ) -> Result<bool, Fail> {
-        match store.rows(alloc, at, &self.branch, &whole(), steps) {
+        match store.rows(alloc, at, &self.branch, window, steps) {
             Ok(found) => Ok(are_same(found.as_slice(), rows)),
             Err(refused) => Err(fail_of(refused)),
         }
@@ -121,29 +147,14 @@ fn alone(alloc: Global, branch: &Branch) -> Result<Normal, NoMemory>
     requires lawful { IsLawfulBranch branch.now }
     ensures lawful { IfOk result IsLawfulNormal }
 {
-    let merged = branch.columns.copy(alloc)?;
     let copy = branch.copy(alloc)?;
+    let branches = Branches::from(vec![in alloc; copy]?);
+    let merged = branch.columns.copy(alloc)?;
     Ok(Normal {
-        branches: Branches::from(vec![in alloc; copy]?),
+        branches,
         merged,
         several: false,
     })
-}
-
-fn is_same<L: Ledger>(
-    alloc: Global,
-    store: &Store,
-    at: u64,
-    asked: &Asked,
-    entities: &[&Entity],
-    window: &Window,
-    steps: &mut Steps<L>,
-) -> Result<bool, Fail> {
-    let plain = answer_of(alloc, entities, &asked.normal, window)?;
-    match store.rows(alloc, at, &asked.branch, window, steps) {
-        Ok(rows) => Ok(are_same(rows.as_slice(), plain.rows.as_slice())),
-        Err(refused) => Err(fail_of(refused)),
-    }
 }
 
 fn place_at(alloc: Global, rows: &[Row], at: usize) -> Result<Option<Place>, NoMemory> {
@@ -220,7 +231,12 @@ fn is_served<L: Ledger>(
 ) -> Result<bool, Fail>
     requires { IsLawfulBranch branch.now }
 {
-    match store.rows(alloc, 0, branch, &whole(), steps) {
+    let found = store.rows(alloc, 0, branch, &whole(), steps);
+    has_index(&found)
+}
+
+fn has_index(found: &Result<RowList, EngineRefused>) -> Result<bool, Fail> {
+    match found {
         Ok(_) => Ok(true),
         Err(EngineRefused::NoMemory) => Err(Fail::new("no memory")),
         Err(

@@ -45,19 +45,29 @@ fn numbers(alloc: Global, dice: &mut Dice) -> Result<String, Fail> {
     })
 }
 
-/// A write to a group: one in four is a delete.
-fn made_write(alloc: Global, dice: &mut Dice, root: &str) -> Result<Write, Fail> {
-    let child = one_of(&CHILDREN, dice);
-    if dice.roll(4) == 0 {
-        let line = format!(in alloc; "{{\"op\":\"delete\",\"key\":[[\"T\",\"{root}\"]{child}]}}")?;
-        return write(alloc, line.as_str());
-    }
+/// A line that deletes a key.
+fn delete_line(alloc: Global, root: &str, child: &str) -> Result<String, Fail> {
+    Ok(format!(in alloc; "{{\"op\":\"delete\",\"key\":[[\"T\",\"{root}\"]{child}]}}")?)
+}
+
+/// A line that puts an entity.
+fn put_line(alloc: Global, dice: &mut Dice, root: &str, child: &str) -> Result<String, Fail> {
     let text = one_of(&TEXTS, dice);
     let v = numbers(alloc, dice)?;
     let w = numbers(alloc, dice)?;
-    let line = format!(in alloc;
+    Ok(format!(in alloc;
         "{{\"op\":\"put\",\"entity\":{{\"key\":[[\"T\",\"{root}\"]{child}],\"properties\":{{\"v\":{v},\"w\":{w}{text}}}}}}}"
-    )?;
+    )?)
+}
+
+/// A write to a group: one in four is a delete.
+fn made_write(alloc: Global, dice: &mut Dice, root: &str) -> Result<Write, Fail> {
+    let child = one_of(&CHILDREN, dice);
+    let line = if dice.roll(4) == 0 {
+        delete_line(alloc, root, child)?
+    } else {
+        put_line(alloc, dice, root, child)?
+    };
     write(alloc, line.as_str())
 }
 

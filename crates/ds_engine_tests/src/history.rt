@@ -142,10 +142,20 @@ fn agree_in<L: Ledger>(
     steps: &mut Steps<L>,
 ) -> Result<bool, Fail> {
     let mut asked = served(alloc, store, steps)?;
-    if asked.len() < 30 || !agree_at(alloc, store, 0, &[], asked.as_slice(), steps)? {
+    agree_all_along(alloc, store, entries, asked.as_mut_slice(), steps)
+}
+
+fn agree_all_along<L: Ledger>(
+    alloc: Global,
+    store: &Store,
+    entries: &[Entry],
+    asked: &mut [Asked],
+    steps: &mut Steps<L>,
+) -> Result<bool, Fail> {
+    if asked.len() < 30 || !agree_at(alloc, store, 0, &[], asked, steps)? {
         return Ok(false);
     }
-    agree_from(alloc, store, entries, asked.as_mut_slice(), steps)
+    agree_from(alloc, store, entries, asked, steps)
 }
 
 fn all_agree<L: Ledger>(blank: Blank, alloc: Global) -> Result<bool, Fail>
@@ -207,13 +217,34 @@ fn are_same_all_along<L: Ledger>(
     steps: &mut Steps<L>,
 ) -> Result<bool, Fail> {
     let mut short = Store::make(alloc, INDEX_FILE, SHORT)?;
+    are_same_in_turn(alloc, store, &mut short, entries, asked, steps)
+}
+
+fn are_same_in_turn<L: Ledger>(
+    alloc: Global,
+    store: &Store,
+    short: &mut Store,
+    entries: &[Entry],
+    asked: &[Asked],
+    steps: &mut Steps<L>,
+) -> Result<bool, Fail> {
     for entry in entries {
         short.absorb(entry)?;
-        if !are_same_after(alloc, store, &short, entry.commit, asked, steps)? {
+        if !are_same_after(alloc, store, short, entry.commit, asked, steps)? {
             return Ok(false);
         }
     }
     Ok(true)
+}
+
+fn agrees_with_the_short_one<L: Ledger>(
+    alloc: Global,
+    store: &Store,
+    entries: &[Entry],
+    steps: &mut Steps<L>,
+) -> Result<bool, Fail> {
+    let asked = served(alloc, store, steps)?;
+    are_same_all_along(alloc, store, entries, asked.as_slice(), steps)
 }
 
 fn window_agrees<L: Ledger>(blank: Blank, alloc: Global) -> Result<bool, Fail>
@@ -224,14 +255,7 @@ fn window_agrees<L: Ledger>(blank: Blank, alloc: Global) -> Result<bool, Fail>
     let mut steps = Steps::<L>::new(blank);
     let entries = made_entries(alloc, FIRST_ENTRIES)?;
     let store = absorbed(alloc, entries.as_slice())?;
-    let asked = served(alloc, &store, &mut steps)?;
-    are_same_all_along(
-        alloc,
-        &store,
-        entries.as_slice(),
-        asked.as_slice(),
-        &mut steps,
-    )
+    agrees_with_the_short_one(alloc, &store, entries.as_slice(), &mut steps)
 }
 
 #[test]

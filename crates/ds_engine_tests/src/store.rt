@@ -3,7 +3,7 @@ ghost use Rattle.std.specs.Prelude.{◌≡◌, ◌≤◌, [], Some, IfOk, IsTrue
 ghost use Rattle.ds_planner.specs.Suits.{suits};
 ghost use Rattle.ds_query.specs.Lawful.{IsLawfulBranch};
 
-use ds_base::TryCopy;
+use ds_base::{NoMemory, TryCopy};
 use ds_engine::{EngineRefused, answer, branch_rows};
 use ds_indexdef::{Defs, read_yaml};
 use ds_io::Steps;
@@ -181,7 +181,7 @@ pub(crate) fn part(
     start: Option<&Place>,
     end: Option<&Place>,
     limit: Option<u32>,
-) -> Result<Window, Fail> {
+) -> Result<Window, NoMemory> {
     Ok(Window {
         start: copy_place(alloc, start)?,
         end: copy_place(alloc, end)?,
@@ -190,7 +190,7 @@ pub(crate) fn part(
     })
 }
 
-fn copy_place(alloc: Global, place: Option<&Place>) -> Result<Option<Place>, Fail> {
+fn copy_place(alloc: Global, place: Option<&Place>) -> Result<Option<Place>, NoMemory> {
     match place {
         Some(place) => Ok(Some(place.copy(alloc)?)),
         None => Ok(None),

@@ -40,8 +40,13 @@ fn write_of(call: Call) -> Result<Write, Fail>
             properties,
         } => Ok(Write::Put(Entity::new(key, properties)?)),
         Call::Delete { key } => Ok(Write::Delete(key)),
-        _ => Err(Fail::new("no write")),
+        other => Err(unwanted(other)),
     }
+}
+
+/// That another request was wanted.
+fn unwanted(_call: Call) -> Fail {
+    Fail::new("another request")
 }
 
 /// The entry of one write.
@@ -104,7 +109,7 @@ fn normal_of(alloc: Global, call: Call) -> Result<Option<Normal>, Fail>
                 cursors: false,
             },
         ),
-        _ => Err(Fail::new("no query")),
+        other => Err(unwanted(other)),
     }
 }
 

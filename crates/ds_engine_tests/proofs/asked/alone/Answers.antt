@@ -7,7 +7,7 @@ use Rattle.ds_engine_tests.proofs.asked.alone.Goals as goal
 pub returns : goal.returns
 returns c =
     let q = c.args.branch.now in
-    let branches : c.from.result ≡ q ∷ [] = c.from.ensures ∙ c.in_ok-vec.ensures.items ∙ ap (λ b. b ∷ []) c.in_ok-copy.ensures.copied in
+    let branches : c.from-branches.result ≡ q ∷ [] = c.from-branches.ensures ∙ c.in_ok-vec.ensures.items ∙ ap (λ b. b ∷ []) c.in_ok-copy.ensures.copied in
     let merged : c.in_ok-merged.merged ≡ q.columns = c.in_ok-merged.ensures.copied in
     record {
       lawful = subst (λ (n : Normal). IsLawfulNormal n)
