@@ -36,7 +36,6 @@ use Rattle.ds_machine.specs.Missing.{shown, unless}
 use Rattle.ds_machine.specs.Queries.{told_over}
 use Rattle.ds_machine.specs.States.{StateParts}
 use Rattle.ds_effects.specs.Taken.{is_commit, is_view, is_placed}
-use Rattle.ds_protocol.specs.Transactions.{HasTouched}
 use Rattle.ds_machine.specs.Told.{AreNumbersOf, IsPlaceOf, IsSeenBy, IsTold, StandsOncePlaced, ToldAlways, ToldOnceDue}
 use Rattle.ds_machine.specs.Told.{WriteToldOnceDue, is_refusal, is_silent, tells_now}
 use Rattle.ds_protocol.specs.Refused.{is_quiet, tells_no_step}
@@ -53,10 +52,6 @@ view-is shard steps.Commit is = cc
 view-is shard _ is = cc
 
 -- ---- places
-
-pub has-transaction : (o : Option Transaction) (ts : List Touch) → HasTouched o ts → is_some o ≡ true
-has-transaction None ts has = absurd has
-has-transaction (Some t) ts has = refl
 
 -- a touch adds no place but its own
 pushed : (g h : KeyParts) (m p : ℕ) (ts : List Touch) → touch_place g (ts ++ record { group = h; place = m } ∷ []) ≡ Some p

@@ -22,7 +22,6 @@ use Rattle.ds_effects.specs.declared.effect.Effect.TheVariants as effect
 use Rattle.ds_machine.specs.Answered.{IsPlan}
 use Rattle.ds_machine.specs.Effects.{session_after}
 use Rattle.ds_machine.specs.States.{StateParts, IsSession, IsTransaction, world}
-use Rattle.ds_protocol.specs.Transactions.{HasTouched}
 use Rattle.ds_machine.proofs.Plans.{unrefused, quiet-tells, no_ids}
 use Rattle.ds_machine.proofs.PutPlans.{number-tells}
 use Rattle.ds_machine.proofs.WriteAnswers.{at_end}
@@ -128,21 +127,21 @@ module _ (st : StateParts) (s : Session) (client : ℕ) where
           ∙ ap (λ m. take m (st.store.journal ++ commit_of client t ∷ []))
           (let e : length st.store.journal ≡ length st.store.journal + 1 - 1 = omega arith in e)
 
-  pub conflict_planned : (touched : List Touch) (conflict : Conflict) (touch : Touch) (group : KeyParts) → IsSession st s
-      → HasTouched s.transaction touched → conflict_of st.store.journal touched ≡ Some conflict →
-      slice_get touched conflict.group ≡ Some touch → group ≡ touch.group
+  pub conflict_planned : (t : Transaction) (conflict : Conflict) (group : KeyParts) → IsSession st s → s.transaction ≡ Some t
+      → conflict_of st.store.journal t.touched ≡ Some conflict
+      → option_map (λ (x : Touch). x.group) (slice_get t.touched conflict.group) ≡ Some group
       → IsPlan st s client call.Commit (body.Conflict conflict.commit group conflict.place) (effect.EndAt conflict.place)
-  conflict_planned touched conflict touch group seen has is named same = by s.transaction refl has where
+  conflict_planned t conflict group seen inside is = by (slice_get t.touched conflict.group) refl where
     place : conflict.place ≡ length st.store.journal
-    place = conflict-place (last_writer st.store.journal) (length st.store.journal) 0 touched conflict is
+    place = conflict-place (last_writer st.store.journal) (length st.store.journal) 0 t.touched conflict is
 
     whole : take conflict.place st.store.journal ≡ st.store.journal
     whole = ap (λ m. take m st.store.journal) place ∙ take-length st.store.journal
 
-    by : (o : Option Transaction) → s.transaction ≡ o → HasTouched o touched
+    by : (o : Option Touch) → slice_get t.touched conflict.group ≡ o → option_map (λ (x : Touch). x.group) o ≡ Some group
         → IsPlan st s client call.Commit (body.Conflict conflict.commit group conflict.place) (effect.EndAt conflict.place)
-    by None outside has = absurd has
-    by (Some t) inside has = record {
+    by None none named = cc
+    by (Some touch) found named = record {
       answers = λ window.
           unrefused (world st.store window) st.store.definitions client s (session_after (effect.EndAt conflict.place) st.store s)
           call.Commit (body.Conflict conflict.commit group conflict.place) refl
@@ -152,10 +151,9 @@ module _ (st : StateParts) (s : Session) (client : ℕ) where
           (record {
             place = record { seen = omega (arith, seen.place_within, place); within = omega (arith, place) };
             turn = conflict.group;
-            conflict = ap (λ cs. conflict_of cs t.touched) whole ∙ ap (conflict_of st.store.journal) has ∙ is;
+            conflict = ap (λ cs. conflict_of cs t.touched) whole ∙ is;
             touched = touch.place;
-            named = ap (λ ts. slice_get ts conflict.group) has ∙ named
-                ∙ ap (λ g. Some (record { group = g; place = touch.place })) (sym same);
+            named = let same : touch.group ≡ group = cc in found ∙ ap (λ g. Some (record { group = g; place = touch.place })) same;
             ended = refl;
           }));
       told = quiet-tells st.store call.Commit (body.Conflict conflict.commit group conflict.place) refl;

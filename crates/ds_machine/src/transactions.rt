@@ -1,18 +1,17 @@
 //! Transactions begin and end, and ids are drawn.
-ghost use Rattle.std.specs.Prelude.{◌≡◌, Some};
+ghost use Rattle.std.specs.Prelude.{◌≡◌, None, Some};
 ghost use Rattle.ds_log.specs.Conflicts.{conflict_of};
 ghost use Rattle.ds_request.specs.declared.call.Call.{Call};
 ghost use Rattle.ds_model.specs.Refusals.{refusal_of};
 ghost use Rattle.ds_machine.specs.Answered.{IsPlan};
 ghost use Rattle.ds_machine.specs.States.{IsSession};
 ghost use Rattle.ds_machine.specs.Told.{ToldAlways, ToldAtCommit};
-ghost use Rattle.ds_protocol.specs.Transactions.{HasTouched, transaction_of};
+ghost use Rattle.ds_protocol.specs.Transactions.{transaction_of};
 
 use crate::state::State;
-use ds_base::TryCopy;
+use ds_base::copy_of;
 use ds_effects::Session;
 use ds_effects::effect::{Effect, Plan};
-use ds_journal::Draft;
 use ds_log::Conflict;
 use ds_protocol::draft_of_transaction;
 use ds_reply::Body;
@@ -50,52 +49,52 @@ impl State {
         ensures plan { IsPlan self.now session.now client Call.Commit result.body result.effect }
         ensures told { ToldAtCommit self.now session.now result.body result.effect }
     {
-        match session.transaction() {
-            Some(txn) => self.plan_commit_of(alloc, session, client, txn),
-            None => Plan::refused(Body::NoTransaction),
+        let Some(txn) = session.transaction() else {
+            return Plan::refused(Body::NoTransaction);
+        };
+        match txn.check(self.book.heads()) {
+            Ok(()) => self.plan_serial(alloc, session, client, txn),
+            Err(conflict) => self.plan_conflict(alloc, session, client, txn, conflict),
         }
     }
 
-    fn plan_commit_of(&self, alloc: Global, session: &Session, client: u32, txn: &Txn) -> Plan
+    /// The commit of a transaction that conflicts with nothing.
+    fn plan_serial(&self, alloc: Global, session: &Session, client: u32, txn: &Txn) -> Plan
         requires seen { IsSession self.now session.now }
         requires inside { session.now.transaction ≡ Some (transaction_of txn.now) }
+        requires serial { conflict_of self.now.store.journal txn.now.touched ≡ None }
         ensures plan { IsPlan self.now session.now client Call.Commit result.body result.effect }
         ensures told { ToldAtCommit self.now session.now result.body result.effect }
     {
         let Ok(draft) = draft_of_transaction(alloc, client, txn) else {
             return Plan::no_memory();
         };
-        match self.book.check(&draft) {
-            Ok(()) => {
-                let commit = self.book.journal().len() as u64 + 1;
-                Plan {
-                    body: Body::Commit { commit },
-                    effect: Effect::CommitTransaction(draft),
-                }
-            }
-            Err(conflict) => self.plan_conflict(alloc, session, client, &draft, conflict),
+        // for the proof alone: there are at most 500 writes
+        let _ = txn.writes();
+        let commit = self.book.journal().len() as u64 + 1;
+        Plan {
+            body: Body::Commit { commit },
+            effect: Effect::CommitTransaction(draft),
         }
     }
 
+    /// Why a transaction isn't committed.
     fn plan_conflict(
         &self,
         alloc: Global,
         session: &Session,
         client: u32,
-        draft: &Draft,
+        txn: &Txn,
         conflict: Conflict,
     ) -> Plan
         requires seen { IsSession self.now session.now }
-        requires inside { HasTouched session.now.transaction draft.now.touched }
-        requires conflict { conflict_of self.now.store.journal draft.now.touched ≡ Some conflict }
+        requires inside { session.now.transaction ≡ Some (transaction_of txn.now) }
+        requires conflict { conflict_of self.now.store.journal txn.now.touched ≡ Some conflict }
         ensures plan { IsPlan self.now session.now client Call.Commit result.body result.effect }
         ensures told { ToldAtCommit self.now session.now result.body result.effect }
     {
-        let Some(touch) = draft.commit().touched.get(conflict.group as usize) else {
-            return Plan::no_memory();
-        };
-        match touch.group.copy(alloc) {
-            Ok(group) => Plan {
+        match copy_of(alloc, txn.group(conflict.group as usize)) {
+            Ok(Some(group)) => Plan {
                 body: Body::Conflict {
                     commit: conflict.commit,
                     group,
@@ -105,7 +104,7 @@ impl State {
                     place: conflict.place,
                 },
             },
-            Err(_) => Plan::no_memory(),
+            Ok(None) | Err(_) => Plan::no_memory(),
         }
     }
 }

@@ -17,17 +17,12 @@ pub returns-in_default-clause-plan : goal.returns-in_default-clause-plan
 returns-in_default-clause-plan c = λ call of. memory_as c.args.self.now c.args.session.now c.args.client call c.no_memory.result.body
     c.no_memory.result.effect c.no_memory.ensures.body c.no_memory.ensures.effect
 
-pub returns-in_default-counts-clause-plan : goal.returns-in_default-counts-clause-plan
-returns-in_default-counts-clause-plan c = λ call of. memory_as c.args.self.now c.args.session.now c.args.client call
-    c.no_memory-in_default-counts.result.body c.no_memory-in_default-counts.result.effect
-    c.no_memory-in_default-counts.ensures.body c.no_memory-in_default-counts.ensures.effect
-
 pub counted_place-commit-requires : goal.counted_place-commit-requires
 counted_place-commit-requires c =
     subst (AreCounts c.self.inside.applied.lists) (sym c.as_slice.ensures)
     (counts-listed c.self.inside.applied.lists c.args.counts c.self.inside.applied.counts
     (subst (λ (st : StateParts). AreUpTo c.args.counts st.applied.counts) (sym c.self.view_is) c.requires.within)
-    (subst (AreCounts c.self.inside.applied.lists) c.in-Ok-counts.ensures.value c.in-Ok-counts.ensures.within))
+    c.shards.ensures.within)
 
 pub find_at_counts-requires-clause-counts : goal.find_at_counts-requires-clause-counts
 find_at_counts-requires-clause-counts c =
@@ -35,7 +30,7 @@ find_at_counts-requires-clause-counts c =
     (subst (AreCounts c.self.inside.applied.lists) (sym c.in-Ok.ensures.copied)
     (counts-listed c.self.inside.applied.lists c.args.counts c.self.inside.applied.counts
     (subst (λ (st : StateParts). AreUpTo c.args.counts st.applied.counts) (sym c.self.view_is) c.requires.within)
-    (subst (AreCounts c.self.inside.applied.lists) c.in-Ok-counts.ensures.value c.in-Ok-counts.ensures.within)))
+    c.shards.ensures.within))
 
 pub returns-in-Ok-find_at_counts-clause-plan : goal.returns-in-Ok-find_at_counts-clause-plan
 returns-in-Ok-find_at_counts-clause-plan c = λ call of.
@@ -45,7 +40,7 @@ returns-in-Ok-find_at_counts-clause-plan c = λ call of.
     (subst (λ (st : StateParts). AreCounts st.applied.lists c.args.counts) c.self.view_is
     (counts-listed c.self.inside.applied.lists c.args.counts c.self.inside.applied.counts
     (subst (λ (st : StateParts). AreUpTo c.args.counts st.applied.counts) (sym c.self.view_is) c.requires.within)
-    (subst (AreCounts c.self.inside.applied.lists) c.in-Ok-counts.ensures.value c.in-Ok-counts.ensures.within)))
+    c.shards.ensures.within))
     c.in-Ok.ensures.copied
     (c.counted_place-commit.ensures ∙ ap (counted_place c.self.inside.applied.lists) c.as_slice.ensures
     ∙ ap (λ (st : StateParts). counted_place st.applied.lists c.args.counts) c.self.view_is)

@@ -1,28 +1,24 @@
-use Rattle.std.proofs.Common.{◌∙◌, ap, sym}
-use Rattle.std.specs.Prelude.{slice_get}
-use Rattle.ds_log.specs.declared.Commit.{Commit}
-use Rattle.ds_machine.proofs.TransactionPlans.{conflict_planned}
-use Rattle.std.proofs.Common.{inr, refl, length}
-use Rattle.ds_reply.specs.declared.reply.Body.TheVariants as body
-use Rattle.ds_effects.specs.declared.effect.Effect.TheVariants as effect
+use Rattle.std.proofs.Common.{◌∙◌, ap, sym, inr, refl, length}
+use Rattle.std.specs.Prelude.{is_some}
 use Rattle.ds_log.specs.Conflicts.{last_writer}
-use Rattle.ds_machine.proofs.TransactionPlans.{conflict-place}
-use Rattle.ds_machine.proofs.ToldPlans.{has-transaction, untouched-told}
+use Rattle.ds_reply.specs.declared.reply.Body.TheVariants as body
+use Rattle.ds_protocol.specs.Transactions.{transaction_of}
+use Rattle.ds_effects.specs.declared.effect.Effect.TheVariants as effect
+use Rattle.ds_machine.proofs.ToldPlans.{untouched-told}
+use Rattle.ds_machine.proofs.TransactionPlans.{conflict-place, conflict_planned}
 use Rattle.ds_machine.proofs.state.State.plan_conflict.Goals as goal
 
-pub returns-in-Ok-clause-plan : goal.returns-in-Ok-clause-plan
-returns-in-Ok-clause-plan c =
-    conflict_planned c.args.self.now c.args.session.now c.args.client c.args.draft.now.touched c.args.conflict c.in-Some.touch.now
-    c.in-Ok.group c.requires.seen c.requires.inside c.requires.conflict
-    (ap (λ (d : Commit). slice_get d.touched c.args.conflict.group) (sym c.commit.ensures.value) ∙ sym c.in-Some.ensures)
-    c.in-Ok.ensures.copied
+pub returns-in-Ok-Some-clause-plan : goal.returns-in-Ok-Some-clause-plan
+returns-in-Ok-Some-clause-plan c =
+    conflict_planned c.args.self.now c.args.session.now c.args.client (transaction_of c.args.txn.now) c.args.conflict
+    c.in-Ok-Some.group c.requires.seen c.requires.inside c.requires.conflict (sym c.group.ensures ∙ sym c.in-Ok-Some.ensures ∙ c.in-Ok-Some.field-0-is)
 
-pub returns-in-Ok-clause-told : goal.returns-in-Ok-clause-told
-returns-in-Ok-clause-told c = λ g step now.
-    untouched-told c.args.self.now c.args.session.now (body.Conflict c.args.conflict.commit c.in-Ok.group c.args.conflict.place) g step
+pub returns-in-Ok-Some-clause-told : goal.returns-in-Ok-Some-clause-told
+returns-in-Ok-Some-clause-told c = λ g step now.
+    untouched-told c.args.self.now c.args.session.now (body.Conflict c.args.conflict.commit c.in-Ok-Some.group c.args.conflict.place) g step
     (effect.EndAt c.args.conflict.place) (
-      now (has-transaction c.args.session.now.transaction c.args.draft.now.touched c.requires.inside),
-      conflict-place (last_writer c.args.self.now.store.journal) (length c.args.self.now.store.journal) 0 c.args.draft.now.touched
+      now (ap is_some c.requires.inside),
+      conflict-place (last_writer c.args.self.now.store.journal) (length c.args.self.now.store.journal) 0 c.args.txn.now.touched
           c.args.conflict c.requires.conflict,
     )
     (λ group. refl) (inr refl)

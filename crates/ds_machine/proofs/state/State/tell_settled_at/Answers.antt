@@ -14,7 +14,7 @@ counted_place-commit-requires c =
     subst (AreCounts c.self.inside.applied.lists) (sym c.as_slice.ensures)
     (counts-listed c.self.inside.applied.lists c.args.counts c.self.inside.applied.counts
     (subst (λ (st : StateParts). AreUpTo c.args.counts st.applied.counts) (sym c.self.view_is) c.requires.within)
-    (subst (AreCounts c.self.inside.applied.lists) c.in-Ok-counts.ensures.value c.in-Ok-counts.ensures.within))
+    c.shards.ensures.within)
 
 pub returns-clause-plan : goal.returns-clause-plan
 returns-clause-plan c =
@@ -27,7 +27,7 @@ returns-clause-plan c =
     (subst (λ (st : StateParts). AreCounts st.applied.lists c.args.counts) c.self.view_is
     (counts-listed c.self.inside.applied.lists c.args.counts c.self.inside.applied.counts
     (subst (λ (st : StateParts). AreUpTo c.args.counts st.applied.counts) (sym c.self.view_is) c.requires.within)
-    (subst (AreCounts c.self.inside.applied.lists) c.in-Ok-counts.ensures.value c.in-Ok-counts.ensures.within)))
+    c.shards.ensures.within))
     c.requires.covering refl
     (c.counted_place-commit.ensures ∙ ap (counted_place c.self.inside.applied.lists) c.as_slice.ensures
     ∙ ap (λ (st : StateParts). counted_place st.applied.lists c.args.counts) c.self.view_is)))
