@@ -12,7 +12,8 @@ use Rattle.ds_effects.specs.Gathered.{GatheredParts}
 use Rattle.ds_machine.specs.Gathering.{gathered_by, shown_by}
 use Rattle.ds_machine.specs.Missing.{Shown, missing, shown}
 use Rattle.ds_machine.specs.States.{StateParts, StoreParts}
-use Rattle.ds_machine.proofs.Left.{left, step-lowers, waits, waits-few}
+use Rattle.ds_machine.proofs.Left.{left, waits, waits-few}
+use Rattle.ds_machine.proofs.Lowering.{step-lowers}
 use Rattle.ds_core.specs.declared.opened.Open.{Open}
 use Rattle.ds_core.specs.Happenings.{IsStill, Said, Turn, moment_of, none_open}
 use Rattle.ds_core.specs.Machines.{IsLegal, IsOpen, IsSameRun, MachineParts}

@@ -5,7 +5,7 @@ use Rattle.std.specs.Prelude.{All, IfSome, Result, cond, max, nat_le, nat_lt, �
 use Rattle.std.specs.Option.{option_or}
 use Rattle.std.proofs.lemmas.Bool.{leb-true, lt-ltb, ltb-true}
 use Rattle.std.specs.List.{range_with_len}
-use Rattle.std.proofs.lemmas.List.{append-nil, length-map}
+use Rattle.std.proofs.lemmas.List.{length-map}
 use Rattle.std.proofs.lemmas.List.Elements.{All-nil}
 use Rattle.ds_entity.specs.declared.entity.Property.{Property}
 use Rattle.ds_base.specs.declared.key.Elem.{Elem}
@@ -188,26 +188,6 @@ module _ (st : StateParts) (s : Session) (client : ℕ) (key : KeyParts) (proper
         accepts = ids-below st.store.next (renumbered key id).elems issued;
         prints = All-nil (λ next. next ≤ st.store.next);
       }))
-
--- ---- ids that were drawn before
-
-pub allocate_due : (st : StateParts) (s : Session) (client count first : ℕ) → s.next_id ≤ first → first + count ≤ st.store.next
-    → st.store.next ≤ greatest_id
-    → IsDue st s client (call.AllocateIds count) (range_with_len first count) (body.AllocateIds first count)
-    (effect.SeeNext (first + count))
-allocate_due st s client count first shown drawn within = record {
-  answers = λ window. (refl, record { shown = shown; within = omega (arith, drawn, within); raised = refl });
-  allowed = drawn;
-  definitions = refl;
-  shards = refl;
-  next = refl;
-  added = [];
-  journal = sym (append-nil st.store.journal);
-  acknowledges = refl;
-  draws = refl;
-  accepts = All-nil (λ id. id < st.store.next);
-  prints = All-nil (λ next. next ≤ st.store.next);
-}
 
 -- ---- viewed counts
 
@@ -425,13 +405,6 @@ all_found_at st s client c r of ready prepared is pulled none session counts tol
     (found ∙ ap (λ ns. told_over r ready.normal ready.window (sorted_by_key (shard_views st.applied.lists ns)) (seen.Counts ns)) same))
 
 -- ---- what was gathered of views
-
-pub gathered_counts : (st : StateParts) (s : Session) (c : Call) (g : GatheredParts) (o : Option (List ℕ)) (counts : List ℕ)
-    → IsGathered st s c g → o ≡ Some counts → IfSome o (λ ns. map (λ n. Some n) ns ≡ g.views)
-    → AreUpTo s.counts counts × AreUpTo counts st.applied.counts
-gathered_counts st s c g o counts gathered is viewed =
-    viewed-counts s.counts counts st.applied.counts g.views
-    (subst (λ p. IfSome p (λ ns. map (λ n. Some n) ns ≡ g.views)) is viewed) gathered.views
 
 -- Views that cover the place
 covering-from : (st : StateParts) (place first : ℕ) (counts : List ℕ)

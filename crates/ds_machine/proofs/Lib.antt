@@ -1,9 +1,11 @@
+mod Comes
 pub mod DuePlans
 pub mod Gatherings
-pub mod Grown
 pub mod Growing
+pub mod Grown
 pub mod Left
 pub mod Lifted
+pub mod Lowering
 pub mod OperationPlans
 mod Plans
 mod PutPlans

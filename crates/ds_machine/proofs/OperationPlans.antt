@@ -1,6 +1,6 @@
 -- What is said to what a request asks is said to its call.
 use Rattle.std.proofs.Common.{◌≡◌, ◌⊎◌, inl, inr, ℕ, ◌+◌, ◌≤◌, refl, ap, sym, ◌∙◌, subst, arith, List, [], Option, Some, None, true}
-use Rattle.std.specs.Prelude.{Err, IfErr, Ok, Result, IfSome}
+use Rattle.std.specs.Prelude.{Ok, IfSome}
 use Rattle.ds_base.specs.Limits.{first_drawn_id}
 use Rattle.ds_indexdef.specs.declared.IndexDef.{IndexDef}
 use Rattle.ds_request.specs.declared.call.Call.{Call}
@@ -18,14 +18,13 @@ use Rattle.ds_protocol.specs.declared.operations.OperationRefused.TheVariants as
 use Rattle.ds_protocol.specs.Operations.{IsAlwaysRefused, IsOperationOf, call_of, ids_asked, written_path}
 use Rattle.ds_log.specs.Ids.{first_unissued}
 use Rattle.ds_protocol.specs.Quiet.{IsQuiet}
-use Rattle.ds_protocol.specs.Refused.{IsRefusal, is_quiet, operation_body, tells_no_step}
+use Rattle.ds_protocol.specs.Refused.{IsRefusal, is_quiet, operation_body}
 use Rattle.ds_protocol.specs.declared.searching.Search.{Search}
 use Rattle.ds_protocol.specs.Searches.{IsSearchOf, search_parts}
 use Rattle.ds_effects.specs.declared.effect.Due.{Due}
 use Rattle.ds_effects.specs.declared.effect.Due.TheVariants as dues
 use Rattle.ds_effects.specs.declared.effect.Effect.{Effect}
 use Rattle.ds_effects.specs.declared.effect.Effect.TheVariants as effect
-use Rattle.ds_effects.specs.declared.effect.Plan.{Plan}
 use Rattle.ds_machine.specs.Answered.{IsPlan, IsPlanFor}
 use Rattle.ds_machine.specs.Due.{IsDueFor, IsDuePlan, IsGathered, AppliedWithin, ids_of}
 use Rattle.ds_effects.specs.Gathered.{GatheredParts}
@@ -34,9 +33,6 @@ use Rattle.ds_machine.specs.Missing.{IfReply}
 use Rattle.ds_machine.specs.States.{StateParts, IsSession}
 use Rattle.ds_machine.proofs.PutPlans.{delete_not_issued, put_not_issued}
 use Rattle.ds_machine.proofs.DuePlans.{due_search, due_unchanged, search_ids}
-use Rattle.ds_machine.specs.declared.opening.Work.{Work}
-use Rattle.ds_machine.specs.Told.{ToldAlways, is_silent}
-use Rattle.ds_machine.proofs.ToldPlans.{silent-kept, silent-told}
 use Rattle.ds_machine.proofs.Plans.{memory_as, refused_as}
 use Rattle.ds_machine.proofs.QueryPlans.{unread_plan}
 
@@ -45,16 +41,8 @@ use Rattle.ds_machine.proofs.QueryPlans.{unread_plan}
 -- the operation's shard is there where its call's is
 pub shard_there : (shards : ℕ) (o : Operation) (c : Call) → IsOperationOf c o → has_shard shards c ≡ true
     → has_shard shards (call_of o) ≡ true
-shard_there shards (operation.Find r) c of there = refl
-shard_there shards (operation.Put entity incomplete) c of there = refl
-shard_there shards (operation.Delete key) c of there = refl
-shard_there shards (operation.Get key) c of there = refl
-shard_there shards (operation.Begin several) c of there = refl
-shard_there shards operation.Commit c of there = refl
-shard_there shards operation.Rollback c of there = refl
-shard_there shards operation.Settle c of there = refl
-shard_there shards (operation.AllocateIds count) c of there = refl
 shard_there shards (operation.Apply shard) c of there = subst (λ x. has_shard shards x ≡ true) of there
+shard_there shards _ c of there = refl
 
 body_quiet : (why : OperationRefused) → IsQuiet (operation_body why)
 body_quiet refused.BadKey = record { acknowledges = refl; accepts = refl; prints = refl }
@@ -70,26 +58,11 @@ body_plain (refused.TooLarge size) = refl
 body_plain (refused.BadGql place) = refl
 body_plain refused.NoMemory = refl
 
-pub body_bare : (why : OperationRefused) → tells_no_step (operation_body why) ≡ true
-body_bare refused.BadKey = refl
-body_bare refused.BadValue = refl
-body_bare (refused.TooLarge size) = refl
-body_bare (refused.BadGql place) = refl
-body_bare refused.NoMemory = refl
-
 module _ (st : StateParts) (s : Session) (client : ℕ) where
   pub plan_of : (o : Operation) (c : Call) (b : Body) (e : Effect) → IsOperationOf c o → IsPlanFor st s client o b e
       → IsPlan st s client c b e
   plan_of (operation.Find r) c b e of plan = plan c of
-  plan_of (operation.Put entity incomplete) c b e of plan = subst (λ x. IsPlan st s client x b e) (sym of) plan
-  plan_of (operation.Delete key) c b e of plan = subst (λ x. IsPlan st s client x b e) (sym of) plan
-  plan_of (operation.Get key) c b e of plan = subst (λ x. IsPlan st s client x b e) (sym of) plan
-  plan_of (operation.Begin several) c b e of plan = subst (λ x. IsPlan st s client x b e) (sym of) plan
-  plan_of operation.Commit c b e of plan = subst (λ x. IsPlan st s client x b e) (sym of) plan
-  plan_of operation.Rollback c b e of plan = subst (λ x. IsPlan st s client x b e) (sym of) plan
-  plan_of operation.Settle c b e of plan = subst (λ x. IsPlan st s client x b e) (sym of) plan
-  plan_of (operation.AllocateIds count) c b e of plan = subst (λ x. IsPlan st s client x b e) (sym of) plan
-  plan_of (operation.Apply shard) c b e of plan = subst (λ x. IsPlan st s client x b e) (sym of) plan
+  plan_of _ c b e of plan = subst (λ x. IsPlan st s client x b e) (sym of) plan
 
   -- a call that is refused whatever the definitions and the session
   pub always_plan : (c : Call) (why : OperationRefused) (b v : Body) (e : Effect) → b ≡ v → v ≡ operation_body why → e ≡ effect.Nothing
@@ -110,14 +83,7 @@ module _ (st : StateParts) (s : Session) (client : ℕ) where
   id_refused (operation.Delete key) id next seen none same is =
       subst (λ n. IsPlan st s client (call.Delete key) (body.IdNotIssued id n) (effect.SeeNext n)) (sym same)
       (delete_not_issued st s client seen key id none (sym (is ∙ ap (λ n. first_unissued n key.elems) same)))
-  id_refused (operation.Get key) id next seen none same is = cc
-  id_refused (operation.Find r) id next seen none same is = cc
-  id_refused (operation.Begin several) id next seen none same is = cc
-  id_refused operation.Commit id next seen none same is = cc
-  id_refused operation.Rollback id next seen none same is = cc
-  id_refused operation.Settle id next seen none same is = cc
-  id_refused (operation.AllocateIds count) id next seen none same is = cc
-  id_refused (operation.Apply shard) id next seen none same is = cc
+  id_refused _ id next seen none same is = cc
 
   -- it is due where no id was drawn
   pub refused_due : (o : Operation) (c : Call) (b : Body) (e : Effect) → IsOperationOf c o → store_after e st.store ≡ st.store
@@ -139,15 +105,7 @@ module _ (st : StateParts) (s : Session) (client : ℕ) where
       → IsDuePlan st s client c (ids_of c g) b e
   due_to_call (operation.Find r) c g b e of due =
       subst (λ ids. IsDuePlan st s client c ids b e) (sym (search_ids c g (Ok (search_parts r)) of.exact)) (due c of)
-  due_to_call (operation.Put entity incomplete) c g b e of due = subst (λ x. IsDuePlan st s client x (ids_of x g) b e) (sym of) due
-  due_to_call (operation.Delete key) c g b e of due = subst (λ x. IsDuePlan st s client x (ids_of x g) b e) (sym of) due
-  due_to_call (operation.Get key) c g b e of due = subst (λ x. IsDuePlan st s client x (ids_of x g) b e) (sym of) due
-  due_to_call (operation.Begin several) c g b e of due = subst (λ x. IsDuePlan st s client x (ids_of x g) b e) (sym of) due
-  due_to_call operation.Commit c g b e of due = subst (λ x. IsDuePlan st s client x (ids_of x g) b e) (sym of) due
-  due_to_call operation.Rollback c g b e of due = subst (λ x. IsDuePlan st s client x (ids_of x g) b e) (sym of) due
-  due_to_call operation.Settle c g b e of due = subst (λ x. IsDuePlan st s client x (ids_of x g) b e) (sym of) due
-  due_to_call (operation.AllocateIds count) c g b e of due = subst (λ x. IsDuePlan st s client x (ids_of x g) b e) (sym of) due
-  due_to_call (operation.Apply shard) c g b e of due = subst (λ x. IsDuePlan st s client x (ids_of x g) b e) (sym of) due
+  due_to_call _ c g b e of due = subst (λ x. IsDuePlan st s client x (ids_of x g) b e) (sym of) due
 
   -- ---- the refusals that the definitions, the transaction and the request decide
 
@@ -157,29 +115,12 @@ module _ (st : StateParts) (s : Session) (client : ℕ) where
 
   memory_for : (o : Operation) (b : Body) (e : Effect) → b ≡ body.NoMemory → e ≡ effect.Nothing → IsPlanFor st s client o b e
   memory_for (operation.Find r) b e is same = λ c of. memory_as st s client c b e is same
-  memory_for (operation.Put entity incomplete) b e is same = memory_as st s client _ b e is same
-  memory_for (operation.Delete key) b e is same = memory_as st s client _ b e is same
-  memory_for (operation.Get key) b e is same = memory_as st s client _ b e is same
-  memory_for (operation.Begin several) b e is same = memory_as st s client _ b e is same
-  memory_for operation.Commit b e is same = memory_as st s client _ b e is same
-  memory_for operation.Rollback b e is same = memory_as st s client _ b e is same
-  memory_for operation.Settle b e is same = memory_as st s client _ b e is same
-  memory_for (operation.AllocateIds count) b e is same = memory_as st s client _ b e is same
-  memory_for (operation.Apply shard) b e is same = memory_as st s client _ b e is same
+  memory_for _ b e is same = memory_as st s client _ b e is same
 
   decided_for : (o : Operation) (b v : Body) (e : Effect) → b ≡ v → e ≡ effect.Nothing → is_quiet v ≡ true
       → Some v ≡ refusal_of st.store.definitions s (call_of o) → IsPlanFor st s client o b e
   decided_for (operation.Find r) b v e told same quiet is = cc
-  decided_for (operation.Put entity incomplete) b v e told same quiet is = refused_as st s client _ b v e told same quiet refl
-      (inl (sym is))
-  decided_for (operation.Delete key) b v e told same quiet is = refused_as st s client _ b v e told same quiet refl (inl (sym is))
-  decided_for (operation.Get key) b v e told same quiet is = refused_as st s client _ b v e told same quiet refl (inl (sym is))
-  decided_for (operation.Begin several) b v e told same quiet is = refused_as st s client _ b v e told same quiet refl (inl (sym is))
-  decided_for operation.Commit b v e told same quiet is = refused_as st s client _ b v e told same quiet refl (inl (sym is))
-  decided_for operation.Rollback b v e told same quiet is = refused_as st s client _ b v e told same quiet refl (inl (sym is))
-  decided_for operation.Settle b v e told same quiet is = refused_as st s client _ b v e told same quiet refl (inl (sym is))
-  decided_for (operation.AllocateIds count) b v e told same quiet is = refused_as st s client _ b v e told same quiet refl (inl (sym is))
-  decided_for (operation.Apply shard) b v e told same quiet is = refused_as st s client _ b v e told same quiet refl (inl (sym is))
+  decided_for _ b v e told same quiet is = refused_as st s client _ b v e told same quiet refl (inl (sym is))
 
   pub refused_for : (o : Operation) (b v : Body) (e : Effect) → b ≡ v → e ≡ effect.Nothing → is_quiet v ≡ true → Refuses o (Some v)
       → IsPlanFor st s client o b e
@@ -212,29 +153,9 @@ gathered_there st s (operation.Find r) c g of is = record {
     none : (o : Option ℕ) → AppliedWithin st s (call_of (operation.Find r)) o
     none None = tt
     none (Some n) = tt
-gathered_there st s (operation.Put entity incomplete) c g of is = subst (λ x. IsGathered st s x g) of is
-gathered_there st s (operation.Delete key) c g of is = subst (λ x. IsGathered st s x g) of is
-gathered_there st s (operation.Get key) c g of is = subst (λ x. IsGathered st s x g) of is
-gathered_there st s (operation.Begin several) c g of is = subst (λ x. IsGathered st s x g) of is
-gathered_there st s operation.Commit c g of is = subst (λ x. IsGathered st s x g) of is
-gathered_there st s operation.Rollback c g of is = subst (λ x. IsGathered st s x g) of is
-gathered_there st s operation.Settle c g of is = subst (λ x. IsGathered st s x g) of is
-gathered_there st s (operation.AllocateIds count) c g of is = subst (λ x. IsGathered st s x g) of is
-gathered_there st s (operation.Apply shard) c g of is = subst (λ x. IsGathered st s x g) of is
+gathered_there st s _ c g of is = subst (λ x. IsGathered st s x g) of is
 
--- what is refused at its opening is due to each call that asks for it
-pub refused_if : (st : StateParts) (s : Session) (client : ℕ) (o : Operation) (c : Call) (r : Result Work Plan) → IsOperationOf c o
-    → IfErr r (λ p. is_silent st p.body p.effect ≡ true) → IfErr r (λ p. IsPlanFor st s client o p.body p.effect)
-    → IfErr r (λ p. IsDuePlan st s client c [] p.body p.effect)
-refused_if st s client o c (Ok w) of silent plan = tt
-refused_if st s client o c (Err p) of silent plan =
-    refused_due st s client o c p.body p.effect of (silent-kept st p.body p.effect silent) plan
-
-pub told_if : (st : StateParts) (s : Session) (r : Result Work Plan) → IfErr r (λ p. is_silent st p.body p.effect ≡ true)
-    → IfErr r (λ p. ToldAlways st s p.body p.effect)
-told_if st s (Ok w) silent = tt
-told_if st s (Err p) silent = silent-told st s p.body p.effect silent
-
+-- a refusal whatever the definitions and the session is due
 pub always_due : (st : StateParts) (s : Session) (client : ℕ) (c : Call) (why : OperationRefused) (b v : Body) (e : Effect) → b ≡ v
     → v ≡ operation_body why → e ≡ effect.Nothing → (why ≡ refused.NoMemory) ⊎ IsAlwaysRefused c (operation_body why)
     → IsDuePlan st s client c [] b e

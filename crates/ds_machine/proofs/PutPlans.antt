@@ -1,5 +1,5 @@
 -- The plans of puts and deletes.
-use Rattle.std.proofs.Common.{◌≡◌, ◌⊎◌, inl, inr, ℕ, ◌-◌, ◌<◌, ◌≤◌, List, [], ◌∷◌, length, take, refl, sym, ◌∙◌}
+use Rattle.std.proofs.Common.{◌≡◌, inl, inr, ℕ, ◌-◌, ◌<◌, ◌≤◌, List, [], ◌∷◌, length, take, refl, sym, ◌∙◌}
 use Rattle.std.proofs.Common.{subst, arith, Option, Some, None, Bool, true, false, cond}
 use Rattle.std.specs.Prelude.{All, nat_le}
 use Rattle.std.proofs.lemmas.List.{append-nil}
@@ -29,7 +29,6 @@ use Rattle.ds_effects.specs.declared.effect.Effect.{Effect}
 use Rattle.ds_effects.specs.declared.effect.Effect.TheVariants as effect
 use Rattle.ds_machine.specs.Answered.{Tells, IsPlan}
 use Rattle.ds_machine.specs.Effects.{store_after, session_after}
-use Rattle.ds_protocol.specs.Refused.{IsRefusal}
 use Rattle.ds_machine.specs.States.{StoreParts, StateParts, IsSession, world}
 use Rattle.ds_machine.specs.WritePlans.{IsWritable, IsWritePlan, SaysWrite}
 use Rattle.ds_machine.proofs.Plans.{unrefused, no_memory_plan, no_ids}
@@ -210,16 +209,3 @@ module _ (st : StateParts) (s : Session) (client : ℕ) where
       let c = refusals-none (group_refusal s.transaction (Some (root_of e.key))) _ b.1 in
       let d = refusals-none (write_refusal s.transaction) [] c.1 in
       record { group = c.0; few = d.0; issued = issued }
-
-  pub delete_writable : (key : KeyParts) → refusal_of st.store.definitions s (call.Delete key) ≡ None
-      → first_unissued st.store.next key.elems ≡ None → IsWritable st s (Delete key)
-  delete_writable key none issued =
-      let c = refusals-none (group_refusal s.transaction (Some (root_of key))) _ none in
-      let d = refusals-none (write_refusal s.transaction) [] c.1 in
-      record { group = c.0; few = d.0; issued = issued }
-
-  -- what is told is the refusal or want of memory
-  pub told_refusal : (c : Call) (refusal : Option Body) (b : Body) → refusal_of st.store.definitions s c ≡ refusal
-      → IsRefusal refusal (Some b) → (refusal_of st.store.definitions s c ≡ Some b) ⊎ (b ≡ body.NoMemory)
-  told_refusal c refusal b same (inl is) = inl (same ∙ sym is)
-  told_refusal c refusal b same (inr is) = inr (let none : b ≡ body.NoMemory = cc in none)

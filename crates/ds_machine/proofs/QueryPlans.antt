@@ -147,10 +147,6 @@ first_there : {A : Type 0} (xs : List A) → 1 ≤ length (take 1 xs) → 1 ≤ 
 first_there [] some = some
 first_there (x ∷ xs) some = omega arith
 
-pub unrefused_group : (refusal : Option Body) → IsRefusal refusal None → refusal ≡ None
-unrefused_group refusal (inl is) = sym is
-unrefused_group refusal (inr is) = cc
-
 module _ (st : StateParts) (s : Session) (r : Search) (read : GroupRead) where
   pub group_search : (group : KeyParts) → Some group ≡ option_map root_of r.query.ancestor → is_key group ≡ true
       → group_refusal s.transaction (Some group) ≡ None

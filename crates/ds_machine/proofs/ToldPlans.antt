@@ -1,7 +1,7 @@
 -- The numbers that a plan tells are those that it was given.
 use Rattle.std.proofs.Common.{◌≡◌, ◌⊎◌, inl, inr, ℕ, ◌+◌, Bool, true, false, List, [], ◌∷◌, ◌++◌, length, cond, refl, ap, sym, ◌∙◌, subst}
 use Rattle.std.proofs.Common.{Option, Some, None}
-use Rattle.std.specs.Prelude.{IfSome, IsTrue, ◌&&◌, ◌||◌, is_some}
+use Rattle.std.specs.Prelude.{◌&&◌, is_some}
 use Rattle.std.proofs.lemmas.Bool.{eqb-true}
 use Rattle.ds_entity.specs.declared.results.Item.{Item}
 use Rattle.ds_entity.specs.declared.results.Seen.{Seen}
@@ -32,12 +32,12 @@ use Rattle.ds_effects.specs.declared.gathered.Step.{Step}
 use Rattle.ds_effects.specs.declared.gathered.Step.TheVariants as steps
 use Rattle.ds_effects.specs.Gathered.{GatheredParts}
 use Rattle.ds_machine.specs.Effects.{store_after, session_after, with_write}
-use Rattle.ds_machine.specs.Missing.{shown, unless}
+use Rattle.ds_machine.specs.Missing.{missing_write, shown, unless}
 use Rattle.ds_machine.specs.Queries.{told_over}
 use Rattle.ds_machine.specs.States.{StateParts}
 use Rattle.ds_effects.specs.Taken.{is_commit, is_view, is_placed}
-use Rattle.ds_machine.specs.Told.{AreNumbersOf, IsPlaceOf, IsSeenBy, IsTold, StandsOncePlaced, ToldAlways, ToldOnceDue}
-use Rattle.ds_machine.specs.Told.{WriteToldOnceDue, is_refusal, is_silent, tells_now}
+use Rattle.ds_machine.specs.Told.{AreNumbersOf, IsPlaceOf, IsSeenBy, IsTold, ToldAlways}
+use Rattle.ds_machine.specs.Told.{is_refusal, is_silent, tells_now}
 use Rattle.ds_protocol.specs.Refused.{is_quiet, tells_no_step}
 
 -- ---- which step it was
@@ -88,26 +88,6 @@ module _ (s : Session) (g : GatheredParts) where
   one_of : (group : KeyParts) (m p : ℕ) → IsPlaceOf s g m → (place_in s.transaction group ≡ Some p) ⊎ (m ≡ p) → IsPlaceOf s g p
   one_of group m p place (inl is) = inr (group, is)
   one_of group m p place (inr is) = subst (IsPlaceOf s g) is place
-
-  pub touched-place : (group : KeyParts) (m : ℕ) → place_in s.transaction group ≡ Some m → IsPlaceOf s g m
-  touched-place group m is = inr (group, is)
-
-  -- the place of the Touch, if it is gathered
-  pub gathered-place : IfSome g.place (IsPlaceOf s g)
-  gathered-place = by g.place refl where
-    by : (o : Option ℕ) → g.place ≡ o → IfSome o (IsPlaceOf s g)
-    by None is = tt
-    by (Some m) is = inl is
-
-  -- a group that isn't touched stands at the given place, which is the Touch's
-  pub given-place : (touch o : Option ℕ) (m : ℕ) → touch ≡ g.place → o ≡ None → IsTrue (is_some g.place || is_some o)
-      → IfSome touch (λ p. m ≡ p) → IsPlaceOf s g m
-  given-place None o m same none known given = absurd (by g.place o (sym same) none known) where
-    by : (place o : Option ℕ) → place ≡ None → o ≡ None → IsTrue (is_some place || is_some o) → ⊥
-    by None None here none known = cc
-    by (Some p) o here none known = cc
-    by None (Some p) here none known = cc
-  given-place (Some p) o m same none known given = inl (sym same ∙ ap Some (sym given))
 
 -- ---- refusals
 
@@ -250,29 +230,20 @@ outside-due : (x : Option Transaction) (placed commit : Bool) → x ≡ None
 outside-due None placed commit outside none = done-unless commit steps.Commit none
 outside-due (Some t) placed commit outside none = cc
 
-inside-due : (x : Option Transaction) (t : Transaction) (placed commit : Bool) → x ≡ Some t
-    → cond (is_some x) (unless placed steps.Touch) (unless commit steps.Commit) ≡ None → placed ≡ true
-inside-due None t placed commit inside none = cc
-inside-due (Some u) t placed commit inside none = done-unless placed steps.Touch none
-
-module _ (st : StateParts) (s : Session) (touch : Option ℕ) (group : KeyParts) where
-  pub commit-told : (n : ℕ) (w : WriteCommit) → s.transaction ≡ None → n ≡ length st.store.journal + 1
-      → WriteToldOnceDue st s touch group (stands.Commit n) (effect.CommitWrite w)
-  commit-told n w outside is = λ key g step same due.
+module _ (st : StateParts) (s : Session) (g : GatheredParts) (step : Step) (key : KeyParts) where
+  pub commit-told : (group : KeyParts) (n : ℕ) (w : WriteCommit) → s.transaction ≡ None → n ≡ length st.store.journal + 1
+      → missing_write s g group step ≡ None → IsTold st s g step (body.Put key (stands.Commit n)) (effect.CommitWrite w)
+  commit-told group n w outside is due =
       let now : step ≡ steps.Commit = commit-is step (outside-due s.transaction (is_placed s g group) (is_commit step) outside due) in
       record { numbers = (now, is); touches = λ k m at_it. inr (k, at_it); commits = inl now }
 
-  pub group-told : (t : Transaction) (w : GroupWrite) → s.transaction ≡ Some t → StandsOncePlaced s touch group w.place
-      → WriteToldOnceDue st s touch group (stands.Place w.place) (effect.WriteGroup w)
-  group-told t w inside placed = λ key g step same due.
-      let place : IsPlaceOf s g w.place = placed g same (inside-due s.transaction t (is_placed s g group) (is_commit step) inside due) in
-      record {
-        numbers = place;
-        touches = λ k m is. one_of s g k w.place m place (write-place s.transaction k w m is);
-        commits = inr refl;
-      }
+  pub group-told : (w : GroupWrite) → IsPlaceOf s g w.place → IsTold st s g step (body.Put key (stands.Place w.place)) (effect.WriteGroup w)
+  group-told w place = record {
+    numbers = place;
+    touches = λ k m is. one_of s g k w.place m place (write-place s.transaction k w m is);
+    commits = inr refl;
+  }
 
-  pub deleted-told : (key : KeyParts) (written : WriteAt) (e : Effect) → ToldOnceDue st s touch group (body.Put key written) e
-      → ToldOnceDue st s touch group (body.Delete key written) e
-  deleted-told key written e told = λ g step same due.
-      let put = told g step same due in record { numbers = put.numbers; touches = put.touches; commits = put.commits }
+  pub deleted-told : (written : WriteAt) (e : Effect) → IsTold st s g step (body.Put key written) e
+      → IsTold st s g step (body.Delete key written) e
+  deleted-told written e put = record { numbers = put.numbers; touches = put.touches; commits = put.commits }

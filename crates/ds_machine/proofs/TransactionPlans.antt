@@ -1,4 +1,4 @@
--- The plans of transactions and of drawn ids.
+-- The plans of transactions.
 use Rattle.std.proofs.Common.{◌≡◌, ℕ, ◌+◌, ◌-◌, ◌<◌, ◌≤◌, List, [], ◌∷◌, ◌++◌, length, take, refl, ap, sym, ◌∙◌}
 use Rattle.std.proofs.Common.{subst, arith, Option, Some, None, Bool}
 use Rattle.std.specs.Prelude.{slice_get}
@@ -7,7 +7,7 @@ use Rattle.std.proofs.Math.Seq.{take-length}
 use Rattle.std.proofs.lemmas.List.{take-append-le}
 use Rattle.std.proofs.lemmas.List.Elements.{All-nil}
 use Rattle.ds_base.specs.Keys.{KeyParts}
-use Rattle.ds_base.specs.Limits.{greatest_id, most_writes}
+use Rattle.ds_base.specs.Limits.{most_writes}
 use Rattle.ds_log.specs.declared.Commit.{Commit}
 use Rattle.ds_log.specs.declared.Conflict.{Conflict}
 use Rattle.ds_log.specs.declared.Touch.{Touch}
@@ -23,7 +23,6 @@ use Rattle.ds_machine.specs.Answered.{IsPlan}
 use Rattle.ds_machine.specs.Effects.{session_after}
 use Rattle.ds_machine.specs.States.{StateParts, IsSession, IsTransaction, world}
 use Rattle.ds_machine.proofs.Plans.{unrefused, quiet-tells, no_ids}
-use Rattle.ds_machine.proofs.PutPlans.{number-tells}
 use Rattle.ds_machine.proofs.WriteAnswers.{at_end}
 
 -- the place of a conflict is that of the check
@@ -57,19 +56,7 @@ module _ (st : StateParts) (s : Session) (client : ℕ) where
     allowed = tt;
   }
 
-  pub exhausted_planned : (count next : ℕ) → IsSession st s → next ≡ st.store.next → greatest_id < next + count
-      → IsPlan st s client (call.AllocateIds count) (body.IdsExhausted next) (effect.SeeNext next)
-  exhausted_planned count next seen same beyond =
-      subst (λ n. IsPlan st s client (call.AllocateIds count) (body.IdsExhausted n) (effect.SeeNext n)) (sym same) (record {
-        answers = λ window. record { shown = seen.next_within; beyond = omega (arith, same, beyond); raised = refl };
-        told = number-tells st.store (call.AllocateIds count) (body.IdsExhausted st.store.next) refl refl refl refl;
-        allowed = omega arith;
-      })
-
   -- ---- commits
-
-  pub commit_refused : s.transaction ≡ None → refusal_of st.store.definitions s call.Commit ≡ Some body.NoTransaction
-  commit_refused outside = ap no_transaction outside
 
   pub commit_planned : (t : Transaction) (draft : Commit) (n : ℕ) → IsSession st s → s.transaction ≡ Some t → draft ≡ commit_of client t
       → n ≡ length st.store.journal + 1 → length t.writes ≤ most_writes →

@@ -9,4 +9,5 @@ pub mod ReadDues
 pub mod Reads
 pub mod States
 pub mod Told
+pub mod Turns
 pub mod WritePlans

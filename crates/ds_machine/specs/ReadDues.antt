@@ -1,19 +1,13 @@
 -- What the read of a group comes to at a step.
-use Rattle.std.specs.Prelude.{◌≡◌, ℕ, Option, None, Some, ⊤}
+use Rattle.std.specs.Prelude.{◌≡◌, Option, None, Some, ⊤}
 use Rattle.ds_base.specs.Keys.{KeyParts}
 use Rattle.ds_model.specs.Sessions.{Session}
 use Rattle.ds_machine.specs.declared.due_reads.ReadDue.{ReadDue}
 use Rattle.ds_machine.specs.declared.due_reads.ReadDue.TheVariants as due
 use Rattle.ds_effects.specs.declared.gathered.Step.{Step}
 use Rattle.ds_effects.specs.Gathered.{GatheredParts}
-use Rattle.ds_machine.specs.Reads.{IsReached}
 use Rattle.ds_machine.specs.States.{StateParts}
 use Rattle.ds_machine.specs.Told.{IsGroupRead}
-
--- as soon as nothing is missing, the group is read at the place
-abbrev pub IsReadAt : StateParts → KeyParts → ℕ → ReadDue → Type 0
-IsReadAt st group place (due.Read r) = IsReached st group r × (r.place ≡ place)
-IsReadAt st group place (due.Waits step) = ⊤
 
 -- the read of a group that may be read there
 abbrev pub IsReadDue : StateParts → Session → GatheredParts → KeyParts → ReadDue → Type 0

@@ -1,6 +1,6 @@
 -- The numbers that a reply tells are those that its request has gathered.
-use Rattle.std.specs.Prelude.{◌≡◌, ◌⊎◌, ℕ, ◌+◌, Bool, true, false, ◌&&◌, ◌==◌, List, None}
-use Rattle.std.specs.Prelude.{Option, Some, length, map, ⊤, IsTrue, is_some}
+use Rattle.std.specs.Prelude.{◌≡◌, ◌⊎◌, ℕ, ◌+◌, Bool, true, false, ◌&&◌, ◌==◌, List}
+use Rattle.std.specs.Prelude.{Some, None, length, map, ⊤, IsTrue}
 use Rattle.ds_entity.specs.declared.results.Seen.{Seen}
 use Rattle.ds_entity.specs.declared.results.Seen.TheVariants as seen
 use Rattle.ds_base.specs.Keys.{KeyParts, is_key}
@@ -20,8 +20,7 @@ use Rattle.ds_protocol.specs.Refused.{tells_no_step}
 use Rattle.ds_machine.specs.Effects.{store_after, session_after}
 use Rattle.ds_machine.specs.Reads.{IsReached}
 use Rattle.ds_machine.specs.States.{StateParts}
-use Rattle.ds_machine.specs.Missing.{Shown, missing_write, shown}
-use Rattle.ds_effects.specs.Taken.{is_placed}
+use Rattle.ds_machine.specs.Missing.{Shown, shown}
 
 -- the place is that of the request's Touch, or one at which the client's transaction touched a group
 abbrev pub IsPlaceOf : Session → GatheredParts → ℕ → Type 0
@@ -103,44 +102,7 @@ tells_now next said = tells_no_step said
 abbrev pub is_silent : StateParts → Body → Effect → Bool
 is_silent st said change = tells_now st.store.next said && is_refusal change
 
--- ---- what is told wherever the numbers that it was given are gathered ones
+-- ---- what is told whatever is gathered, and whichever step is taken
 
--- whatever is gathered and whichever step is taken
 abbrev pub ToldAlways : StateParts → Session → Body → Effect → Type 0
 ToldAlways st s said change = (g : GatheredParts) (step : Step) → IsTold st s g step said change
-
--- where the place is gathered or touched
-abbrev pub ToldAtPlace : StateParts → Session → ℕ → Body → Effect → Type 0
-ToldAtPlace st s place said change = (g : GatheredParts) (step : Step) → IsPlaceOf s g place → IsTold st s g step said change
-
--- where the counts are viewed
-abbrev pub ToldAtCounts : StateParts → Session → List ℕ → Body → Effect → Type 0
-ToldAtCounts st s counts said change = (g : GatheredParts) (step : Step) → AreViewsOf g counts → IsTold st s g step said change
-
--- where the place is that of the Touch, and the counts are viewed
-abbrev pub ToldSettled : StateParts → Session → ℕ → List ℕ → Body → Effect → Type 0
-ToldSettled st s place counts said change =
-    (g : GatheredParts) (step : Step) → g.place ≡ Some place → AreViewsOf g counts → IsTold st s g step said change
-
--- where the body's numbers are those
-abbrev pub ToldByNumbers : StateParts → Session → Body → Body → Effect → Type 0
-ToldByNumbers st s b said change = (g : GatheredParts) (step : Step) → AreNumbersOf (shown st) s g step b → IsTold st s g step said change
-
--- a commit: where the step is a Commit, if there is a transaction
-abbrev pub ToldAtCommit : StateParts → Session → Body → Effect → Type 0
-ToldAtCommit st s said change =
-    (g : GatheredParts) (step : Step) → (IsTrue (is_some s.transaction) → step ≡ steps.Commit) → IsTold st s g step said change
-
--- a write to a group, which is touched at the given place: where that place is the Touch's, and nothing is missing
-abbrev pub ToldOnceDue : StateParts → Session → Option ℕ → KeyParts → Body → Effect → Type 0
-ToldOnceDue st s touch group said change =
-    (g : GatheredParts) (step : Step) → touch ≡ g.place → missing_write s g group step ≡ None → IsTold st s g step said change
-
--- where its write stands, whatever its key
-abbrev pub WriteToldOnceDue : StateParts → Session → Option ℕ → KeyParts → WriteAt → Effect → Type 0
-WriteToldOnceDue st s touch group written change =
-    (key : KeyParts) → ToldOnceDue st s touch group (body.Put key written) change
-
--- a group's place, where the given one is the Touch's and it is known where the group stands
-abbrev pub StandsOncePlaced : Session → Option ℕ → KeyParts → ℕ → Type 0
-StandsOncePlaced s touch group m = (g : GatheredParts) → touch ≡ g.place → IsTrue (is_placed s g group) → IsPlaceOf s g m

@@ -1,27 +1,23 @@
 //! The replies to open gets and searches, as soon as nothing is missing.
-ghost use Rattle.std.specs.Prelude.{◌≡◌, ◌≤◌, ◌<◌, [], None, Some, length, IfOk, IfSome};
+ghost use Rattle.std.specs.Prelude.{◌≡◌, None, Some, IfOk, IfSome};
 ghost use Rattle.std.specs.Option.{option_map};
 ghost use Rattle.ds_base.specs.Keys.{root_of};
 ghost use Rattle.ds_log.specs.Shards.{shard_of};
-ghost use Rattle.ds_request.specs.declared.call.Call.{Call};
-ghost use Rattle.ds_model.specs.Groups.{ReadsAt, group_refusal};
-ghost use Rattle.ds_model.specs.Refusals.{ancestor_group_refusal};
-ghost use Rattle.ds_protocol.specs.Searches.{IsSearchOf};
-ghost use Rattle.ds_effects.specs.declared.gathered.Step.{Step};
-ghost use Rattle.ds_machine.specs.Answered.{IsPlan};
-ghost use Rattle.ds_machine.specs.Due.{IsDuePlan, IsGathered};
-ghost use Rattle.ds_machine.specs.Missing.{IfReply, IsNext, missing_read, missing_search, place_read, shown};
+ghost use Rattle.ds_model.specs.Groups.{IsSeenPlace, ReadsAt, group_refusal};
+ghost use Rattle.ds_machine.specs.Missing.{missing_read, place_read, shown};
 ghost use Rattle.ds_machine.specs.Opening.{IsReadyFor};
 ghost use Rattle.ds_machine.specs.Queries.{IsPrepared};
-ghost use Rattle.ds_machine.specs.ReadDues.{IsNextRead, IsReadAt, IsReadDue};
+ghost use Rattle.ds_machine.specs.ReadDues.{IsNextRead, IsReadDue};
 ghost use Rattle.ds_machine.specs.Reads.{IsPulled};
-ghost use Rattle.ds_machine.specs.States.{AreUpTo, IsSession};
-ghost use Rattle.ds_machine.specs.Told.{IsPlaceOf, IsTold, ToldAtCounts};
+ghost use Rattle.ds_machine.specs.States.{IsSession};
+ghost use Rattle.ds_machine.specs.Told.{IsPlaceOf};
+ghost use Rattle.ds_machine.specs.Turns.{ComesTo, IsTurn};
 
+use crate::due::Turn;
 use crate::state::State;
-use ds_base::{Counts, Key, NoMemory, TryCopy};
+use ds_base::{Key, NoMemory, TryCopy};
+use ds_effects::Step;
 use ds_effects::effect::{CountsSeen, Due, Effect, GroupRead, Plan};
-use ds_effects::{Gathered, Session, Step};
 use ds_log::shard_of;
 use ds_protocol::{Operation, Ready, Search, group_of};
 use std::alloc::Global;
@@ -37,31 +33,15 @@ pub(crate) enum ReadDue {
 
 impl State {
     /// A get waits for a Touch, unless its group is touched, and for a View of its shard that covers its place.
-    pub(crate) fn get_due(
-        &self,
-        alloc: Global,
-        session: &Session,
-        client: u32,
-        key: &Key,
-        gathered: &Gathered,
-        taken: Step,
-    ) -> Due
-        requires pulled { IsPulled self.now }
-        requires allowed { group_refusal session.now.transaction (Some (root_of key.now)) ≡ None }
-        requires seen { IsSession self.now session.now }
-        requires gathered { IsGathered self.now session.now (Call.Get key.now) gathered.now }
-        ensures plan { IfReply result (λ p. IsDuePlan self.now session.now client (Call.Get key.now) [] p.body p.effect) }
-        ensures told { IfReply result (λ p. IsTold self.now session.now gathered.now taken p.body p.effect) }
-        ensures next { IsNext (missing_read (shown self.now) (shard_of (root_of key.now) self.now.store.shards)
-            (place_read session.now gathered.now (root_of key.now)) taken) result }
+    pub(crate) fn get_due(&self, alloc: Global, turn: &Turn, key: &Key) -> Due
+        requires { IsTurn self.now turn.now (Operation.Get key.now) }
+        ensures { ComesTo self.now turn.now (Operation.Get key.now) result }
     {
         let Ok(group) = key.root(alloc) else {
             return Due::Reply(Plan::no_memory());
         };
-        match self.group_due(alloc, session, group, gathered, taken) {
-            Ok(ReadDue::Read(read)) => Due::Reply(self.get_reached(
-                alloc, session, client, key, read,
-            )),
+        match self.group_due(alloc, turn, group) {
+            Ok(ReadDue::Read(read)) => Due::Reply(self.get_reached(alloc, turn, key, read)),
             Ok(ReadDue::Waits(step)) => Due::Waits(step),
             Err(_) => Due::Reply(Plan::no_memory()),
         }
@@ -69,61 +49,24 @@ impl State {
 
     /// The read of a group, as soon as it misses neither a Touch, unless the group is touched, nor a View of its shard that covers the
     /// place. An error is want of memory.
-    fn group_due(
-        &self,
-        alloc: Global,
-        session: &Session,
-        group: Key,
-        gathered: &Gathered,
-        taken: Step,
-    ) -> Result<ReadDue, NoMemory>
+    fn group_due(&self, alloc: Global, turn: &Turn, group: Key) -> Result<ReadDue, NoMemory>
         requires pulled { IsPulled self.now }
-        requires allowed { group_refusal session.now.transaction (Some group) ≡ None }
-        requires seen { IsSession self.now session.now }
-        requires gathered { (call : Call) × IsGathered self.now session.now call gathered.now }
-        ensures read { IfOk result (IsReadDue self.now session.now gathered.now group) }
+        requires allowed { group_refusal turn.now.session.now.transaction (Some group) ≡ None }
+        requires seen { IsSession self.now turn.now.session.now }
+        requires place { IfSome turn.now.gathered.now.place (IsSeenPlace self.now.store.journal turn.now.session.now) }
+        ensures read { IfOk result (IsReadDue self.now turn.now.session.now turn.now.gathered.now group) }
         ensures next { IfOk result (IsNextRead (missing_read (shown self.now) (shard_of group self.now.store.shards)
-            (place_read session.now gathered.now group) taken)) }
+            (place_read turn.now.session.now turn.now.gathered.now group) turn.now.taken)) }
     {
-        let Some(place) = self.place_due(session, &group, gathered) else {
+        let Some(place) = self.place_due(turn, &group) else {
             return Ok(ReadDue::Waits(Step::Touch));
         };
-        self.reached_by(alloc, group, place, taken)
-    }
-
-    /// Where the group of an open read stands, as soon as that is known.
-    fn place_due(&self, session: &Session, group: &Key, gathered: &Gathered) -> Option<u64>
-        requires seen { IsSession self.now session.now }
-        requires gathered { (call : Call) × IsGathered self.now session.now call gathered.now }
-        ensures value { result ≡ place_read session.now gathered.now group.now }
-        ensures stands { IfSome result (λ m. ReadsAt self.now.store.journal session.now group.now m) }
-        ensures told { IfSome result (IsPlaceOf session.now gathered.now) }
-    {
-        match session.touch_place(group) {
-            Some(place) => Some(place),
-            None => gathered.place(),
-        }
-    }
-
-    /// A read of a group at a place, where the step is a View of its shard that covers the place. An error is want of memory.
-    fn reached_by(
-        &self,
-        alloc: Global,
-        group: Key,
-        place: u64,
-        taken: Step,
-    ) -> Result<ReadDue, NoMemory>
-        requires pulled { IsPulled self.now }
-        requires place { place ≤ length self.now.store.journal }
-        ensures reached { IfOk result (IsReadAt self.now group place) }
-        ensures next { IfOk result (IsNextRead (missing_read (shown self.now) (shard_of group self.now.store.shards) (Some place) taken)) }
-    {
         let shard = shard_of(alloc, &group, self.applied.shards())?;
         let entries = self.applied.entries_up_to(shard, place);
         if self.applied.count(shard) < entries {
             return Ok(ReadDue::Waits(Step::Apply { shard }));
         }
-        if !taken.is_view(shard) {
+        if !turn.taken.is_view(shard) {
             return Ok(ReadDue::Waits(Step::View { shard }));
         }
         Ok(ReadDue::Read(GroupRead {
@@ -134,59 +77,38 @@ impl State {
         }))
     }
 
+    /// Where a group stands that is read or written, as soon as that is known: at its touch place, or at that of the request's Touch.
+    pub(crate) fn place_due(&self, turn: &Turn, group: &Key) -> Option<u64>
+        requires seen { IsSession self.now turn.now.session.now }
+        requires place { IfSome turn.now.gathered.now.place (IsSeenPlace self.now.store.journal turn.now.session.now) }
+        ensures value { result ≡ place_read turn.now.session.now turn.now.gathered.now group.now }
+        ensures stands { IfSome result (λ m. ReadsAt self.now.store.journal turn.now.session.now group.now m) }
+        ensures told { IfSome result (IsPlaceOf turn.now.session.now turn.now.gathered.now) }
+    {
+        match turn.session.touch_place(group) {
+            Some(place) => Some(place),
+            None => turn.gathered.place(),
+        }
+    }
+
     /// What a search finds, which was made ready at its opening.
     pub(crate) fn found_due(
         &self,
         alloc: Global,
-        session: &Session,
-        client: u32,
+        turn: &Turn,
         search: &Search,
         ready: &Option<Ready>,
-        gathered: &Gathered,
-        taken: Step,
     ) -> Due
-        requires pulled { IsPulled self.now }
-        requires ready { IsReadyFor self.now session.now (Operation.Find search.now) ready.now }
-        requires seen { IsSession self.now session.now }
-        requires gathered { (call : Call) × IsGathered self.now session.now call gathered.now }
-        requires views { length gathered.now.views ≡ self.now.store.shards }
-        ensures plan { IfReply result (λ p. (call : Call) → IsSearchOf call search.now
-            → IsPlan self.now session.now client call p.body p.effect) }
-        ensures told { IfReply result (λ p. IsTold self.now session.now gathered.now taken p.body p.effect) }
-        ensures next { IsNext (missing_search (shown self.now) session.now gathered.now search.now.query.ancestor taken) result }
+        requires turn { IsTurn self.now turn.now (Operation.Find search.now) }
+        requires ready { IsReadyFor self.now turn.now.session.now (Operation.Find search.now) ready.now }
+        ensures { ComesTo self.now turn.now (Operation.Find search.now) result }
     {
-        match ready {
-            Some(ready) => self.search_due(alloc, session, client, search, ready, gathered, taken),
-            None => unreachable!(),
-        }
-    }
-
-    fn search_due(
-        &self,
-        alloc: Global,
-        session: &Session,
-        client: u32,
-        search: &Search,
-        ready: &Ready,
-        gathered: &Gathered,
-        taken: Step,
-    ) -> Due
-        requires pulled { IsPulled self.now }
-        requires prepared { IsPrepared self.now session.now search.now ready.now }
-        requires allowed { ancestor_group_refusal session.now.transaction search.now.query.ancestor ≡ None }
-        requires seen { IsSession self.now session.now }
-        requires gathered { (call : Call) × IsGathered self.now session.now call gathered.now }
-        requires views { length gathered.now.views ≡ self.now.store.shards }
-        ensures plan { IfReply result (λ p. (call : Call) → IsSearchOf call search.now
-            → IsPlan self.now session.now client call p.body p.effect) }
-        ensures told { IfReply result (λ p. IsTold self.now session.now gathered.now taken p.body p.effect) }
-        ensures next { IsNext (missing_search (shown self.now) session.now gathered.now search.now.query.ancestor taken) result }
-    {
+        let Some(ready) = ready else {
+            unreachable!();
+        };
         match group_of(alloc, search) {
-            Ok(Some(group)) => self.in_group_due(
-                alloc, session, client, search, ready, group, gathered, taken,
-            ),
-            Ok(None) => self.in_all_due(alloc, session, client, search, ready, gathered),
+            Ok(Some(group)) => self.in_group_due(alloc, turn, search, ready, group),
+            Ok(None) => self.in_all_due(alloc, turn, search, ready),
             Err(_) => Due::Reply(Plan::no_memory()),
         }
     }
@@ -195,104 +117,41 @@ impl State {
     fn in_group_due(
         &self,
         alloc: Global,
-        session: &Session,
-        client: u32,
+        turn: &Turn,
         search: &Search,
         ready: &Ready,
         group: Key,
-        gathered: &Gathered,
-        taken: Step,
     ) -> Due
-        requires pulled { IsPulled self.now }
-        requires prepared { IsPrepared self.now session.now search.now ready.now }
-        requires allowed { ancestor_group_refusal session.now.transaction search.now.query.ancestor ≡ None }
+        requires turn { IsTurn self.now turn.now (Operation.Find search.now) }
+        requires ready { IsReadyFor self.now turn.now.session.now (Operation.Find search.now) (Some ready.now) }
         requires group { Some group ≡ option_map root_of search.now.query.ancestor }
-        requires seen { IsSession self.now session.now }
-        requires gathered { (call : Call) × IsGathered self.now session.now call gathered.now }
-        requires views { length gathered.now.views ≡ self.now.store.shards }
-        ensures plan { IfReply result (λ p. (call : Call) → IsSearchOf call search.now
-            → IsPlan self.now session.now client call p.body p.effect) }
-        ensures told { IfReply result (λ p. IsTold self.now session.now gathered.now taken p.body p.effect) }
-        ensures next { IsNext (missing_search (shown self.now) session.now gathered.now search.now.query.ancestor taken) result }
+        ensures { ComesTo self.now turn.now (Operation.Find search.now) result }
     {
-        match self.group_due(alloc, session, group, gathered, taken) {
+        match self.group_due(alloc, turn, group) {
             Ok(ReadDue::Read(read)) => {
-                Due::Reply(self.find_in_group(alloc, session, client, search, ready, read))
+                Due::Reply(self.find_in_group(alloc, turn, search, ready, read))
             }
             Ok(ReadDue::Waits(step)) => Due::Waits(step),
             Err(_) => Due::Reply(Plan::no_memory()),
         }
     }
 
-    /// A search without an ancestor waits for a View of each shard.
-    fn in_all_due(
-        &self,
-        alloc: Global,
-        session: &Session,
-        client: u32,
-        search: &Search,
-        ready: &Ready,
-        gathered: &Gathered,
-    ) -> Due
-        requires pulled { IsPulled self.now }
-        requires prepared { IsPrepared self.now session.now search.now ready.now }
+    /// A search without an ancestor waits for a View of each shard, and is told at the viewed counts.
+    fn in_all_due(&self, alloc: Global, turn: &Turn, search: &Search, ready: &Ready) -> Due
+        requires turn { IsTurn self.now turn.now (Operation.Find search.now) }
+        requires prepared { IsPrepared self.now turn.now.session.now search.now ready.now }
         requires group { search.now.query.ancestor ≡ None }
-        requires seen { IsSession self.now session.now }
-        requires gathered { (call : Call) × IsGathered self.now session.now call gathered.now }
-        requires views { length gathered.now.views ≡ self.now.store.shards }
-        ensures plan { IfReply result (λ p. (call : Call) → IsSearchOf call search.now
-            → IsPlan self.now session.now client call p.body p.effect) }
-        ensures told { (taken : Step) → IfReply result (λ p. IsTold self.now session.now gathered.now taken p.body p.effect) }
-        ensures next { (taken : Step) → IsNext (missing_search (shown self.now) session.now gathered.now None taken) result }
+        ensures { ComesTo self.now turn.now (Operation.Find search.now) result }
     {
-        if let Some(shard) = gathered.unviewed() {
-            // the state's invariant bounds the shards, and so the number
-            let _ = &self.shards;
-            return Due::Waits(Step::View {
-                shard: shard as u32,
-            });
-        }
-        match gathered.counts(alloc) {
-            Ok(Some(counts)) => Due::Reply(self.find_in_all_at(
-                alloc, session, client, search, ready, counts,
-            )),
-            Ok(None) | Err(_) => Due::Reply(Plan::no_memory()),
-        }
-    }
-
-    /// What a search without an ancestor finds is told, at these counts, where each commit of the journal was looked at.
-    pub(crate) fn find_in_all_at(
-        &self,
-        alloc: Global,
-        session: &Session,
-        client: u32,
-        search: &Search,
-        ready: &Ready,
-        counts: Counts,
-    ) -> Plan
-        requires prepared { IsPrepared self.now session.now search.now ready.now }
-        requires group { search.now.query.ancestor ≡ None }
-        requires seen { IsSession self.now session.now }
-        requires shown { AreUpTo session.now.counts counts }
-        requires within { AreUpTo counts self.now.applied.counts }
-        requires pulled { IsPulled self.now }
-        ensures plan { (call : Call) → IsSearchOf call search.now → IsPlan self.now session.now client call result.body result.effect }
-        ensures told { ToldAtCounts self.now session.now counts result.body result.effect }
-    {
-        let Ok(told) = counts.copy(alloc) else {
-            return Plan::no_memory();
-        };
-        // for the proof alone: no more is applied than there is
-        let _ = self.applied.shards();
-        let commit = self.applied.counted_place(counts.as_slice());
-        match self.find_at_counts(alloc, search, ready, told) {
-            Ok(body) => {
-                Plan {
-                    body,
-                    effect: Effect::SeeCounts(CountsSeen { commit, counts }),
-                }
+        match turn.gathered.unviewed() {
+            Some(shard) => {
+                // the state's invariant bounds the shards, and so the number
+                let _ = &self.shards;
+                Due::Waits(Step::View {
+                    shard: shard as u32,
+                })
             }
-            Err(_) => { Plan::no_memory() }
+            None => Due::Reply(self.find_in_all(alloc, turn, search, ready)),
         }
     }
 }

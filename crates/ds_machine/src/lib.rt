@@ -8,10 +8,10 @@
 //!
 //! Of the definitions begin with `specs/Missing`, the table of steps, and `Gathering`, what each step gathers. `Answered` says what an
 //! answer is, told of the store and of the client's session before and after; `States` what a store and a session keep, `Effects` what a
-//! plan changes and when it may. `Due` says what an open request has gathered, `Opening` what is kept of it, and `Told` which of these
-//! numbers a reply tells. In `proofs/`, `Lifted` leads from a plan to the reply and `Grown` shows that no session comes to have seen what
-//! isn't there; `PutPlans`, `TransactionPlans` and others whose names end in `Plans` have what is said to each request, and `Left` that
-//! every step that is missing brings a request nearer to its reply.
+//! plan changes and when it may. `Due` says what an open request has gathered, `Opening` what is kept of it, `Told` which of these numbers
+//! a reply tells, and `Turns` what is known of an open request at a step, and what it comes to. In `proofs/`, `Lifted` leads from a plan to
+//! the reply and `Grown` shows that no session comes to have seen what isn't there; `PutPlans`, `TransactionPlans` and others whose names
+//! end in `Plans` have what is said to each request, and `Lowering` that every step that is missing brings a request nearer to its reply.
 #![tactic(auto)]
 
 mod due;

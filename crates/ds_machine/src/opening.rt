@@ -7,12 +7,11 @@ ghost use Rattle.ds_model.specs.Asked.{has_shard};
 ghost use Rattle.ds_model.specs.Refusals.{ancestor_group_refusal, refusal_of};
 ghost use Rattle.ds_protocol.specs.Operations.{IsLawfulOperation, IsOperationOf, call_of, written_path};
 ghost use Rattle.ds_protocol.specs.Refused.{IsRefusal, is_quiet, tells_no_step};
-ghost use Rattle.ds_protocol.specs.Searches.{IsLawfulSearch, IsSearchOf};
-ghost use Rattle.ds_machine.specs.Answered.{IsPlan, IsPlanFor};
+ghost use Rattle.ds_protocol.specs.Searches.{IsLawfulSearch};
 ghost use Rattle.ds_machine.specs.Due.{IsDuePlan};
-ghost use Rattle.ds_machine.specs.Opening.{IsReadyFor, IsUnrefused};
+ghost use Rattle.ds_machine.specs.Opening.{IsReadyFor, IsRefusedIn, IsUnrefused};
 ghost use Rattle.ds_machine.specs.States.{IsSession};
-ghost use Rattle.ds_machine.specs.Told.{ToldAlways, is_silent};
+ghost use Rattle.ds_machine.specs.Told.{ToldAlways};
 
 use crate::state::State;
 use ds_effects::Session;
@@ -50,64 +49,52 @@ impl State {
         ensures told { IfErr result (λ p. ToldAlways self.now session.now p.body p.effect) }
     {
         match operation_of(alloc, call) {
-            Ok(operation) => self.open_operation(alloc, session, client, operation),
+            Ok(operation) => match self.ready_for(alloc, session, &operation) {
+                Ok(ready) => Ok(Work { operation, ready }),
+                Err(plan) => {
+                    drop(operation);
+                    Err(plan)
+                }
+            },
             Err(refused) => Err(Plan::refused(refused.body())),
         }
     }
 
-    /// The same for what a request asks.
-    fn open_operation(
+    /// The search made ready, if what is asked is one, unless it is refused.
+    fn ready_for(
         &self,
         alloc: Global,
         session: &Session,
-        client: u32,
-        operation: Operation,
-    ) -> Result<Work, Plan>
-        requires lawful { IsLawfulOperation operation }
-        requires shard { IsTrue (has_shard self.now.store.shards (call_of operation)) }
+        operation: &Operation,
+    ) -> Result<Option<Ready>, Plan>
+        requires lawful { IsLawfulOperation operation.now }
+        requires shard { IsTrue (has_shard self.now.store.shards (call_of operation.now)) }
         requires seen { IsSession self.now session.now }
-        ensures asked { IfOk result (λ w. w.operation ≡ operation) }
-        ensures work { IfOk result (λ w. IsUnrefused self.now session.now w.operation w.ready) }
-        ensures refused { IfErr result (λ p. IsPlanFor self.now session.now client operation p.body p.effect) }
-        ensures silent { IfErr result (λ p. IsTrue (is_silent self.now p.body p.effect)) }
+        ensures ready { IfOk result (IsUnrefused self.now session.now operation.now) }
+        ensures refused { IfErr result (IsRefusedIn self.now session.now operation.now) }
     {
-        match self.refusal(alloc, session, client, &operation) {
-            Some(plan) => {
-                drop(operation);
-                Err(plan)
-            }
-            None => self.make_ready(alloc, session, client, operation),
+        if let Some(plan) = self.refusal(alloc, session, operation) {
+            return Err(plan);
+        }
+        match operation {
+            Operation::Find(search) => match self.ready_search(alloc, session, search) {
+                Ok(ready) => Ok(Some(ready)),
+                Err(plan) => Err(plan),
+            },
+            _ => Ok(None),
         }
     }
 
     /// Why what is asked is refused: by the definitions, the transaction and the request, or by an id that isn't drawn yet.
-    fn refusal(
-        &self,
-        alloc: Global,
-        session: &Session,
-        client: u32,
-        operation: &Operation,
-    ) -> Option<Plan>
-        requires seen { IsSession self.now session.now }
-        ensures refused { IfSome result (λ p. IsPlanFor self.now session.now client operation.now p.body p.effect) }
-        ensures silent { IfSome result (λ p. IsTrue (is_silent self.now p.body p.effect)) }
+    fn refusal(&self, alloc: Global, session: &Session, operation: &Operation) -> Option<Plan>
+        requires { IsSession self.now session.now }
+        ensures refused { IfSome result (IsRefusedIn self.now session.now operation.now) }
         ensures unrefused { result ≡ None → refusal_of self.now.store.definitions session.now (call_of operation.now) ≡ None }
         ensures issued { result ≡ None → first_unissued self.now.store.next (written_path operation.now) ≡ None }
     {
-        match refusal_of(alloc, &self.defs, session.open(), operation) {
-            Some(body) => Some(Plan::refused(body)),
-            None => self.id_refusal(session, client, operation),
+        if let Some(body) = refusal_of(alloc, &self.defs, session.open(), operation) {
+            return Some(Plan::refused(body));
         }
-    }
-
-    /// The first id of a written key that isn't drawn yet.
-    fn id_refusal(&self, session: &Session, client: u32, operation: &Operation) -> Option<Plan>
-        requires unrefused { refusal_of self.now.store.definitions session.now (call_of operation.now) ≡ None }
-        requires seen { IsSession self.now session.now }
-        ensures refused { IfSome result (λ p. IsPlanFor self.now session.now client operation.now p.body p.effect) }
-        ensures silent { IfSome result (λ p. IsTrue (is_silent self.now p.body p.effect)) }
-        ensures issued { result ≡ None → first_unissued self.now.store.next (written_path operation.now) ≡ None }
-    {
         let next = self.book.next();
         match operation.first_unissued(next) {
             Some(id) => Some(Plan {
@@ -118,67 +105,11 @@ impl State {
         }
     }
 
-    /// Makes a search ready.
-    fn make_ready(
-        &self,
-        alloc: Global,
-        session: &Session,
-        client: u32,
-        operation: Operation,
-    ) -> Result<Work, Plan>
-        requires lawful { IsLawfulOperation operation }
-        requires shard { IsTrue (has_shard self.now.store.shards (call_of operation)) }
-        requires unrefused { refusal_of self.now.store.definitions session.now (call_of operation) ≡ None }
-        requires issued { first_unissued self.now.store.next (written_path operation) ≡ None }
-        ensures asked { IfOk result (λ w. w.operation ≡ operation) }
-        ensures work { IfOk result (λ w. IsUnrefused self.now session.now w.operation w.ready) }
-        ensures refused { IfErr result (λ p. IsPlanFor self.now session.now client operation p.body p.effect) }
-        ensures silent { IfErr result (λ p. IsTrue (is_silent self.now p.body p.effect)) }
-    {
-        match self.ready_for(alloc, session, client, &operation) {
-            Ok(ready) => Ok(Work { operation, ready }),
-            Err(plan) => {
-                drop(operation);
-                Err(plan)
-            }
-        }
-    }
-
-    /// The search made ready, if what is asked is one.
-    fn ready_for(
-        &self,
-        alloc: Global,
-        session: &Session,
-        client: u32,
-        operation: &Operation,
-    ) -> Result<Option<Ready>, Plan>
-        requires lawful { IsLawfulOperation operation.now }
-        ensures ready { IfOk result (IsReadyFor self.now session.now operation.now) }
-        ensures refused { IfErr result (λ p. IsPlanFor self.now session.now client operation.now p.body p.effect) }
-        ensures silent { IfErr result (λ p. IsTrue (is_silent self.now p.body p.effect)) }
-    {
-        match operation {
-            Operation::Find(search) => match self.ready_search(alloc, session, client, search) {
-                Ok(ready) => Ok(Some(ready)),
-                Err(plan) => Err(plan),
-            },
-            _ => Ok(None),
-        }
-    }
-
     /// A search made ready. It may be refused by its form, its cursors, for want of an index, or by its group.
-    fn ready_search(
-        &self,
-        alloc: Global,
-        session: &Session,
-        client: u32,
-        search: &Search,
-    ) -> Result<Ready, Plan>
-        requires lawful { IsLawfulSearch search.now }
+    fn ready_search(&self, alloc: Global, session: &Session, search: &Search) -> Result<Ready, Plan>
+        requires { IsLawfulSearch search.now }
         ensures ready { IfOk result (λ r. IsReadyFor self.now session.now (Operation.Find search.now) (Some r)) }
-        ensures refused { IfErr result (λ p. (call : Call) → IsSearchOf call search.now
-            → IsPlan self.now session.now client call p.body p.effect) }
-        ensures silent { IfErr result (λ p. IsTrue (is_silent self.now p.body p.effect)) }
+        ensures refused { IfErr result (IsRefusedIn self.now session.now (Operation.Find search.now)) }
     {
         match prepare(alloc, &self.defs, session.in_transaction(), search) {
             Ok(ready) => match group_refusal(alloc, session, search) {

@@ -1,5 +1,5 @@
 //! Queries and statements.
-ghost use Rattle.std.specs.Prelude.{◌≡◌, map, IfOk};
+ghost use Rattle.std.specs.Prelude.{◌≡◌, None, map, IfOk};
 ghost use Rattle.ds_query.specs.Lawful.{IsLawfulNormal};
 ghost use Rattle.ds_request.specs.declared.call.Call.{Call};
 ghost use Rattle.ds_applied.specs.AppliedLists.{AreCounts, shard_views};
@@ -7,17 +7,17 @@ ghost use Rattle.ds_entity.specs.EntityOrder.{sorted_by_key};
 ghost use Rattle.ds_protocol.specs.Finishing.{AreByKey};
 ghost use Rattle.ds_protocol.specs.Quiet.{IsQuiet};
 ghost use Rattle.ds_protocol.specs.Searches.{IsSearchOf};
-ghost use Rattle.ds_machine.specs.Answered.{IsPlan};
 ghost use Rattle.ds_machine.specs.Queries.{IsGroupSearch, IsPrepared, told_over};
-ghost use Rattle.ds_machine.specs.Told.{ToldAtPlace};
+ghost use Rattle.ds_machine.specs.Told.{IsPlaceOf};
+ghost use Rattle.ds_machine.specs.Turns.{IsPlanIn, IsToldIn, IsTurn};
 
+use crate::due::Turn;
 use crate::state::State;
-use ds_base::{Counts, NoMemory};
-use ds_effects::Session;
+use ds_base::{Counts, NoMemory, TryCopy};
 use ds_effects::effect::{Effect, GroupRead, Plan};
 use ds_entity::{Entity, Seen};
 use ds_plain::answer_of;
-use ds_protocol::{Ready, Search, finish};
+use ds_protocol::{Operation, Ready, Search, finish};
 use ds_reply::Body;
 use std::alloc::Global;
 
@@ -26,16 +26,16 @@ impl State {
     pub(crate) fn find_in_group(
         &self,
         alloc: Global,
-        session: &Session,
-        client: u32,
+        turn: &Turn,
         search: &Search,
         ready: &Ready,
         read: GroupRead,
     ) -> Plan
-        requires prepared { IsPrepared self.now session.now search.now ready.now }
-        requires reached { IsGroupSearch self.now session.now search.now read }
-        ensures plan { (call : Call) → IsSearchOf call search.now → IsPlan self.now session.now client call result.body result.effect }
-        ensures told { ToldAtPlace self.now session.now read.place result.body result.effect }
+        requires prepared { IsPrepared self.now turn.now.session.now search.now ready.now }
+        requires reached { IsGroupSearch self.now turn.now.session.now search.now read }
+        requires place { IsPlaceOf turn.now.session.now turn.now.gathered.now read.place }
+        ensures plan { (call : Call) → IsSearchOf call search.now → IsPlanIn self.now turn.now call result }
+        ensures told { IsToldIn self.now turn.now result }
     {
         let Ok(visible) = self.applied.visible(alloc, read.shard, read.entries) else {
             return Plan::no_memory();
@@ -45,18 +45,47 @@ impl State {
         };
         let seen = Seen::Place(read.place);
         match find(alloc, search, ready, entities.as_slice(), seen) {
-            Ok(body) => {
-                Plan {
-                    body,
-                    effect: Effect::ReadGroup(read),
-                }
-            }
-            Err(_) => { Plan::no_memory() }
+            Ok(body) => Plan {
+                body,
+                effect: Effect::ReadGroup(read),
+            },
+            Err(_) => Plan::no_memory(),
+        }
+    }
+
+    /// What a search without an ancestor finds is told, at the counts that were viewed.
+    pub(crate) fn find_in_all(
+        &self,
+        alloc: Global,
+        turn: &Turn,
+        search: &Search,
+        ready: &Ready,
+    ) -> Plan
+        requires turn { IsTurn self.now turn.now (Operation.Find search.now) }
+        requires prepared { IsPrepared self.now turn.now.session.now search.now ready.now }
+        requires group { search.now.query.ancestor ≡ None }
+        ensures plan { (call : Call) → IsSearchOf call search.now → IsPlanIn self.now turn.now call result }
+        ensures told { IsToldIn self.now turn.now result }
+    {
+        // the state's invariant: its shards follow the journal
+        let _ = &self.shards;
+        let Some(seen) = self.counts_viewed(alloc, turn) else {
+            return Plan::no_memory();
+        };
+        let Ok(counts) = seen.counts.copy(alloc) else {
+            return Plan::no_memory();
+        };
+        match self.find_at_counts(alloc, search, ready, counts) {
+            Ok(body) => Plan {
+                body,
+                effect: Effect::SeeCounts(seen),
+            },
+            Err(_) => Plan::no_memory(),
         }
     }
 
     /// What the reply says of the results among the entities of all shards at these counts. A refusal is want of memory.
-    pub(crate) fn find_at_counts(
+    fn find_at_counts(
         &self,
         alloc: Global,
         search: &Search,
@@ -69,25 +98,10 @@ impl State {
             (sorted_by_key (shard_views self.now.applied.lists counts)) (Seen.Counts counts)) }
         ensures quiet { IfOk result IsQuiet }
     {
-        let visible = match self.applied.all_visible(alloc, counts.as_slice()) {
-            Ok(visible) => visible,
-            Err(error) => {
-                return Err(error);
-            }
-        };
-        let entities = match visible.entities(alloc) {
-            Ok(entities) => entities,
-            Err(error) => {
-                return Err(error);
-            }
-        };
-        find(
-            alloc,
-            search,
-            ready,
-            entities.as_slice(),
-            Seen::Counts(counts),
-        )
+        let visible = self.applied.all_visible(alloc, counts.as_slice())?;
+        let entities = visible.entities(alloc)?;
+        let seen = Seen::Counts(counts);
+        find(alloc, search, ready, entities.as_slice(), seen)
     }
 }
 

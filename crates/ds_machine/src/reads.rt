@@ -1,34 +1,24 @@
 //! Reads of one entity, and how far the journal was looked at.
-ghost use Rattle.std.specs.Prelude.{◌≡◌, None, Some, OnOk};
+ghost use Rattle.std.specs.Prelude.{◌≡◌, OnOk};
 ghost use Rattle.ds_base.specs.Keys.{root_of};
 ghost use Rattle.ds_request.specs.declared.call.Call.{Call};
-ghost use Rattle.ds_model.specs.Groups.{ReadsAt, group_refusal};
-ghost use Rattle.ds_machine.specs.Answered.{IsPlan};
-ghost use Rattle.ds_machine.specs.Reads.{IsReached, IsPulled};
-ghost use Rattle.ds_machine.specs.Told.{ToldAtPlace};
+ghost use Rattle.ds_machine.specs.Reads.{IsPulled};
+ghost use Rattle.ds_machine.specs.Told.{IsGroupRead};
+ghost use Rattle.ds_machine.specs.Turns.{IsPlanIn, IsToldIn};
 
+use crate::due::Turn;
 use crate::state::State;
 use ds_base::{Key, NoMemory, copy_of};
-use ds_effects::Session;
 use ds_effects::effect::{Effect, GroupRead, Plan};
 use ds_reply::Body;
 use std::alloc::Global;
 
 impl State {
     /// The entity of a key is told, whose shard has applied its entries up to the place.
-    pub(crate) fn get_reached(
-        &self,
-        alloc: Global,
-        session: &Session,
-        client: u32,
-        key: &Key,
-        read: GroupRead,
-    ) -> Plan
-        requires reached { IsReached self.now (root_of key.now) read }
-        requires allowed { group_refusal session.now.transaction (Some (root_of key.now)) ≡ None }
-        requires stands { ReadsAt self.now.store.journal session.now (root_of key.now) read.place }
-        ensures plan { IsPlan self.now session.now client (Call.Get key.now) result.body result.effect }
-        ensures told { ToldAtPlace self.now session.now read.place result.body result.effect }
+    pub(crate) fn get_reached(&self, alloc: Global, turn: &Turn, key: &Key, read: GroupRead) -> Plan
+        requires { IsGroupRead self.now turn.now.session.now turn.now.gathered.now (root_of key.now) read }
+        ensures plan { IsPlanIn self.now turn.now (Call.Get key.now) result }
+        ensures told { IsToldIn self.now turn.now result }
     {
         let Ok(visible) = self.applied.visible(alloc, read.shard, read.entries) else {
             return Plan::no_memory();

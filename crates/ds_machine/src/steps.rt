@@ -28,25 +28,7 @@ impl State {
         self.applied.count(shard)
     }
 
-    /// A shard applies its next entry; false where there is none. A refusal is want of memory.
-    fn apply_pending(&mut self, alloc: Global, shard: u32) -> Result<bool, NoMemory>
-        requires { shard < self.old.store.shards }
-        ensures applied { IfOk result (λ applied. applied ≡ is_pending (shown self.old) shard) }
-        ensures store { self.new.store ≡ self.old.store }
-        ensures counts { OnOk result (self.new.applied.counts ≡ counts_applied (shown self.old) shard) }
-        ensures grows { AreUpTo self.old.applied.counts self.new.applied.counts }
-    {
-        // the state's invariant bounds the shards
-        let _ = &self.shards;
-        self.pull(alloc)?;
-        if self.applied.count(shard) >= self.applied.entries(shard) {
-            return Ok(false);
-        }
-        self.applied.apply_one(alloc, shard)?;
-        Ok(true)
-    }
-
-    /// The same for a shard that may not be there.
+    /// A shard applies its next entry; false where it has none, or isn't there. A refusal is want of memory.
     pub fn apply_there(&mut self, alloc: Global, shard: u32) -> Result<bool, NoMemory>
         ensures applied { IfOk result (λ applied. applied ≡ (nat_lt shard self.old.store.shards && is_pending (shown self.old) shard)) }
         ensures store { self.new.store ≡ self.old.store }
@@ -56,6 +38,11 @@ impl State {
         if shard >= self.shards() {
             return Ok(false);
         }
-        self.apply_pending(alloc, shard)
+        self.pull(alloc)?;
+        if self.applied.count(shard) >= self.applied.entries(shard) {
+            return Ok(false);
+        }
+        self.applied.apply_one(alloc, shard)?;
+        Ok(true)
     }
 }

@@ -83,7 +83,8 @@ impl State {
         Ok(())
     }
 
-    /// Appends a commit that conflicts with nothing, and gives its number. A refusal is want of memory and changes nothing.
+    /// Appends a commit that conflicts with nothing, and gives its number. All memory is taken before that; a refusal is want of memory
+    /// and changes nothing.
     fn commit(&mut self, draft: Draft) -> Result<u64, NoMemory>
         requires touched_before { All (λ touch. touch.place ≤ length self.old.store.journal) draft.touched }
         requires issued { AreIssued self.old.store.next draft.writes }
@@ -94,7 +95,8 @@ impl State {
         }) }
         ensures err { OnErr result (self.new ≡ self.old) }
     {
-        append(&mut self.book, draft)
+        self.book.make_room(&draft)?;
+        Ok(self.book.append(draft))
     }
 }
 
@@ -103,20 +105,6 @@ fn done(_effect: ()) -> Result<(), NoMemory>
     ensures { IsOk result }
 {
     Ok(())
-}
-
-/// Appends a commit that conflicts with nothing, and gives its number. All memory is taken before that.
-fn append(book: &mut Book, draft: Draft) -> Result<u64, NoMemory>
-    requires touched_before { All (λ touch. touch.place ≤ length book.old.journal) draft.touched }
-    requires issued { AreIssued book.old.next draft.writes }
-    requires serial { conflict_of book.old.journal draft.touched ≡ None }
-    ensures number { IfOk result (λ n. n ≡ length book.old.journal + 1) }
-    ensures journal { OnOk result (book.new.journal ≡ book.old.journal ++ draft ∷ []) }
-    ensures err { OnErr result (book.new.journal ≡ book.old.journal) }
-    ensures next { book.new.next ≡ book.old.next }
-{
-    book.make_room(&draft)?;
-    Ok(book.append(draft))
 }
 
 /// Whether it tells of want of memory.

@@ -1,72 +1,47 @@
-//! Transactions begin and end, and ids are drawn.
+//! Commits of transactions.
 ghost use Rattle.std.specs.Prelude.{◌≡◌, None, Some};
 ghost use Rattle.ds_log.specs.Conflicts.{conflict_of};
 ghost use Rattle.ds_request.specs.declared.call.Call.{Call};
-ghost use Rattle.ds_model.specs.Refusals.{refusal_of};
-ghost use Rattle.ds_machine.specs.Answered.{IsPlan};
-ghost use Rattle.ds_machine.specs.States.{IsSession};
-ghost use Rattle.ds_machine.specs.Told.{ToldAlways, ToldAtCommit};
-ghost use Rattle.ds_protocol.specs.Transactions.{transaction_of};
+ghost use Rattle.ds_machine.specs.Turns.{ComesTo, IsCommitting, IsPlanIn, IsToldIn, IsTurn};
 
+use crate::due::Turn;
 use crate::state::State;
 use ds_base::copy_of;
-use ds_effects::Session;
-use ds_effects::effect::{Effect, Plan};
+use ds_effects::Step;
+use ds_effects::effect::{Due, Effect, Plan};
 use ds_log::Conflict;
-use ds_protocol::draft_of_transaction;
+use ds_protocol::{Operation, draft_of_transaction};
 use ds_reply::Body;
 use ds_txn::Txn;
 use std::alloc::Global;
 
 impl State {
-    /// A transaction begins.
-    pub(crate) fn plan_begin(&self, session: &Session, client: u32, several_groups: bool) -> Plan
-        requires { refusal_of self.now.store.definitions session.now (Call.Begin several_groups) ≡ None }
-        ensures plan { IsPlan self.now session.now client (Call.Begin several_groups) result.body result.effect }
-        ensures told { ToldAlways self.now session.now result.body result.effect }
+    /// A commit waits for a Commit. The transaction is committed, unless a commit after a touch wrote the touched group; then it ends all
+    /// the same.
+    pub(crate) fn commit_due(&self, alloc: Global, turn: &Turn) -> Due
+        requires { IsTurn self.now turn.now Operation.Commit }
+        ensures { ComesTo self.now turn.now Operation.Commit result }
     {
-        Plan {
-            body: Body::Begin,
-            effect: Effect::Begin { several_groups },
+        if !turn.taken.is_commit() {
+            return Due::Waits(Step::Commit);
         }
-    }
-
-    /// The transaction ends without a commit.
-    pub(crate) fn plan_rollback(&self, session: &Session, client: u32) -> Plan
-        requires { refusal_of self.now.store.definitions session.now Call.Rollback ≡ None }
-        ensures plan { IsPlan self.now session.now client Call.Rollback result.body result.effect }
-        ensures told { ToldAlways self.now session.now result.body result.effect }
-    {
-        Plan {
-            body: Body::Rollback,
-            effect: Effect::End,
-        }
-    }
-
-    /// The transaction is committed, unless a commit after a touch wrote the touched group; then it ends all the same.
-    pub(crate) fn plan_commit(&self, alloc: Global, session: &Session, client: u32) -> Plan
-        requires { IsSession self.now session.now }
-        ensures plan { IsPlan self.now session.now client Call.Commit result.body result.effect }
-        ensures told { ToldAtCommit self.now session.now result.body result.effect }
-    {
-        let Some(txn) = session.transaction() else {
-            return Plan::refused(Body::NoTransaction);
+        let Some(txn) = turn.session.transaction() else {
+            return Due::Reply(Plan::refused(Body::NoTransaction));
         };
         match txn.check(self.book.heads()) {
-            Ok(()) => self.plan_serial(alloc, session, client, txn),
-            Err(conflict) => self.plan_conflict(alloc, session, client, txn, conflict),
+            Ok(()) => Due::Reply(self.plan_serial(alloc, turn, txn)),
+            Err(conflict) => Due::Reply(self.plan_conflict(alloc, turn, txn, conflict)),
         }
     }
 
     /// The commit of a transaction that conflicts with nothing.
-    fn plan_serial(&self, alloc: Global, session: &Session, client: u32, txn: &Txn) -> Plan
-        requires seen { IsSession self.now session.now }
-        requires inside { session.now.transaction ≡ Some (transaction_of txn.now) }
+    fn plan_serial(&self, alloc: Global, turn: &Turn, txn: &Txn) -> Plan
+        requires commits { IsCommitting self.now turn.now txn.now }
         requires serial { conflict_of self.now.store.journal txn.now.touched ≡ None }
-        ensures plan { IsPlan self.now session.now client Call.Commit result.body result.effect }
-        ensures told { ToldAtCommit self.now session.now result.body result.effect }
+        ensures plan { IsPlanIn self.now turn.now Call.Commit result }
+        ensures told { IsToldIn self.now turn.now result }
     {
-        let Ok(draft) = draft_of_transaction(alloc, client, txn) else {
+        let Ok(draft) = draft_of_transaction(alloc, turn.client, txn) else {
             return Plan::no_memory();
         };
         // for the proof alone: there are at most 500 writes
@@ -79,19 +54,11 @@ impl State {
     }
 
     /// Why a transaction isn't committed.
-    fn plan_conflict(
-        &self,
-        alloc: Global,
-        session: &Session,
-        client: u32,
-        txn: &Txn,
-        conflict: Conflict,
-    ) -> Plan
-        requires seen { IsSession self.now session.now }
-        requires inside { session.now.transaction ≡ Some (transaction_of txn.now) }
+    fn plan_conflict(&self, alloc: Global, turn: &Turn, txn: &Txn, conflict: Conflict) -> Plan
+        requires commits { IsCommitting self.now turn.now txn.now }
         requires conflict { conflict_of self.now.store.journal txn.now.touched ≡ Some conflict }
-        ensures plan { IsPlan self.now session.now client Call.Commit result.body result.effect }
-        ensures told { ToldAtCommit self.now session.now result.body result.effect }
+        ensures plan { IsPlanIn self.now turn.now Call.Commit result }
+        ensures told { IsToldIn self.now turn.now result }
     {
         match copy_of(alloc, txn.group(conflict.group as usize)) {
             Ok(Some(group)) => Plan {

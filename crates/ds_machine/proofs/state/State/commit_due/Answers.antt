@@ -1,12 +1,32 @@
-use Rattle.std.proofs.Common.{inr, refl}
+use Rattle.std.proofs.Common.{◌∙◌, ap, inr, refl, rules, sym}
+use Rattle.ds_log.specs.Conflicts.{conflict_of}
 use Rattle.ds_request.specs.declared.call.Call.TheVariants as call
+use Rattle.ds_machine.specs.States.{StateParts}
 use Rattle.ds_machine.proofs.DuePlans.{due_of}
-use Rattle.ds_machine.proofs.ToldPlans.{commit-is}
 use Rattle.ds_machine.proofs.state.State.commit_due.Goals as goal
 
-pub returns-then-is_commit-clause-plan : goal.returns-then-is_commit-clause-plan
-returns-then-is_commit-clause-plan c = inr (due_of c.args.self.now c.args.session.now c.args.client call.Commit c.plan_commit.result.body
-    c.plan_commit.result.effect c.plan_commit.ensures.plan refl)
+pub plan_serial-requires-clause-serial : goal.plan_serial-requires-clause-serial
+plan_serial-requires-clause-serial c =
+    ap (λ (st : StateParts). conflict_of st.store.journal c.in-Some.txn.now.touched) (sym c.self.view_is)
+    ∙ sym (c.heads.ensures c.in-Some.txn.now.touched) ∙ sym c.in-Ok.ensures
 
-pub returns-then-is_commit-clause-told : goal.returns-then-is_commit-clause-told
-returns-then-is_commit-clause-told c = λ g. c.plan_commit.ensures.told g c.args.taken (λ inside. commit-is c.args.taken cc)
+pub plan_conflict-requires-clause-conflict : goal.plan_conflict-requires-clause-conflict
+plan_conflict-requires-clause-conflict c =
+    ap (λ (st : StateParts). conflict_of st.store.journal c.in-Some.txn.now.touched) (sym c.self.view_is)
+    ∙ sym (c.heads.ensures c.in-Some.txn.now.touched) ∙ sym c.in-Err.ensures
+
+pub returns-in-Ok : goal.returns-in-Ok
+returns-in-Ok c = record {
+  plan = inr (due_of c.args.self.now c.args.turn.now.session.now c.args.turn.now.client call.Commit c.plan_serial.result.body
+      c.plan_serial.result.effect c.plan_serial.ensures.plan refl);
+  told = c.plan_serial.ensures.told;
+  next = search rules;
+}
+
+pub returns-in-Err : goal.returns-in-Err
+returns-in-Err c = record {
+  plan = inr (due_of c.args.self.now c.args.turn.now.session.now c.args.turn.now.client call.Commit c.plan_conflict.result.body
+      c.plan_conflict.result.effect c.plan_conflict.ensures.plan refl);
+  told = c.plan_conflict.ensures.told;
+  next = search rules;
+}

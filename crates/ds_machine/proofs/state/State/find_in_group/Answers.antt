@@ -9,11 +9,12 @@ use Rattle.ds_machine.proofs.ToldPlans.{read-told, search-numbers}
 use Rattle.ds_machine.proofs.state.State.find_in_group.Goals as goal
 
 pub returns-in_default-clause-plan : goal.returns-in_default-clause-plan
-returns-in_default-clause-plan c = λ call of. memory_as c.args.self.now c.args.session.now c.args.client call c.no_memory.result.body
+returns-in_default-clause-plan c = λ call of. memory_as c.args.self.now c.args.turn.now.session.now c.args.turn.now.client call
+    c.no_memory.result.body
     c.no_memory.result.effect c.no_memory.ensures.body c.no_memory.ensures.effect
 
 pub returns-in_default-entities-clause-plan : goal.returns-in_default-entities-clause-plan
-returns-in_default-entities-clause-plan c = λ call of. memory_as c.args.self.now c.args.session.now c.args.client call _ _
+returns-in_default-entities-clause-plan c = λ call of. memory_as c.args.self.now c.args.turn.now.session.now c.args.turn.now.client call _ _
     c.no_memory-in_default-entities.ensures.body c.no_memory-in_default-entities.ensures.effect
 
 pub find-requires-clause-by_key : goal.find-requires-clause-by_key
@@ -22,7 +23,8 @@ find-requires-clause-by_key c = view_by_key _ c.self.inside.applied.lists c.args
 
 pub returns-in-Ok-find-clause-plan : goal.returns-in-Ok-find-clause-plan
 returns-in-Ok-find-clause-plan c = λ call of.
-    group_found c.args.self.now c.args.session.now c.args.client call c.args.search.now of c.args.ready.now c.requires.prepared
+    group_found c.args.self.now c.args.turn.now.session.now c.args.turn.now.client call c.args.search.now of c.args.ready.now
+    c.requires.prepared
     (subst IsState c.self.view_is c.self.invariant) c.args.read c.requires.reached
     c.in-Ok-find.body (c.in-Ok-find.ensures.found
     ∙ ap (λ es. told_over c.args.search.now c.args.ready.now.normal c.args.ready.now.window es (seen.Place c.args.read.place))
@@ -30,12 +32,14 @@ returns-in-Ok-find-clause-plan c = λ call of.
     ∙ ap (λ (st : StateParts). shard_view st.applied.lists c.args.read.shard c.args.read.entries) c.self.view_is))
 
 pub returns-in-Err-clause-plan : goal.returns-in-Err-clause-plan
-returns-in-Err-clause-plan c = λ call of. memory_as c.args.self.now c.args.session.now c.args.client call _ _
+returns-in-Err-clause-plan c = λ call of. memory_as c.args.self.now c.args.turn.now.session.now c.args.turn.now.client call _ _
     c.no_memory-in-Err.ensures.body
     c.no_memory-in-Err.ensures.effect
 
 pub returns-in-Ok-find-clause-told : goal.returns-in-Ok-find-clause-told
-returns-in-Ok-find-clause-told c = λ g step place.
-    read-told c.args.self.now c.args.session.now c.in-Ok-find.body g step c.args.read
-    (search-numbers c.args.self.now c.args.session.now g step c.args.search.now c.args.ready.now.normal c.args.ready.now.window
-    (map (λ e. e.now) c.as_slice.result.now) (seen.Place c.args.read.place) c.in-Ok-find.body c.in-Ok-find.ensures.found place) place
+returns-in-Ok-find-clause-told c =
+    read-told c.args.self.now c.args.turn.now.session.now c.in-Ok-find.body c.args.turn.now.gathered.now c.args.turn.now.taken c.args.read
+    (search-numbers c.args.self.now c.args.turn.now.session.now c.args.turn.now.gathered.now c.args.turn.now.taken c.args.search.now
+    c.args.ready.now.normal c.args.ready.now.window
+    (map (λ e. e.now) c.as_slice.result.now) (seen.Place c.args.read.place) c.in-Ok-find.body c.in-Ok-find.ensures.found c.requires.place)
+    c.requires.place

@@ -1,25 +1,17 @@
-use Rattle.std.proofs.Common.{subst}
-use Rattle.ds_machine.proofs.DuePlans.{gathered_counts}
-use Rattle.ds_machine.proofs.Plans.{memory_as}
-use Rattle.std.specs.Prelude.{IfSome}
-use Rattle.ds_machine.specs.Told.{AreViewsOf}
+use Rattle.std.proofs.Common.{◌≡◌, None, ap, inl, subst, sym}
+use Rattle.std.specs.Option.{option_map}
+use Rattle.ds_effects.specs.declared.effect.Due.TheVariants as dues
+use Rattle.ds_effects.specs.declared.gathered.Step.TheVariants as steps
+use Rattle.ds_machine.specs.Missing.{missing_search, shown}
+use Rattle.ds_machine.proofs.OperationPlans.{due_searched}
 use Rattle.ds_machine.proofs.state.State.in_all_due.Goals as goal
 
-pub find_in_all_at-requires-clause-shown : goal.find_in_all_at-requires-clause-shown
-find_in_all_at-requires-clause-shown c =
-    (gathered_counts c.args.self.now c.args.session.now c.requires.gathered.0 c.args.gathered.now _ c.in-Ok-Some.counts
-    c.requires.gathered.1 c.in-Ok-Some.field-0-is c.in-Ok-Some.ensures.viewed).0
-
-pub find_in_all_at-requires-clause-within : goal.find_in_all_at-requires-clause-within
-find_in_all_at-requires-clause-within c =
-    (gathered_counts c.args.self.now c.args.session.now c.requires.gathered.0 c.args.gathered.now _ c.in-Ok-Some.counts
-    c.requires.gathered.1 c.in-Ok-Some.field-0-is c.in-Ok-Some.ensures.viewed).1
-
-pub returns-in-Ok-Some-clause-told : goal.returns-in-Ok-Some-clause-told
-returns-in-Ok-Some-clause-told c = λ taken.
-    c.find_in_all_at.ensures.told c.args.gathered.now taken
-    (subst (λ o. IfSome o (AreViewsOf c.args.gathered.now)) c.in-Ok-Some.field-0-is c.in-Ok-Some.ensures.viewed)
-
-pub returns-in-Ok-None-clause-plan : goal.returns-in-Ok-None-clause-plan
-returns-in-Ok-None-clause-plan c = λ call of. memory_as c.args.self.now c.args.session.now c.args.client call _ _
-    c.no_memory.ensures.body c.no_memory.ensures.effect
+pub returns-in-None : goal.returns-in-None
+returns-in-None c = record {
+  plan = due_searched c.args.self.now c.args.turn.now.session.now c.args.turn.now.client c.args.turn.now.gathered.now c.args.search.now
+      (dues.Reply c.find_in_all.result) c.find_in_all.ensures.plan;
+  told = c.find_in_all.ensures.told;
+  next = inl (subst (λ a. missing_search (shown c.args.self.now) c.args.turn.now.session.now c.args.turn.now.gathered.now a
+      c.args.turn.now.taken ≡ None) (sym c.requires.group)
+      (ap (option_map (λ shard. steps.View shard)) (sym c.in-None.ensures.first)));
+}

@@ -1,5 +1,4 @@
-use Rattle.std.proofs.Common.{◌∙◌, ap, sym, inr, refl, length}
-use Rattle.std.specs.Prelude.{is_some}
+use Rattle.std.proofs.Common.{◌∙◌, sym, inr, refl, length}
 use Rattle.ds_log.specs.Conflicts.{last_writer}
 use Rattle.ds_reply.specs.declared.reply.Body.TheVariants as body
 use Rattle.ds_protocol.specs.Transactions.{transaction_of}
@@ -10,14 +9,17 @@ use Rattle.ds_machine.proofs.state.State.plan_conflict.Goals as goal
 
 pub returns-in-Ok-Some-clause-plan : goal.returns-in-Ok-Some-clause-plan
 returns-in-Ok-Some-clause-plan c =
-    conflict_planned c.args.self.now c.args.session.now c.args.client (transaction_of c.args.txn.now) c.args.conflict
-    c.in-Ok-Some.group c.requires.seen c.requires.inside c.requires.conflict (sym c.group.ensures ∙ sym c.in-Ok-Some.ensures ∙ c.in-Ok-Some.field-0-is)
+    conflict_planned c.args.self.now c.args.turn.now.session.now c.args.turn.now.client (transaction_of c.args.txn.now) c.args.conflict
+    c.in-Ok-Some.group c.requires.commits.seen c.requires.commits.inside c.requires.conflict (sym c.group.ensures
+    ∙ sym c.in-Ok-Some.ensures ∙ c.in-Ok-Some.field-0-is)
 
 pub returns-in-Ok-Some-clause-told : goal.returns-in-Ok-Some-clause-told
-returns-in-Ok-Some-clause-told c = λ g step now.
-    untouched-told c.args.self.now c.args.session.now (body.Conflict c.args.conflict.commit c.in-Ok-Some.group c.args.conflict.place) g step
+returns-in-Ok-Some-clause-told c =
+    untouched-told c.args.self.now c.args.turn.now.session.now (body.Conflict c.args.conflict.commit c.in-Ok-Some.group
+    c.args.conflict.place)
+    c.args.turn.now.gathered.now c.args.turn.now.taken
     (effect.EndAt c.args.conflict.place) (
-      now (ap is_some c.requires.inside),
+      c.requires.commits.by_step,
       conflict-place (last_writer c.args.self.now.store.journal) (length c.args.self.now.store.journal) 0 c.args.txn.now.touched
           c.args.conflict c.requires.conflict,
     )

@@ -8,8 +8,8 @@ use Rattle.ds_machine.proofs.state.State.plan_serial.Goals as goal
 
 pub returns-clause-plan : goal.returns-clause-plan
 returns-clause-plan c =
-    commit_planned c.args.self.now c.args.session.now c.args.client (transaction_of c.args.txn.now) c.in-Ok.draft
-    (length c.journal.result.now + 1) c.requires.seen c.requires.inside c.in-Ok.ensures
+    commit_planned c.args.self.now c.args.turn.now.session.now c.args.turn.now.client (transaction_of c.args.txn.now) c.in-Ok.draft
+    (length c.journal.result.now + 1) c.requires.commits.seen c.requires.commits.inside c.in-Ok.ensures
     (ap (λ (cs : List Commit). length cs + 1) (c.journal.ensures.value ∙ ap (λ (st : StateParts). st.store.journal) c.self.view_is))
     c.writes-commit.ensures.few
     (ap (λ (d : Commit). conflict_of c.args.self.now.store.journal d.touched) c.in-Ok.ensures ∙ c.requires.serial)
