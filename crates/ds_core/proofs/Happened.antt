@@ -201,7 +201,3 @@ event-then hs h e more rest all so_far first is =
     ∙ so_far
 
 -- ---- calls that may be refused
-
-pub goes-ok : {A E : Type 0} (r : Result A E) (a b c : MachineParts) → GoesOn a b → OnOk r (GoesOn b c) → OnOk r (GoesOn a c)
-goes-ok (Ok x) a b c first second = goes-then a b c first second
-goes-ok (Err e) a b c first second = tt

@@ -163,15 +163,6 @@ pub held-at : (os : List (Option Open)) (i : ℕ) (d : Option Open) → i < leng
 held-at os i d below = subst (λ ps. IsPermutation (held ps) (held_by (get_or os i d) ++ held (slice_set os i None))) (set-own os i d)
     (held-first os i (get_or os i d) below)
 
--- as many as before are held for one client
-held-kept : (os : List (Option Open)) (i : ℕ) (d o : Option Open) → i < length os → held_by o ≡ held_by (get_or os i d)
-    → IsPermutation (held (slice_set os i o)) (held os)
-held-kept os i d o below same =
-    IsPermutation-trans (held (slice_set os i o)) (held_by o ++ held (slice_set os i None)) (held os)
-    (held-first os i o below)
-    (subst (λ ids. IsPermutation (ids ++ held (slice_set os i None)) (held os)) (sym same)
-    (IsPermutation-sym _ _ (held-at os i d below)))
-
 -- ---- numbers
 
 pub numbers-append : (first m n : ℕ) → range_with_len first m ++ range_with_len (first + m) n ≡ range_with_len first (m + n)

@@ -7,17 +7,17 @@ ghost use Rattle.ds_effects.specs.declared.gathered.Step.{Step};
 ghost use Rattle.ds_machine.specs.Effects.{IsAllowed};
 ghost use Rattle.ds_core.specs.declared.opened.Open.{Open};
 ghost use Rattle.ds_core.specs.Courses.{IsPast};
-ghost use Rattle.ds_core.specs.Happenings.{Turn, moment_of};
+ghost use Rattle.ds_core.specs.Happenings.{IsSilent, Turn, moment_of};
 ghost use Rattle.ds_core.specs.Takings.{AreWaiting};
 ghost use Rattle.ds_machine.specs.Due.{IsDuePlan};
 ghost use Rattle.ds_machine.specs.Told.{ToldAlways};
 ghost use Rattle.ds_core.specs.Machines.{IsDueTo, IsWorkOf, IsLawfulEvent, IsLawfulRequest, IsLegal, IsSameRun, noted, performed};
-ghost use Rattle.ds_core.specs.Witnesses.{EndedAt, HappensAt, IsToldTo, OpensAt, RepliesAt, TakesAt};
+ghost use Rattle.ds_core.specs.Witnesses.{EndedAt, GathersAt, HappensAt, IsToldTo, OpensAt, RepliesAt, StepsAt, TakesAt};
 
 use crate::clients::{first_sessions, none_open};
 use crate::event::{Event, Replies, Requests, Transcript};
 use crate::holding::put;
-use crate::opened::{Open, due_open, open_request, take_open, work_of};
+use crate::opened::{Open, due_open, open_request, step_open, work_of};
 use ds_base::NoMemory;
 use ds_effects::{Due, Effect, Plan, Session, Step};
 use ds_indexdef::Defs;
@@ -178,6 +178,26 @@ impl Machine {
         self.advance(alloc, client, step)
     }
 
+    /// The step, and what the client's open request gathers by it where it calls for it. A shard that isn't there has no steps.
+    fn gather(&mut self, alloc: Global, client: u32, step: Step) -> Result<(), NoMemory>
+        requires legal { IsLegal self.old }
+        requires client { client ≤ greatest_client }
+        ensures legal { OnOk result (IsLegal self.new) }
+        ensures same { OnOk result (IsSameRun self.old self.new) }
+        ensures silent { OnOk result (IsSilent self.old self.new) }
+        ensures timed { OnOk result (GathersAt self.old.state.store.shards step client self.old self.new) }
+        ensures steps { OnOk result (StepsAt step client self.old self.new) }
+    {
+        // for the proof alone: it tells that there is a count for each shard
+        let _shards = self.state.shards();
+        step_open(
+            alloc,
+            &mut self.state,
+            &mut self.opens[client as usize],
+            step,
+        )
+    }
+
     /// Whether the client has a request open.
     pub(crate) fn has_open(&self, client: u32) -> bool
         requires client { client < length self.now.opens }
@@ -281,7 +301,7 @@ impl Machine {
         ensures was { (d : Option Open) → result ≡ get_or self.old.opens client d }
         ensures closed { self.new ≡ record self.old { opens = slice_set self.old.opens client None } }
     {
-        take_open(&mut self.opens[client as usize])
+        self.opens[client as usize].take()
     }
 
     /// Takes effect. A refusal is want of memory.

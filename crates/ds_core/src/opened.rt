@@ -48,17 +48,17 @@ pub(crate) fn work_of(
 /// Opens a request that has gathered nothing. A refusal is want of memory.
 pub(crate) fn open_request(
     alloc: Global,
-    open: &mut Option<Open>,
+    opened: &mut Option<Open>,
     request: Request,
     work: Work,
     shards: u32,
 ) -> Result<(), NoMemory>
-    ensures { OnOk result (open.new ≡ Some (just_opened request work shards)) }
+    ensures { OnOk result (opened.new ≡ Some (just_opened request work shards)) }
 {
     match Gathered::nothing(alloc, shards) {
         Ok(gathered) => {
             set(
-                open,
+                opened,
                 Some(Open {
                     request,
                     work,
@@ -75,35 +75,34 @@ pub(crate) fn open_request(
     }
 }
 
-/// Closes the open request, if there is one.
-pub(crate) fn take_open(open: &mut Option<Open>) -> Option<Open>
-    ensures was { result ≡ open.old }
-    ensures closed { open.new ≡ None }
-{
-    open.take()
-}
-
 /// What the open request, if there is one, comes to at a step.
 pub(crate) fn due_open(
     alloc: Global,
     state: &mut State,
     session: &Session,
     client: u32,
-    open: &Option<Open>,
+    opened: &Option<Open>,
     taken: Step,
 ) -> Option<Due>
     requires seen { IsSession state.old session.now }
-    requires lawful { IsOpen state.old client session.now open.now }
-    ensures due { IsDueNow state.new session.now client taken open.now result }
-    ensures told { IsToldNow state.new session.now taken open.now result }
+    requires lawful { IsOpen state.old client session.now opened.now }
+    ensures due { IsDueNow state.new session.now client taken opened.now result }
+    ensures told { IsToldNow state.new session.now taken opened.now result }
     ensures store { state.new.store ≡ state.old.store }
     ensures counts { state.new.applied.counts ≡ state.old.applied.counts }
 {
-    match open {
-        Some(open) => {
+    match opened {
+        Some(opened) => {
             // for the proof alone: it tells that there is a count for each shard
             let _shards = state.shards();
-            Some(state.due(alloc, session, client, &open.work, &open.gathered, taken))
+            Some(state.due(
+                alloc,
+                session,
+                client,
+                &opened.work,
+                &opened.gathered,
+                taken,
+            ))
         }
         None => None,
     }
@@ -113,15 +112,15 @@ pub(crate) fn due_open(
 pub(crate) fn step_open(
     alloc: Global,
     state: &mut State,
-    open: &mut Option<Open>,
+    opened: &mut Option<Open>,
     step: Step,
 ) -> Result<(), NoMemory>
-    requires { IfSome open.old (λ o. IsSteppable state.old o.gathered) }
-    ensures stepped { OnOk result (SteppedTo step state.old open.old state.new open.new) }
+    requires { IfSome opened.old (λ o. IsSteppable state.old o.gathered) }
+    ensures stepped { OnOk result (SteppedTo step state.old opened.old state.new opened.new) }
     ensures grows { AreUpTo state.old.applied.counts state.new.applied.counts }
 {
-    match open {
-        Some(open) => state.step(alloc, &open.work.operation, &mut open.gathered, step),
+    match opened {
+        Some(opened) => state.step(alloc, &opened.work.operation, &mut opened.gathered, step),
         None => state.step_alone(alloc, step),
     }
 }

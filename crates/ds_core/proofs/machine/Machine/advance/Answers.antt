@@ -43,17 +43,25 @@ say-requires-clause-due c =
     (subst (λ d. IsDueNow c.due_open.new.state c.index-session.result.now c.args.client c.args.step c.index-open.result.now (Some d))
     c.in-Some-Reply.field-0-is c.in-Some-Reply.ensures.due))
 
-pub returns-in-Some-Waits-clause-legal : goal.returns-in-Some-Waits-clause-legal
-returns-in-Some-Waits-clause-legal c =
+pub returns-in-Some-Waits : goal.returns-in-Some-Waits
+returns-in-Some-Waits c =
     let quietly = called-still _ _ c.self.view_is c.requires.legal c.args.client c.requires.client c.due_open.new.state
     c.due_open.ensures.store c.due_open.ensures.counts in
-    quietly.0
-
-pub returns-in-Some-Waits-clause-turn : goal.returns-in-Some-Waits-clause-turn
-returns-in-Some-Waits-clause-turn c =
-    let quietly = called-still _ _ c.self.view_is c.requires.legal c.args.client c.requires.client c.due_open.new.state
-    c.due_open.ensures.store c.due_open.ensures.counts in
-    turn-silent c.args.self.now _ c.args.client quietly.2
+    record {
+      legal = quietly.0;
+      same = quietly.1;
+      turn = turn-silent c.args.self.now _ c.args.client quietly.2;
+      timed = replies-none c.args.step c.args.client c.args.self.now _
+          (timed-still _ _ c.self.view_is c.requires.legal c.args.client c.requires.client c.due_open.new.state c.due_open.ensures.store
+          c.due_open.ensures.counts);
+      ended = timed-quiet _ _ c.self.view_is c.requires.legal c.args.client c.requires.client c.due_open.new.state c.args.step
+          c.index-session.result.now c.index-open.result.now c.due_open.ensures.store c.due_open.ensures.counts c.index-session.ensures
+          c.index-open.ensures
+          (ends-waits c.self.inside.state c.due_open.new.state c.index-session.result.now c.args.client c.args.step c.in-Some-Waits._next
+          c.index-open.result.now (looked-shown c.self.inside.state c.due_open.new.state c.due_open.ensures.store c.due_open.ensures.counts)
+          (subst (λ d. IsDueNow c.due_open.new.state c.index-session.result.now c.args.client c.args.step c.index-open.result.now (Some d))
+          c.in-Some-Waits.field-0-is c.in-Some-Waits.ensures.due));
+    }
 
 pub returns-in-Some-Reply-clause-timed : goal.returns-in-Some-Reply-clause-timed
 returns-in-Some-Reply-clause-timed c =
@@ -68,30 +76,6 @@ returns-in-Some-Reply-clause-timed c =
     (Some d))
     c.in-Some-Reply.field-0-is c.in-Some-Reply.ensures.told)))
 
-pub returns-in-Some-Waits-clause-timed : goal.returns-in-Some-Waits-clause-timed
-returns-in-Some-Waits-clause-timed c =
-    replies-none c.args.step c.args.client c.args.self.now _
-    (timed-still _ _ c.self.view_is c.requires.legal c.args.client c.requires.client c.due_open.new.state c.due_open.ensures.store
-    c.due_open.ensures.counts)
-
-pub returns-in-None-clause-legal : goal.returns-in-None-clause-legal
-returns-in-None-clause-legal c =
-    let quietly = called-still _ _ c.self.view_is c.requires.legal c.args.client c.requires.client c.due_open.new.state
-    c.due_open.ensures.store c.due_open.ensures.counts in
-    quietly.0
-
-pub returns-in-None-clause-turn : goal.returns-in-None-clause-turn
-returns-in-None-clause-turn c =
-    let quietly = called-still _ _ c.self.view_is c.requires.legal c.args.client c.requires.client c.due_open.new.state
-    c.due_open.ensures.store c.due_open.ensures.counts in
-    turn-silent c.args.self.now _ c.args.client quietly.2
-
-pub returns-in-None-clause-timed : goal.returns-in-None-clause-timed
-returns-in-None-clause-timed c =
-    replies-none c.args.step c.args.client c.args.self.now _
-    (timed-still _ _ c.self.view_is c.requires.legal c.args.client c.requires.client c.due_open.new.state c.due_open.ensures.store
-    c.due_open.ensures.counts)
-
 pub returns-in-Some-Reply-clause-ended : goal.returns-in-Some-Reply-clause-ended
 returns-in-Some-Reply-clause-ended c =
     timed-ended _ _ c.self.view_is c.requires.legal c.args.client c.requires.client c.say.result c.due_open.new.state c.args.step
@@ -104,20 +88,20 @@ returns-in-Some-Reply-clause-ended c =
     (Some d))
     c.in-Some-Reply.field-0-is c.in-Some-Reply.ensures.told)))
 
-pub returns-in-Some-Waits-clause-ended : goal.returns-in-Some-Waits-clause-ended
-returns-in-Some-Waits-clause-ended c =
-    timed-quiet _ _ c.self.view_is c.requires.legal c.args.client c.requires.client c.due_open.new.state c.args.step
-    c.index-session.result.now c.index-open.result.now c.due_open.ensures.store c.due_open.ensures.counts c.index-session.ensures
-    c.index-open.ensures
-    (ends-waits c.self.inside.state c.due_open.new.state c.index-session.result.now c.args.client c.args.step c.in-Some-Waits._next
-    c.index-open.result.now (looked-shown c.self.inside.state c.due_open.new.state c.due_open.ensures.store c.due_open.ensures.counts)
-    (subst (λ d. IsDueNow c.due_open.new.state c.index-session.result.now c.args.client c.args.step c.index-open.result.now (Some d))
-    c.in-Some-Waits.field-0-is c.in-Some-Waits.ensures.due))
-
-pub returns-in-None-clause-ended : goal.returns-in-None-clause-ended
-returns-in-None-clause-ended c =
-    timed-quiet _ _ c.self.view_is c.requires.legal c.args.client c.requires.client c.due_open.new.state c.args.step
-    c.index-session.result.now c.index-open.result.now c.due_open.ensures.store c.due_open.ensures.counts c.index-session.ensures
-    c.index-open.ensures
-    (ends-none c.self.inside.state c.due_open.new.state c.index-session.result.now c.args.client c.args.step c.index-open.result.now
-    c.in-None.ensures.due)
+pub returns-in-None : goal.returns-in-None
+returns-in-None c =
+    let quietly = called-still _ _ c.self.view_is c.requires.legal c.args.client c.requires.client c.due_open.new.state
+    c.due_open.ensures.store c.due_open.ensures.counts in
+    record {
+      legal = quietly.0;
+      same = quietly.1;
+      turn = turn-silent c.args.self.now _ c.args.client quietly.2;
+      timed = replies-none c.args.step c.args.client c.args.self.now _
+          (timed-still _ _ c.self.view_is c.requires.legal c.args.client c.requires.client c.due_open.new.state c.due_open.ensures.store
+          c.due_open.ensures.counts);
+      ended = timed-quiet _ _ c.self.view_is c.requires.legal c.args.client c.requires.client c.due_open.new.state c.args.step
+          c.index-session.result.now c.index-open.result.now c.due_open.ensures.store c.due_open.ensures.counts c.index-session.ensures
+          c.index-open.ensures
+          (ends-none c.self.inside.state c.due_open.new.state c.index-session.result.now c.args.client c.args.step c.index-open.result.now
+          c.in-None.ensures.due);
+    }

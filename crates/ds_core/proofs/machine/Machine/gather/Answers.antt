@@ -17,30 +17,21 @@ step_open-requires c =
     c.shards-shards.ensures.counts
     c.index_mut.ensures.value
 
-pub returns-clause-legal : goal.returns-clause-legal
-returns-clause-legal c =
-    (called-step _ _ c.self.view_is c.requires.legal c.args.client c.requires.client c.step_open.result c.step_open.new.state c.args.step
-    c.index_mut.result.now c.step_open.new.open c.shards-shards.ensures.counts c.step_open.ensures.grows c.index_mut.ensures.value
-    c.step_open.ensures.stepped).0
-
-pub returns-clause-same : goal.returns-clause-same
-returns-clause-same c =
-    (called-step _ _ c.self.view_is c.requires.legal c.args.client c.requires.client c.step_open.result c.step_open.new.state c.args.step
-    c.index_mut.result.now c.step_open.new.open c.shards-shards.ensures.counts c.step_open.ensures.grows c.index_mut.ensures.value
-    c.step_open.ensures.stepped).1
-
-pub returns-clause-silent : goal.returns-clause-silent
-returns-clause-silent c =
-    (called-step _ _ c.self.view_is c.requires.legal c.args.client c.requires.client c.step_open.result c.step_open.new.state c.args.step
-    c.index_mut.result.now c.step_open.new.open c.shards-shards.ensures.counts c.step_open.ensures.grows c.index_mut.ensures.value
-    c.step_open.ensures.stepped).2
-
-pub returns-clause-timed : goal.returns-clause-timed
-returns-clause-timed c =
-    timed-step _ _ c.self.view_is c.requires.legal c.args.client c.requires.client c.step_open.result c.step_open.new.state c.args.step
-    c.index_mut.result.now c.step_open.new.open c.shards-shards.ensures.counts c.index_mut.ensures.value c.step_open.ensures.stepped
-
-pub returns-clause-steps : goal.returns-clause-steps
-returns-clause-steps c =
-    timed-steps _ _ c.self.view_is c.requires.legal c.args.client c.requires.client c.step_open.result c.step_open.new.state c.args.step
-    c.index_mut.result.now c.step_open.new.open c.index_mut.ensures.value c.step_open.ensures.stepped
+pub returns : goal.returns
+returns c =
+    let stepped = called-step _ _ c.self.view_is c.requires.legal c.args.client c.requires.client c.step_open.result c.step_open.new.state
+    c.args.step
+    c.index_mut.result.now c.step_open.new.opened c.shards-shards.ensures.counts c.step_open.ensures.grows c.index_mut.ensures.value
+    c.step_open.ensures.stepped in
+    record {
+      legal = stepped.0;
+      same = stepped.1;
+      silent = stepped.2;
+      timed = timed-step _ _ c.self.view_is c.requires.legal c.args.client c.requires.client c.step_open.result c.step_open.new.state
+          c.args.step
+          c.index_mut.result.now c.step_open.new.opened c.shards-shards.ensures.counts c.index_mut.ensures.value
+          c.step_open.ensures.stepped;
+      steps = timed-steps _ _ c.self.view_is c.requires.legal c.args.client c.requires.client c.step_open.result c.step_open.new.state
+          c.args.step
+          c.index_mut.result.now c.step_open.new.opened c.index_mut.ensures.value c.step_open.ensures.stepped;
+    }

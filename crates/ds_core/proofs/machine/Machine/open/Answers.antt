@@ -17,7 +17,7 @@ index_mut-requires c =
 pub advance-requires-clause-legal : goal.advance-requires-clause-legal
 advance-requires-clause-legal c =
     (called-open _ _ c.self.view_is c.requires.legal c.args.client c.requires.client c.args.request c.args.work c.shards-shards.result
-    c.open_request.new.open
+    c.open_request.new.opened
     (subst (λ (x : MachineParts). IsWorkOf x.state (get_or x.sessions c.args.client (first_session 0)) c.args.request.call c.args.work)
     (sym c.self.view_is) (c.requires.work (first_session 0)))
     c.shards-shards.ensures.counts c.shards-shards.ensures.value c.requires.lawful (ap is_some c.requires.closed)
@@ -26,7 +26,7 @@ advance-requires-clause-legal c =
 pub returns-clause-turn : goal.returns-clause-turn
 returns-clause-turn c =
     let opened = called-open _ _ c.self.view_is c.requires.legal c.args.client c.requires.client c.args.request c.args.work
-    c.shards-shards.result c.open_request.new.open
+    c.shards-shards.result c.open_request.new.opened
     (subst (λ (x : MachineParts). IsWorkOf x.state (get_or x.sessions c.args.client (first_session 0)) c.args.request.call c.args.work)
     (sym c.self.view_is) (c.requires.work (first_session 0)))
     c.shards-shards.ensures.counts c.shards-shards.ensures.value c.requires.lawful (ap is_some c.requires.closed)
@@ -37,5 +37,6 @@ returns-clause-turn c =
 pub returns-clause-timed : goal.returns-clause-timed
 returns-clause-timed c =
     timed-open _ _ c.self.view_is c.requires.legal c.args.client c.requires.client c.advance.result c.advance.new.self c.args.request
-    c.args.work c.shards-shards.result c.open_request.new.open c.in_ok-open_request.ensures c.requires.closed c.shards-shards.ensures.value
+    c.args.work c.shards-shards.result c.open_request.new.opened c.in_ok-open_request.ensures c.requires.closed
+    c.shards-shards.ensures.value
     (c.requires.work (first_session 0)).0 c.advance.ensures.same c.advance.ensures.timed c.advance.ensures.ended

@@ -23,73 +23,34 @@ note_opened-requires c = record {
       (as-many c.args.self.now c.requires.legal);
 }
 
-pub returns-in-Some-clause-legal : goal.returns-in-Some-clause-legal
-returns-in-Some-clause-legal c =
+pub returns-in-Some : goal.returns-in-Some
+returns-in-Some c =
     let said = say-ok c.args.self.now c.requires.legal c.args.client c.requires.client (first_session 0) c.args.plan.body c.args.plan.effect
     (c.is_no_memory.ensures.no c.if-is_no_memory.false) c.requires.due
     c.note_opened.result c.perform.new.self c.close.new.self c.note_opened.new.self c.in-Some.opened (c.in-Ok.ensures (first_session 0))
     c.close.ensures.closed (c.in-Some.ensures.was None) c.note_opened.ensures in
-    said.0
+    record {
+      legal = said.0;
+      same = said.1;
+      turn = said.2;
+      timed = λ step told.
+          say-timed-ok c.note_opened.result c.args.self.now c.perform.new.self c.close.new.self c.note_opened.new.self c.args.client
+          (first_session 0)
+          c.in-Some.opened c.args.plan.body c.args.plan.effect step c.requires.legal
+          (client-below c.args.self.now c.requires.legal c.args.client c.requires.client)
+          (c.is_no_memory.ensures.no c.if-is_no_memory.false)
+          (c.requires.due (first_session 0) None) (told (first_session 0) None) (c.in-Ok.ensures (first_session 0))
+          c.close.ensures.closed (c.in-Some.ensures.was None) c.note_opened.ensures;
+      ended = λ step told.
+          say-ended-ok c.note_opened.result c.args.self.now c.perform.new.self c.close.new.self c.note_opened.new.self c.args.client
+          c.in-Some.opened c.args.plan.body c.args.plan.effect step
+          (client-open c.args.self.now c.requires.legal c.args.client c.requires.client) (c.is_no_memory.ensures.no c.if-is_no_memory.false)
+          (told (first_session 0) None) (c.in-Ok.ensures (first_session 0))
+          c.close.ensures.closed (c.in-Some.ensures.was None) c.note_opened.ensures;
+    }
 
-pub returns-in-Some-clause-same : goal.returns-in-Some-clause-same
-returns-in-Some-clause-same c =
-    let said = say-ok c.args.self.now c.requires.legal c.args.client c.requires.client (first_session 0) c.args.plan.body c.args.plan.effect
-    (c.is_no_memory.ensures.no c.if-is_no_memory.false) c.requires.due
-    c.note_opened.result c.perform.new.self c.close.new.self c.note_opened.new.self c.in-Some.opened (c.in-Ok.ensures (first_session 0))
-    c.close.ensures.closed (c.in-Some.ensures.was None) c.note_opened.ensures in
-    said.1
-
-pub returns-in-Some-clause-turn : goal.returns-in-Some-clause-turn
-returns-in-Some-clause-turn c =
-    let said = say-ok c.args.self.now c.requires.legal c.args.client c.requires.client (first_session 0) c.args.plan.body c.args.plan.effect
-    (c.is_no_memory.ensures.no c.if-is_no_memory.false) c.requires.due
-    c.note_opened.result c.perform.new.self c.close.new.self c.note_opened.new.self c.in-Some.opened (c.in-Ok.ensures (first_session 0))
-    c.close.ensures.closed (c.in-Some.ensures.was None) c.note_opened.ensures in
-    said.2
-
-pub returns-in-None-clause-legal : goal.returns-in-None-clause-legal
-returns-in-None-clause-legal c =
-    say-none c.args.self.now c.requires.legal c.args.client c.requires.client (first_session 0) c.args.plan.body c.args.plan.effect
-    (c.is_no_memory.ensures.no c.if-is_no_memory.false) c.requires.due
-    c.perform.new.self (c.in-Ok.ensures (first_session 0)) (c.in-None.ensures.was None) _
-
-pub returns-in-None-clause-same : goal.returns-in-None-clause-same
-returns-in-None-clause-same c =
-    say-none c.args.self.now c.requires.legal c.args.client c.requires.client (first_session 0) c.args.plan.body c.args.plan.effect
-    (c.is_no_memory.ensures.no c.if-is_no_memory.false) c.requires.due
-    c.perform.new.self (c.in-Ok.ensures (first_session 0)) (c.in-None.ensures.was None) _
-
-pub returns-in-None-clause-turn : goal.returns-in-None-clause-turn
-returns-in-None-clause-turn c =
-    say-none c.args.self.now c.requires.legal c.args.client c.requires.client (first_session 0) c.args.plan.body c.args.plan.effect
-    (c.is_no_memory.ensures.no c.if-is_no_memory.false) c.requires.due
-    c.perform.new.self (c.in-Ok.ensures (first_session 0)) (c.in-None.ensures.was None) _
-
-pub returns-in-Some-clause-timed : goal.returns-in-Some-clause-timed
-returns-in-Some-clause-timed c = λ step told.
-    say-timed-ok c.note_opened.result c.args.self.now c.perform.new.self c.close.new.self c.note_opened.new.self c.args.client
-    (first_session 0)
-    c.in-Some.opened c.args.plan.body c.args.plan.effect step c.requires.legal
-    (client-below c.args.self.now c.requires.legal c.args.client c.requires.client) (c.is_no_memory.ensures.no c.if-is_no_memory.false)
-    (c.requires.due (first_session 0) None) (told (first_session 0) None) (c.in-Ok.ensures (first_session 0))
-    c.close.ensures.closed (c.in-Some.ensures.was None) c.note_opened.ensures
-
-pub returns-in-None-clause-timed : goal.returns-in-None-clause-timed
-returns-in-None-clause-timed c =
-    say-none c.args.self.now c.requires.legal c.args.client c.requires.client (first_session 0) c.args.plan.body c.args.plan.effect
-    (c.is_no_memory.ensures.no c.if-is_no_memory.false) c.requires.due
-    c.perform.new.self (c.in-Ok.ensures (first_session 0)) (c.in-None.ensures.was None) _
-
-pub returns-in-Some-clause-ended : goal.returns-in-Some-clause-ended
-returns-in-Some-clause-ended c = λ step told.
-    say-ended-ok c.note_opened.result c.args.self.now c.perform.new.self c.close.new.self c.note_opened.new.self c.args.client
-    c.in-Some.opened c.args.plan.body c.args.plan.effect step
-    (client-open c.args.self.now c.requires.legal c.args.client c.requires.client) (c.is_no_memory.ensures.no c.if-is_no_memory.false)
-    (told (first_session 0) None) (c.in-Ok.ensures (first_session 0))
-    c.close.ensures.closed (c.in-Some.ensures.was None) c.note_opened.ensures
-
-pub returns-in-None-clause-ended : goal.returns-in-None-clause-ended
-returns-in-None-clause-ended c =
+pub returns-in-None : goal.returns-in-None
+returns-in-None c =
     say-none c.args.self.now c.requires.legal c.args.client c.requires.client (first_session 0) c.args.plan.body c.args.plan.effect
     (c.is_no_memory.ensures.no c.if-is_no_memory.false) c.requires.due
     c.perform.new.self (c.in-Ok.ensures (first_session 0)) (c.in-None.ensures.was None) _

@@ -19,34 +19,11 @@ note-requires c = record {
       (as-many c.args.self.now c.requires.legal);
 }
 
-pub returns-in-Ok-clause-legal : goal.returns-in-Ok-clause-legal
-returns-in-Ok-clause-legal c =
-    (refuse-ok c.note.result c.args.self.now c.perform.new.self c.note.new.self c.args.client c.args.request c.args.plan.body
+pub returns-in-Ok : goal.returns-in-Ok
+returns-in-Ok c =
+    let refused = refuse-ok c.note.result c.args.self.now c.perform.new.self c.note.new.self c.args.client c.args.request c.args.plan.body
     c.args.plan.effect c.requires.legal (client-below c.args.self.now c.requires.legal c.args.client c.requires.client) c.requires.closed
     c.requires.lawful.0 (c.is_no_memory.ensures.no c.if-is_no_memory.false) (c.requires.due (first_session 0))
     (c.requires.told (first_session 0))
-    (c.in-Ok.ensures (first_session 0)) c.note.ensures).0
-
-pub returns-in-Ok-clause-same : goal.returns-in-Ok-clause-same
-returns-in-Ok-clause-same c =
-    (refuse-ok c.note.result c.args.self.now c.perform.new.self c.note.new.self c.args.client c.args.request c.args.plan.body
-    c.args.plan.effect c.requires.legal (client-below c.args.self.now c.requires.legal c.args.client c.requires.client) c.requires.closed
-    c.requires.lawful.0 (c.is_no_memory.ensures.no c.if-is_no_memory.false) (c.requires.due (first_session 0))
-    (c.requires.told (first_session 0))
-    (c.in-Ok.ensures (first_session 0)) c.note.ensures).1
-
-pub returns-in-Ok-clause-turn : goal.returns-in-Ok-clause-turn
-returns-in-Ok-clause-turn c =
-    (refuse-ok c.note.result c.args.self.now c.perform.new.self c.note.new.self c.args.client c.args.request c.args.plan.body
-    c.args.plan.effect c.requires.legal (client-below c.args.self.now c.requires.legal c.args.client c.requires.client) c.requires.closed
-    c.requires.lawful.0 (c.is_no_memory.ensures.no c.if-is_no_memory.false) (c.requires.due (first_session 0))
-    (c.requires.told (first_session 0))
-    (c.in-Ok.ensures (first_session 0)) c.note.ensures).2
-
-pub returns-in-Ok-clause-timed : goal.returns-in-Ok-clause-timed
-returns-in-Ok-clause-timed c =
-    (refuse-ok c.note.result c.args.self.now c.perform.new.self c.note.new.self c.args.client c.args.request c.args.plan.body
-    c.args.plan.effect c.requires.legal (client-below c.args.self.now c.requires.legal c.args.client c.requires.client) c.requires.closed
-    c.requires.lawful.0 (c.is_no_memory.ensures.no c.if-is_no_memory.false) (c.requires.due (first_session 0))
-    (c.requires.told (first_session 0))
-    (c.in-Ok.ensures (first_session 0)) c.note.ensures).3
+    (c.in-Ok.ensures (first_session 0)) c.note.ensures in
+    record { legal = refused.0; same = refused.1; turn = refused.2; timed = refused.3 }
