@@ -1,5 +1,5 @@
 -- What is given of rows of which the first ones aren't asked for.
-use Rattle.std.proofs.Common.{◌≡◌, List, [], ◌∷◌, Option, Some, None, drop, refl, sym, ap, ◌∙◌, arith}
+use Rattle.std.proofs.Common.{◌≡◌, false, List, [], ◌∷◌, Option, Some, None, drop, refl, sym, ap, ◌∙◌, arith}
 use Rattle.ds_base.specs.declared.column.Column.{Column}
 use Rattle.ds_query.specs.declared.row.Place.{Place}
 use Rattle.ds_query.specs.declared.row.Row.{Row}
@@ -8,7 +8,7 @@ use Rattle.ds_engine.specs.declared.behind.RowsBehind.{RowsBehind}
 use Rattle.ds_engine.specs.Behind.{IsCollected}
 
 -- where all are asked for, all are given
-pub none_left : (columns : List Column) (rows : List Row) (given : RowsBehind) → IsCollected columns 0 rows given → given.rows ≡ rows
+pub none_left : (columns : List Column) (rows : List Row) (given : RowsBehind) → IsCollected columns 0 false rows given → given.rows ≡ rows
 none_left columns rows given is =
     let none : given.left ≡ 0 = omega (arith, is.left) in
     sym (ap (λ n. drop n given.rows) none) ∙ is.rows

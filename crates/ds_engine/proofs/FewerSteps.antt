@@ -92,7 +92,7 @@ module _ {X : Type 0} (f : X → ℕ) (xs : List X) (i : ℕ) (x : X) (below : i
 
 -- ---- all branches over all shards
 
-sums-map : {A B : Type 0} (f : B → ℕ) (h : A → B) (xs : List A) → sum_by f (map h xs) ≡ sum_by (λ x. f (h x)) xs
+pub sums-map : {A B : Type 0} (f : B → ℕ) (h : A → B) (xs : List A) → sum_by f (map h xs) ≡ sum_by (λ x. f (h x)) xs
 sums-map f h [] = refl
 sums-map f h (x ∷ xs) =
     let one = sum_by-cons f (h x) (map h xs) in

@@ -30,6 +30,7 @@ pub mod LaneLaws
 pub mod Lists
 pub mod MergedOrder
 pub mod PartFirsts
+pub mod Placings
 pub mod Plans
 pub mod RowLoops
 pub mod ShardPages

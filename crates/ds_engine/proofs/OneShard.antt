@@ -1,11 +1,12 @@
--- A query of one branch over one shard: that gives the first results in their order, each once, and the window cuts them.
+-- A query of one branch. One shard gives the first results in their order, each once, and the window cuts them; several give each its own,
+-- which are put in order.
 use Rattle.std.proofs.Common.{◌≡◌, List, [], ◌∷◌, ◌++◌, length, map, drop, get_or, refl, sym, ap, ◌∙◌, append-nil, arith, subst}
 use Rattle.std.proofs.Common.{ℕ, false, cond, Option, Some, None}
-use Rattle.std.specs.Prelude.{All, flat_map}
+use Rattle.std.specs.Prelude.{All, flat_map, sum_by}
 use Rattle.std.proofs.lemmas.List.Elements.{All-head}
 use Rattle.std.proofs.lemmas.List.Sums.{sum_by-cons}
 use Rattle.std.proofs.lemmas.List.{drop-map}
-use Rattle.std.proofs.lemmas.List.Folds.{fold-map}
+use Rattle.std.proofs.lemmas.List.Folds.{flat_map-map, fold-map}
 use Rattle.ds_base.specs.declared.column.Column.{Column}
 use Rattle.ds_entity.specs.Entities.{EntityParts}
 use Rattle.ds_bytes.specs.Rows.{RowParts}
@@ -22,9 +23,11 @@ use Rattle.ds_pages.proofs.PageLaws.{drop-seen}
 use Rattle.ds_model.specs.Bounds.{given}
 use Rattle.ds_model.specs.Results.{branch_results, united}
 use Rattle.ds_engine.specs.BoundSums.{bound_at, bound_of_all, bound_over}
-use Rattle.ds_engine.specs.Searches.{all_entities, most_of, page_over, rows_of_shards, search_bound, IsCutOf}
-use Rattle.ds_engine.specs.Snapshots.{SnapshotParts, asked_in}
-use Rattle.ds_engine.proofs.ShardPages.{alone, one_of}
+use Rattle.ds_engine.specs.Searches.{all_entities, given_over, most_of, page_in_order, page_over, rows_of_shards, search_bound}
+use Rattle.ds_engine.specs.Searches.{AreOfShards, IsCutOf}
+use Rattle.ds_engine.specs.Snapshots.{SnapshotParts, asked_in, entities_in}
+use Rattle.ds_engine.proofs.FewerSteps.{sums-map}
+use Rattle.ds_engine.proofs.ShardPages.{alone, one_of, page_of_single, parts-placed}
 
 -- the page of the first rows, as many as are skipped and taken, is that of all
 cut : (columns : List Column) (w : Window) (rs : List RowParts) (rows : List Row) (m : RowPage)
@@ -40,7 +43,7 @@ cut columns w rs rows m are some next =
     ∙ fold-map (λ (place : Option Place) (row : Row). Some row.place) (placed columns) w.start seen in
     λ i. record { rows = given i; next = last i }
 
-pub one_page : (n : Normal) (w : Window) (views : List (List EntityParts)) (rows : List Row) (m : RowPage) → IsLawfulNormal n
+one_page : (n : Normal) (w : Window) (views : List (List EntityParts)) (rows : List Row) (m : RowPage) → IsLawfulNormal n
     → n.several ≡ false → length views ≡ 1 → rows ≡ map (placed n.merged) (rows_of_shards n w views)
     → m.rows ≡ drop w.offset rows → m.next ≡ last_of w.start rows → m ≡ page_over n w (all_entities views)
 one_page n w views rows m lawful single one are some next =
@@ -87,3 +90,32 @@ bound_of_one n w most q s snapshots branches shards =
     let one = sum_by-cons (bound_over w.start w.end most (asked_in s ∷ [])) q [] in
     let two = sum_by-cons (bound_at q w.start w.end most) (asked_in s) [] in
     (λ i. bound_of_all w.start w.end most (map asked_in (shards i)) (branches i)) ∙ omega (arith, one, two)
+
+-- ---- over several shards
+
+-- the page of what they give, in order
+pub page_of_shards : (n : Normal) (w : Window) (q : Branch) (snapshots : List SnapshotParts) (m : RowPage) → IsLawfulNormal n
+    → n.several ≡ false → n.branches ≡ q ∷ [] → m ≡ page_in_order q.columns w (given_over n w q snapshots)
+    → AreOfShards (length (map entities_in snapshots)) 0 (map entities_in snapshots)
+    → m ≡ page_over n w (all_entities (map entities_in snapshots))
+page_of_shards n w q snapshots m lawful single one page own =
+    let views : List (List EntityParts) = map entities_in snapshots in
+    let found : List RowParts = rows_of_shards n w views in
+    let columns : q.columns ≡ n.merged =
+    All-head (λ (b : Branch). b.columns ≡ n.merged) q []
+    (subst (λ (bs : List Branch). All (λ (b : Branch). b.columns ≡ n.merged) bs) one (lawful.single_columns single)) in
+    let are : given_over n w q snapshots ≡ found =
+    sym (flat_map-map (given q w.start w.end (most_of n w)) entities_in snapshots)
+    ∙ (λ i. flat_map (given q w.start w.end (cond (single i) None (plus_limit w.offset w.limit))) views)
+    ∙ sym (alone n w q views single one) in
+    page_of_single n w views (map (placed n.merged) found) m lawful single refl
+    (page ∙ (λ i. page_in_order (columns i) w (are i)) ∙ ap (page_in_order n.merged w) (sym (parts-placed n.merged found))) own
+
+-- and the bound of one branch over them
+pub bound_over_shards : (n : Normal) (w : Window) (most : Option ℕ) (q : Branch) (snapshots : List SnapshotParts)
+    → n.branches ≡ q ∷ []
+    → search_bound n w most snapshots ≡ sum_by (λ s. bound_at q w.start w.end most (asked_in s)) snapshots
+bound_over_shards n w most q snapshots branches =
+    let one = sum_by-cons (bound_over w.start w.end most (map asked_in snapshots)) q [] in
+    let two = sums-map (bound_at q w.start w.end most) asked_in snapshots in
+    (λ i. bound_of_all w.start w.end most (map asked_in snapshots) (branches i)) ∙ omega (arith, one, two)

@@ -1,6 +1,6 @@
 -- Rows that are kept as they are reached.
 use Rattle.std.specs.Prelude.{◌≡◌, ◌+◌, ◌<◌, ◌≤◌, ℕ, Bool, true, false, not, ◌||◌, List, [], ◌∷◌, ◌++◌, All, Option, Some, None, cond, drop}
-use Rattle.std.specs.Prelude.{length, nat_eq}
+use Rattle.std.specs.Prelude.{length, map, nat_eq}
 use Rattle.std.specs.List.{list_all, list_any}
 use Rattle.std.specs.Cmp.Lexicographic.{pointwise}
 use Rattle.ds_base.specs.declared.column.Column.{Column}
@@ -12,7 +12,8 @@ use Rattle.ds_query.specs.declared.row.Row.{Row}
 use Rattle.ds_pages.specs.FirstRows.{with_row}
 use Rattle.ds_pages.specs.Marks.{is_same}
 use Rattle.ds_pages.specs.Pages.{last_of}
-use Rattle.ds_pages.specs.Places.{IsPlaced}
+use Rattle.ds_pages.specs.Places.{IsPlaced, parts_of}
+use Rattle.ds_engine.specs.Behind.{ArePlaces}
 use Rattle.ds_engine.specs.declared.kept.KeptRows.{KeptRows}
 
 -- Each value of a row of these columns is projected, so that a row is told by its mark; where there are no values a row is its key.
@@ -64,13 +65,15 @@ pub record AreTold (columns : List Column) (k : KeptRows) (rows : List Row) : Ty
   pub marks : k.keeps_all ≡ false → k.by_key ≡ false → k.firsts.rows ≡ rows
   pub placed : All (IsPlaced columns) rows
 
--- and the place of the last one
+-- and the place of the last one, and where places are kept those of all
 pub record AreKept (columns : List Column) (k : KeptRows) (rows : List Row) : Type 0 where
   pub told : AreTold columns k rows
   pub last : 0 < length rows → last_of None rows ≡ Some (record { bytes = k.last.items })
+  pub places : k.keeps_places ≡ true → ArePlaces columns (map parts_of rows) k.places.items
 
 -- what stays the same as rows are put
 pub record IsSameKind (before after : KeptRows) : Type 0 where
   pub all : after.keeps_all ≡ before.keeps_all
   pub slots : after.firsts.slots ≡ before.firsts.slots
   pub skip : after.skip ≡ before.skip
+  pub places : after.keeps_places ≡ before.keeps_places

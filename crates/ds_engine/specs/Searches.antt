@@ -1,5 +1,6 @@
 -- What a query finds among the entities of shards, and what it is joined from: each shard's own results.
-use Rattle.std.specs.Prelude.{◌≡◌, ℕ, ◌+◌, List, [], ◌∷◌, length, map, flat_map, drop, All, slice_get, Option, None, cond, unwrap_or, ⊤}
+use Rattle.std.specs.Prelude.{◌≡◌, ℕ, ◌+◌, List, [], ◌∷◌, length, map, flat_map, fold, drop, All, slice_get, Option, None, Some, cond}
+use Rattle.std.specs.Prelude.{unwrap_or, ⊤}
 use Rattle.std.specs.List.{AllByRecursion}
 use Rattle.ds_base.specs.declared.column.Column.{Column}
 use Rattle.ds_entity.specs.declared.results.Item.{Item}
@@ -15,12 +16,14 @@ use Rattle.ds_query.specs.declared.row.Place.{Place}
 use Rattle.ds_query.specs.declared.row.Row.{Row}
 use Rattle.ds_log.specs.Shards.{shard_of}
 use Rattle.ds_pages.specs.Extended.{extended}
-use Rattle.ds_pages.specs.Pages.{last_of, plus_limit, with_places}
+use Rattle.ds_base.specs.Sorting.{sorted_by}
+use Rattle.ds_pages.specs.Pages.{last_of, page_of, plus_limit, with_places}
+use Rattle.ds_pages.specs.Places.{compare_rows}
 use Rattle.ds_pages.specs.declared.row_page.RowPage.{RowPage}
 use Rattle.ds_engine.specs.BoundSums.{bound_of_all}
 use Rattle.ds_model.specs.Bounds.{given}
 use Rattle.ds_model.specs.Results.{items_of, item_of, result}
-use Rattle.ds_engine.specs.Snapshots.{SnapshotParts, asked_in}
+use Rattle.ds_engine.specs.Snapshots.{SnapshotParts, asked_in, entities_in}
 
 -- ---- what is found
 
@@ -79,6 +82,18 @@ shard_rows n w entities = flat_map (branch_rows n w entities) n.branches
 -- what they give of all shards
 abbrev pub rows_of_shards : Normal → Window → List (List EntityParts) → List RowParts
 rows_of_shards n w = flat_map (shard_rows n w)
+
+-- what one branch gives of these shards
+abbrev pub given_over : Normal → Window → Branch → List SnapshotParts → List RowParts
+given_over n w q = flat_map (λ s. given q w.start w.end (most_of n w) (entities_in s))
+
+-- the page of rows in any order, of which each is a result of its own
+abbrev pub page_in_order : List Column → Window → List RowParts → RowPage
+page_in_order columns w rows = with_places columns (page_of columns w (sorted_by (compare_rows columns) rows))
+
+-- the last of these places, or else the start
+abbrev pub last_at : Option Place → List (List ℕ) → Option Place
+last_at = fold (λ start place. Some (record { bytes = place }))
 
 -- ---- what is told of a row
 

@@ -61,12 +61,13 @@ pub fn answer<T: Tables, L: Ledger>(
     ensures steps_stay_counted { steps.old ≤ steps.new }
 {
     let found = answer_behind(
-        alloc, tables, at, branch, defs, plan, start, end, most, 0, steps,
+        alloc, tables, at, branch, defs, plan, start, end, most, 0, false, steps,
     )?;
     Ok(found.rows)
 }
 
-/// The same results without the first `skip` of them, which are counted and not kept, and the place of the last one.
+/// The same results without the first `skip` of them, which are counted and not kept, the place of the last one, and if asked for the
+/// places of all.
 pub(crate) fn answer_behind<T: Tables, L: Ledger>(
     alloc: Global,
     tables: &T,
@@ -78,6 +79,7 @@ pub(crate) fn answer_behind<T: Tables, L: Ledger>(
     end: Option<&Place>,
     most: Option<u64>,
     skip: u32,
+    places: bool,
     steps: &mut Steps<L>,
 ) -> Result<RowsBehind, NoMemory>
     requires its_ledger { L.name ≡ T.ledger }
@@ -85,7 +87,7 @@ pub(crate) fn answer_behind<T: Tables, L: Ledger>(
     requires definitions { defs.now ≡ T.definitions tables.now }
     requires lawful { IsLawfulBranch branch.now }
     requires suits { IsTrue (suits branch.now defs.now plan.now.scans) }
-    ensures rows { IfOk result (IsCollected branch.now.columns skip (map (placed branch.now.columns)
+    ensures rows { IfOk result (IsCollected branch.now.columns skip places (map (placed branch.now.columns)
         (given branch.now (option_copied start.entry) (option_copied end.entry) most (entities_at at (T.versions tables.now))))) }
     ensures steps_bounded { IsLean branch.now defs.now plan.now.scans → IfOk result (λ found. steps.new
         ≤ steps.old + bound branch.now (option_copied start.entry) (option_copied end.entry) most at (T.versions tables.now)) }
@@ -104,6 +106,7 @@ pub(crate) fn answer_behind<T: Tables, L: Ledger>(
         start,
         most,
         skip,
+        places,
         steps,
     )
 }

@@ -1,4 +1,5 @@
 //! Rows of which the first ones aren't asked for.
+use ds_base::ByteString;
 use ds_query::{Place, RowList};
 
 /// What is given of rows of which the first so many aren't asked for.
@@ -12,4 +13,6 @@ pub(crate) struct RowsBehind {
     pub(crate) count: usize,
     /// The place of the last of them, if there were any.
     pub(crate) last: Option<Place>,
+    /// The places of all, if they were asked for.
+    pub(crate) places: Vec<ByteString>,
 }

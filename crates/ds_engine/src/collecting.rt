@@ -23,8 +23,9 @@ use std::alloc::Global;
 use std::sync::ledger::Ledger;
 
 /// Of the rows whose places are the strings that all scans have after the start, in order, the first of each mark, at most so many; of
-/// them those behind the first `skip`, how many all are, and the place of the last one. It looks at no string above the last one where so
-/// many are there, and at none where none is asked for. Each of them took a step. Refused: want of memory.
+/// them those behind the first `skip`, how many all are, the place of the last one, and if asked for the places of all. It looks at no
+/// string above the last one where so many are there, and at none where none is asked for. Each of them took a step. Refused: want of
+/// memory.
 pub(crate) fn first_common<S: Scan, L: Ledger>(
     alloc: Global,
     scans: &mut [S],
@@ -32,6 +33,7 @@ pub(crate) fn first_common<S: Scan, L: Ledger>(
     start: Option<&Place>,
     most: Option<u64>,
     skip: u32,
+    places: bool,
     steps: &mut Steps<L>,
 ) -> Result<RowsBehind, NoMemory>
     requires some { 0 < length scans.old }
@@ -40,7 +42,7 @@ pub(crate) fn first_common<S: Scan, L: Ledger>(
     requires rows { (x : List ℕ) → IsCommon (map S.strings scans.old) x → IsRowOf branch.now.columns x }
     ensures rows { IfOk result (λ found. (sorted : List RowParts)
         → AreCommonRows branch.now.columns (bytes_of (option_copied start.entry)) (map S.strings scans.old) sorted
-        → IsCollected branch.now.columns skip (map (placed branch.now.columns) (at_most most
+        → IsCollected branch.now.columns skip places (map (placed branch.now.columns) (at_most most
         (first_of_each (same_mark branch.now.columns (projected branch.now.select)) sorted))) found) }
     ensures steps_when_done { IfOk result (λ found. steps.new ≤ steps.old + walk_steps (is_wanted most found.count) (length scans.old)
         (bytes_of (option_copied start.entry)) (bytes_of found.last) (map S.strings scans.old) (map S.passed scans.old)) }
@@ -53,7 +55,13 @@ pub(crate) fn first_common<S: Scan, L: Ledger>(
     let mut walk = Walk::begin(alloc, scans.len(), bytes_of(start))?;
     let none = Names::new(alloc);
     let names = projected(&branch.select, &none);
-    let mut firsts = KeptRows::new(alloc, branch.columns.as_slice(), names.as_slice(), skip)?;
+    let mut firsts = KeptRows::new(
+        alloc,
+        branch.columns.as_slice(),
+        names.as_slice(),
+        skip,
+        places,
+    )?;
     'answers: while is_wanted(most, firsts.len()) {
         let found = walk.next(scans, steps)?;
         match found {

@@ -27,7 +27,7 @@ use std::collections::HashSet;
 /// Rows in the order in which they were reached, of each mark the first. Where each value is projected, or there are none, a row is told by
 /// its mark, and as no row is reached twice no mark is either: then all are taken, and none is compared with those before it. Where nothing
 /// is projected a mark is a key, and a set of keys, as they stand in the places of rows, tells which are known. In both cases the first so
-/// many rows are counted and not read.
+/// many rows are counted and not read. The places of all are kept where they are asked for.
 #[derive(Drop)]
 pub(crate) struct KeptRows {
     alloc: Global,
@@ -37,6 +37,7 @@ pub(crate) struct KeptRows {
     // How many rows at the front aren't asked for, and how many were passed over.
     skip: u32,
     skipped: u32,
+    keeps_places: bool,
     // The rows behind them where all are taken, or of each key the first.
     whole: Vec<Row>,
     // The bytes of their keys and of those that were passed over, where of each key the first is taken.
@@ -47,20 +48,24 @@ pub(crate) struct KeptRows {
     firsts: FirstRows,
     // The place of the last row that was taken.
     last: Vec<u8>,
+    // The places of all that were taken, if they are kept.
+    places: Vec<ByteString>,
 }
 
 impl KeptRows {
-    /// No row yet, of rows of these columns with these names projected, of which the first so many aren't asked for. Refused: want of
-    /// memory.
+    /// No row yet, of rows of these columns with these names projected, of which the first so many aren't asked for, and whose places are
+    /// kept or aren't. Refused: want of memory.
     pub(crate) fn new(
         alloc: Global,
         columns: &[Column],
         names: &[TextString],
         skip: u32,
+        keeps_places: bool,
     ) -> Result<KeptRows, NoMemory>
         ensures all { IfOk result (λ k. k.keeps_all ≡ are_projected names.now columns.now) }
         ensures slots { IfOk result (λ k. k.firsts.slots ≡ map (slot_of columns.now) names.now) }
         ensures skip { IfOk result (λ k. k.skip ≡ skip) }
+        ensures places { IfOk result (λ k. k.keeps_places ≡ keeps_places) }
         ensures none { IfOk result (λ k. AreKept columns.now k []) }
     {
         let firsts = FirstRows::new(alloc, columns, names)?;
@@ -70,11 +75,13 @@ impl KeptRows {
             by_key: names.is_empty(),
             skip,
             skipped: 0,
+            keeps_places,
             whole: Vec::new(alloc),
             keys: HashSet::new(alloc),
             values: Vec::new(alloc),
             firsts,
             last: Vec::new(alloc),
+            places: Vec::new(alloc),
         })
     }
 
@@ -108,10 +115,12 @@ impl KeptRows {
             return Ok(());
         }
         self.last.clear();
-        Ok(self.last.extend_from_slice(place)?)
+        self.last.extend_from_slice(place)?;
+        put_place(self.alloc, self.keeps_places, place, &mut self.places)?;
+        Ok(())
     }
 
-    /// The same without the place of the last row; whether the row was taken.
+    /// The same without its place; whether the row was taken.
     fn take(&mut self, columns: &[Column], place: &[u8]) -> Result<bool, NoMemory>
         requires row { IsRowOf columns.now place.now }
         ensures told { (rows : List Row) (r : IsRowOf columns.now place.now) → AreTold columns.now self.old rows
@@ -119,6 +128,7 @@ impl KeptRows {
             × (is_new ≡ not (is_known self.old.keeps_all self.old.firsts.slots rows (placed columns.now r.row)))) }
         ensures same { IsSameKind self.old self.new }
         ensures last { self.new.last.items ≡ self.old.last.items }
+        ensures places { self.new.places.items ≡ self.old.places.items }
     {
         if self.keeps_all {
             put_behind(
@@ -147,7 +157,8 @@ impl KeptRows {
 
     /// The rows that were taken. They are moved.
     pub(crate) fn finish(self) -> RowsBehind
-        ensures { (columns : List Column) (rows : List Row) → AreKept columns self rows → IsCollected columns self.skip rows result }
+        ensures { (columns : List Column) (rows : List Row) → AreKept columns self rows
+            → IsCollected columns self.skip self.keeps_places rows result }
     {
         let count = self.len();
         let is_whole = self.is_whole();
@@ -159,6 +170,7 @@ impl KeptRows {
                 left: 0,
                 count,
                 last,
+                places: self.places,
             }
         } else {
             RowsBehind {
@@ -166,6 +178,7 @@ impl KeptRows {
                 left: skip,
                 count,
                 last,
+                places: self.places,
             }
         }
     }
@@ -182,6 +195,22 @@ fn last_place(count: usize, last: Vec<u8>) -> Option<Place>
     Some(Place {
         bytes: ByteString::from_vec(last),
     })
+}
+
+/// Puts a copy of the place behind the others, if places are kept.
+fn put_place(
+    alloc: Global,
+    keeps_places: bool,
+    place: &[u8],
+    places: &mut Vec<ByteString>,
+) -> Result<(), NoMemory>
+    ensures { OnOk result (places.new.items ≡ cond keeps_places (places.old.items ++ place.now ∷ []) places.old.items) }
+{
+    if !keeps_places {
+        return Ok(());
+    }
+    let copy = ByteString::of(alloc, place)?;
+    Ok(places.push(copy)?)
 }
 
 /// Takes a row: one at the front is counted, and one behind is read.

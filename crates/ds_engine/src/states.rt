@@ -9,16 +9,18 @@
 //! ancestor, and `query_slot` searches the one shard of an ancestor's group.
 //!
 //! Begin with `specs/Searches`, then `searching`. `planning` has the plans, `snapshot` a shard at a stamp, `rows` what a shard gives,
-//! `alone` the page where one branch is asked of one shard, `items` what is told of each result, and `wide` the scans that run at once;
-//! `slots` and `group` are the calls of the store, whose promises are in `specs/Counted` and `specs/Groups`. What is proved of lists and
-//! views stands in `proofs/`: `ShardPages` (the page of what the shards give is that over all entities), `OneShard` (so is what the window
-//! cuts of one shard's results), `InShards` (an entity is found in the shard of its group), `GlobalPages` and `GroupPages` (these are the
-//! views of a journal), `FewerSteps` (sums of bounds).
+//! `alone` the page where one branch is asked of one shard, `over_shards` that where it is asked of several (which put the places of rows
+//! in order, and read those of the page alone), `items` what is told of each result, and `wide` the scans that run at once; `slots` and
+//! `group` are the calls of the store, whose promises are in `specs/Counted` and `specs/Groups`. What is proved of lists and views stands
+//! in `proofs/`: `ShardPages` (the page of what the shards give is that over all entities), `OneShard` (so is what the window cuts of one
+//! shard's results), `Placings` (and what is read of the places of a page), `InShards` (an entity is found in the shard of its group),
+//! `GlobalPages` and `GroupPages` (these are the views of a journal), `FewerSteps` (sums of bounds).
 
 mod alone;
 mod answer;
 mod group;
 mod items;
+mod over_shards;
 mod planning;
 mod rows;
 mod searching;

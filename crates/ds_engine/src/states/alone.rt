@@ -1,5 +1,5 @@
 //! A query of one branch over one shard.
-ghost use Rattle.std.specs.Prelude.{◌≡◌, ◌+◌, ◌≤◌, List, drop, map, None, IfOk, OnOk};
+ghost use Rattle.std.specs.Prelude.{◌≡◌, ◌+◌, ◌≤◌, List, drop, false, map, None, IfOk, OnOk};
 ghost use Rattle.ds_base.specs.declared.column.Column.{Column};
 ghost use Rattle.ds_query.specs.Lawful.{IsLawfulBranch};
 ghost use Rattle.ds_query.specs.declared.row.Row.{Row};
@@ -45,12 +45,15 @@ pub(crate) fn page_alone<L: Ledger>(
         (most_of normal.now window.now) (asked_in snapshot.now)) }
 {
     let most = most_of(normal, window);
-    let found = rows_behind(alloc, snapshot, window, defs, branch, plan, most, steps)?;
+    let skip = window.offset;
+    let found = rows_behind(
+        alloc, snapshot, window, defs, branch, plan, most, skip, false, steps,
+    )?;
     page_of(alloc, found, window)
 }
 
-/// The first results of the branch in the shard, those behind the offset.
-fn rows_behind<L: Ledger>(
+/// The first results of the branch in the shard, those behind the first `skip`, and if asked for the places of all.
+pub(crate) fn rows_behind<L: Ledger>(
     alloc: Global,
     snapshot: &ShardSnapshot<'_>,
     window: &Window,
@@ -58,24 +61,27 @@ fn rows_behind<L: Ledger>(
     branch: &Branch,
     plan: &ScanPlan,
     most: Option<u64>,
+    skip: u32,
+    places: bool,
     steps: &mut Steps<L>,
 ) -> Result<RowsBehind, NoMemory>
     requires lawful { IsLawfulBranch branch.now }
     requires definitions { defs.now ≡ snapshot.now.shard.definitions }
     requires plan { IsPlanFor defs.now branch.now plan.now }
-    ensures rows { IfOk result (IsCollected branch.now.columns window.now.offset (map (placed branch.now.columns)
+    ensures rows { IfOk result (IsCollected branch.now.columns skip places (map (placed branch.now.columns)
         (given branch.now window.now.start window.now.end most (entities_in snapshot.now)))) }
     ensures steps { OnOk result (steps.new ≤ steps.old + bound_at branch.now window.now.start window.now.end most (asked_in snapshot.now)) }
 {
     let start = window.start.as_ref();
     let end = window.end.as_ref();
-    let skip = window.offset;
-    snapshot.answer_behind(alloc, branch, defs, plan, start, end, most, skip, steps)
+    snapshot.answer_behind(
+        alloc, branch, defs, plan, start, end, most, skip, places, steps,
+    )
 }
 
 /// The page of what was collected.
 fn page_of(alloc: Global, found: RowsBehind, window: &Window) -> Result<RowPage, NoMemory>
-    ensures { (columns : List Column) (rows : List Row) → IsCollected columns window.now.offset rows found
+    ensures { (columns : List Column) (rows : List Row) → IsCollected columns window.now.offset false rows found
         → IfOk result (IsCutOf window.now rows) }
 {
     let next = next_place(alloc, found.last, &window.start)?;

@@ -4,7 +4,6 @@ ghost use Rattle.ds_bytes.specs.Rows.{RowParts};
 ghost use Rattle.ds_query.specs.Lawful.{IsLawfulBranch, IsLawfulNormal};
 ghost use Rattle.ds_pages.specs.Places.{IsPlaced, placed};
 ghost use Rattle.ds_engine.specs.BoundSums.{bound_at};
-ghost use Rattle.ds_model.specs.Bounds.{given};
 ghost use Rattle.ds_engine.specs.Plans.{ArePlansFor, IsPlanFor};
 ghost use Rattle.ds_engine.specs.Searches.{branch_rows, in_columns, most_of, shard_rows};
 ghost use Rattle.ds_engine.specs.Snapshots.{asked_in, entities_in};
@@ -98,34 +97,10 @@ fn branch_rows<L: Ledger>(
         (asked_in snapshot.now)) }
 {
     let most = most_of(normal, window);
-    let rows = given(alloc, snapshot, window, defs, branch, plan, most, steps)?;
-    in_columns(alloc, normal, branch, rows)
-}
-
-/// The first results of a branch in a shard, as the indexes tell them.
-fn given<L: Ledger>(
-    alloc: Global,
-    snapshot: &ShardSnapshot<'_>,
-    window: &Window,
-    defs: &Defs,
-    branch: &Branch,
-    plan: &ScanPlan,
-    most: Option<u64>,
-    steps: &mut Steps<L>,
-) -> Result<RowList, NoMemory>
-    requires lawful { IsLawfulBranch branch.now }
-    requires definitions { defs.now ≡ snapshot.now.shard.definitions }
-    requires plan { IsPlanFor defs.now branch.now plan.now }
-    ensures rows { IfOk result (λ rows. rows ≡ map (placed branch.now.columns) (given branch.now window.now.start window.now.end most
-        (entities_in snapshot.now))) }
-    ensures placed { IfOk result (λ rows. All (IsPlaced branch.now.columns) rows) }
-    ensures steps { OnOk result (steps.new ≤ steps.old + bound_at branch.now window.now.start window.now.end most (asked_in snapshot.now)) }
-    ensures refused { OnErr result (steps.new ≤ steps.old + bound_at branch.now window.now.start window.now.end None
-        (asked_in snapshot.now)) }
-{
     let start = window.start.as_ref();
     let end = window.end.as_ref();
-    snapshot.answer(alloc, branch, defs, plan, start, end, most, steps)
+    let rows = snapshot.answer(alloc, branch, defs, plan, start, end, most, steps)?;
+    in_columns(alloc, normal, branch, rows)
 }
 
 /// How many results of a branch each shard gives: of a query of one branch those that its page skips or takes, and of several all.

@@ -1,5 +1,5 @@
 //! A query over shards.
-ghost use Rattle.std.specs.Prelude.{◌≡◌, ◌+◌, ◌≤◌, [], All, IsTrue, map, length, IfOk, false};
+ghost use Rattle.std.specs.Prelude.{◌≡◌, ◌+◌, ◌≤◌, [], All, map, length, IfOk, false};
 ghost use Rattle.ds_base.specs.Limits.{most_shards};
 ghost use Rattle.ds_query.specs.Lawful.{IsLawfulNormal, SuitsSeveral};
 ghost use Rattle.ds_query.specs.declared.branch.Window.{Window};
@@ -12,13 +12,14 @@ ghost use Rattle.ds_engine.specs.Snapshots.{entities_in};
 use crate::laws::bounds_add_up;
 use crate::states::alone::page_alone;
 use crate::states::items::items;
+use crate::states::over_shards::page_over_shards;
 use crate::states::rows::put_shard_rows;
 use crate::states::snapshot::ShardSnapshot;
 use ds_base::{Names, NoMemory};
 use ds_entity::Results;
 use ds_indexdef::Defs;
 use ds_io::Steps;
-use ds_pages::{RowPage, cut, page_of_results, page_of_rows};
+use ds_pages::{RowPage, page_of_results, page_of_rows};
 use ds_planner::ScanPlan;
 use ds_query::{Normal, Place, Row, Window};
 use std::alloc::Global;
@@ -59,8 +60,8 @@ pub fn search<L: Ledger>(
         + search_bound normal.now window.now (most_of normal.now window.now) snapshots.now) + look_ups q.select (length f.results))
         normal.now.branches) }
 {
-    if is_alone(normal, snapshots) {
-        return search_alone(alloc, snapshots, normal, window, defs, plans, steps);
+    if !normal.several {
+        return search_single(alloc, snapshots, normal, window, defs, plans, steps);
     }
     let mut rows = Vec::new(alloc);
     for snapshot in snapshots {
@@ -70,6 +71,37 @@ pub fn search<L: Ledger>(
     }
     bounds_add_up();
     page_of(alloc, snapshots, normal, window, rows, steps)
+}
+
+/// The same of one branch. Over several shards each gives the places of its rows, and the rows of the page alone are read.
+fn search_single<L: Ledger>(
+    alloc: Global,
+    snapshots: &[ShardSnapshot<'_>],
+    normal: &Normal,
+    window: &Window,
+    defs: &Defs,
+    plans: &[ScanPlan],
+    steps: &mut Steps<L>,
+) -> Result<Found, NoMemory>
+    requires lawful { IsLawfulNormal normal.now }
+    requires single { normal.now.several ≡ false }
+    requires some { 1 ≤ length snapshots.now }
+    requires few { length snapshots.now ≤ most_shards }
+    requires definitions { All (λ s. defs.now ≡ s.shard.definitions) snapshots.now }
+    requires plans { ArePlansFor defs.now normal.now.branches plans.now }
+    ensures found { AreOfShards (length (map entities_in snapshots.now)) 0 (map entities_in snapshots.now)
+        → IfOk result (λ f. IsResultOf normal.now window.now (all_entities (map entities_in snapshots.now)) f.results f.next) }
+    ensures steps_bounded { IfOk result (λ f. All (λ q. steps.new ≤ (steps.old
+        + search_bound normal.now window.now (most_of normal.now window.now) snapshots.now) + look_ups q.select (length f.results))
+        normal.now.branches) }
+{
+    if snapshots.len() == 1 {
+        return search_alone(alloc, snapshots, normal, window, defs, plans, steps);
+    }
+    let branch = &normal.branches.as_slice()[0];
+    let plan = &plans[0];
+    let page = page_over_shards(alloc, snapshots, normal, window, defs, branch, plan, steps)?;
+    told(alloc, snapshots, normal, page, steps)
 }
 
 /// The same of one branch over one shard, which gives its results in their order, each once.
@@ -127,7 +159,7 @@ pub(crate) fn page_of<L: Ledger>(
         → IfOk result (λ f. IsResultOf normal.now window.now (all_entities (map entities_in snapshots.now)) f.results f.next) }
     ensures steps { IfOk result (λ f. All (λ q. steps.new ≡ steps.old + look_ups q.select (length f.results)) normal.now.branches) }
 {
-    let page = page_over(alloc, snapshots, normal, window, rows)?;
+    let page = page_of_all(alloc, snapshots, normal, window, rows)?;
     told(alloc, snapshots, normal, page, steps)
 }
 
@@ -160,36 +192,6 @@ fn told<L: Ledger>(
         results,
         next: page.next,
     })
-}
-
-/// The page of what the shards gave. Where one branch is asked of one shard, that gave its first results in their order, each once: no row
-/// is compared with another one then.
-fn page_over(
-    alloc: Global,
-    snapshots: &[ShardSnapshot<'_>],
-    normal: &Normal,
-    window: &Window,
-    rows: Vec<Row>,
-) -> Result<RowPage, NoMemory>
-    requires lawful { IsLawfulNormal normal.now }
-    requires placeless { SuitsSeveral normal.now.several window.now }
-    requires rows { rows.items ≡ map (placed normal.now.merged) (rows_of_shards normal.now window.now (map entities_in snapshots.now)) }
-    requires placed { All (IsPlaced normal.now.merged) rows.items }
-    ensures { AreOfShards (length (map entities_in snapshots.now)) 0 (map entities_in snapshots.now)
-        → IfOk result (λ page. page ≡ page_over normal.now window.now (all_entities (map entities_in snapshots.now))) }
-{
-    if is_alone(normal, snapshots) {
-        cut(alloc, rows, window)
-    } else {
-        page_of_all(alloc, snapshots, normal, window, rows)
-    }
-}
-
-/// Whether one branch is asked of one shard.
-fn is_alone(normal: &Normal, snapshots: &[ShardSnapshot<'_>]) -> bool
-    ensures { IsTrue result → (normal.now.several ≡ false) × (length snapshots.now ≡ 1) }
-{
-    !normal.several && snapshots.len() == 1
 }
 
 /// The page of rows in any order. Where one branch is asked no result is given twice, as each is of one shard.

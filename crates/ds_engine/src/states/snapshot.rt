@@ -127,7 +127,8 @@ impl<'a> ShardSnapshot<'a> {
         )
     }
 
-    /// The same results without the first `skip` of them, which are counted and not kept, and the place of the last one.
+    /// The same results without the first `skip` of them, which are counted and not kept, the place of the last one, and if asked for
+    /// the places of all.
     pub(crate) fn answer_behind<L: Ledger>(
         &self,
         alloc: Global,
@@ -138,19 +139,20 @@ impl<'a> ShardSnapshot<'a> {
         end: Option<&Place>,
         most: Option<u64>,
         skip: u32,
+        places: bool,
         steps: &mut Steps<L>,
     ) -> Result<RowsBehind, NoMemory>
         requires lawful { IsLawfulBranch branch.now }
         requires definitions { defs.now ≡ self.now.shard.definitions }
         requires plan { IsPlanFor defs.now branch.now plan.now }
-        ensures rows { IfOk result (IsCollected branch.now.columns skip (map (placed branch.now.columns)
+        ensures rows { IfOk result (IsCollected branch.now.columns skip places (map (placed branch.now.columns)
             (given branch.now (option_copied start.entry) (option_copied end.entry) most (entities_in self.now)))) }
         ensures steps { OnOk result (steps.new ≤ steps.old + bound_at branch.now (option_copied start.entry) (option_copied end.entry) most
             (asked_in self.now)) }
     {
         let tables = self.tables::<L>();
         answer_behind(
-            alloc, &tables, self.stamp, branch, defs, plan, start, end, most, skip, steps,
+            alloc, &tables, self.stamp, branch, defs, plan, start, end, most, skip, places, steps,
         )
     }
 

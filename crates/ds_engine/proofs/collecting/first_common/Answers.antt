@@ -25,6 +25,7 @@ answers-init g c = record {
   rows = [];
   kept = subst (λ (cs : List Column). AreKept cs c.in_ok-firsts.firsts []) c.as_slice.ensures c.in_ok-firsts.ensures.none;
   skip = c.in_ok-firsts.ensures.skip;
+  places = c.in_ok-firsts.ensures.places;
   strings = refl;
   as_many = refl;
   number = c.in_ok-walk.ensures.over;
@@ -57,12 +58,13 @@ returns-in-None-clause-rows g c = λ sorted are.
     let none : HasNoNextCommon last (map g.S.Scan.strings c.args.scans.now) =
     subst (λ (ls : List (List (List ℕ))). HasNoNextCommon last ls) c.answers.invariant.strings (rw c.in-None.is at
     c.in_ok-found.ensures.none_is_left) in
-    subst (λ (rs : List Row). IsCollected columns c.args.skip rs c.finish.result)
+    subst (λ (rs : List Row). IsCollected columns c.args.skip c.args.places rs c.finish.result)
     (ended columns (projected c.args.branch.now.select) (bytes_of (option_copied c.args.start))
     (map g.S.Scan.strings c.args.scans.now) c.args.most c.answers.firsts.keeps_all c.answers.firsts.firsts.slots last rows
     c.answers.invariant.collected none sorted are)
-    (subst (λ n. IsCollected columns n rows c.finish.result) c.answers.invariant.skip
-    (c.finish.ensures columns rows c.answers.invariant.kept))
+    (subst (λ n. IsCollected columns n c.args.places rows c.finish.result) c.answers.invariant.skip
+    (subst (λ b. IsCollected columns c.answers.firsts.skip b rows c.finish.result) c.answers.invariant.places
+    (c.finish.ensures columns rows c.answers.invariant.kept)))
 
 pub put-requires : goal.put-requires
 put-requires g c =
@@ -121,6 +123,7 @@ answers-preserved g c =
       rows = more;
       kept = put rows r c.answers.invariant.kept;
       skip = same_kind.skip ∙ c.answers.invariant.skip;
+      places = same_kind.places ∙ c.answers.invariant.places;
       strings = strings;
       as_many = sym (length-map c.next.new.scans g.S.Scan.strings) ∙ ap length strings ∙ length-map c.args.scans.now g.S.Scan.strings;
       number = c.next.follows.holds-at-none.0 ∙ c.answers.invariant.number ∙ sym (length-map c.answers.scans g.S.Scan.strings)
@@ -156,12 +159,13 @@ returns-clause-rows g c = λ sorted are.
     let rows = c.answers.invariant.rows in
     let enough : is_wanted c.args.most (length rows) ≡ false =
     sym (c.is_wanted.ensures ∙ ap (is_wanted c.args.most) (c.len.ensures columns rows c.answers.invariant.kept)) ∙ c.answers-test.false in
-    subst (λ (rs : List Row). IsCollected columns c.args.skip rs c.finish-2.result)
+    subst (λ (rs : List Row). IsCollected columns c.args.skip c.args.places rs c.finish-2.result)
     (full columns (projected c.args.branch.now.select) (bytes_of (option_copied c.args.start))
     (map g.S.Scan.strings c.args.scans.now) c.args.most c.answers.firsts.keeps_all c.answers.firsts.firsts.slots c.answers.walk.last rows
     c.answers.invariant.collected enough sorted are)
-    (subst (λ n. IsCollected columns n rows c.finish-2.result) c.answers.invariant.skip
-    (c.finish-2.ensures columns rows c.answers.invariant.kept))
+    (subst (λ n. IsCollected columns n c.args.places rows c.finish-2.result) c.answers.invariant.skip
+    (subst (λ b. IsCollected columns c.answers.firsts.skip b rows c.finish-2.result) c.answers.invariant.places
+    (c.finish-2.ensures columns rows c.answers.invariant.kept)))
 
 pub returns-in-None-clause-steps_when_done : goal.returns-in-None-clause-steps_when_done
 returns-in-None-clause-steps_when_done g c =

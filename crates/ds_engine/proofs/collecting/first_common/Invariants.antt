@@ -16,6 +16,7 @@ invariant-answers g l = record {
   rows : List Row;
   kept : AreKept l.branch.columns l.firsts rows;
   skip : l.firsts.skip ≡ l.skip;
+  places : l.firsts.keeps_places ≡ l.places;
   strings : map g.S.Scan.strings l.scans ≡ map g.S.Scan.strings l.fn.scans;
   as_many : length l.scans ≡ length l.fn.scans;
   number : l.walk.scans ≡ length l.scans;

@@ -13,6 +13,7 @@ returns-then-is_whole c = λ columns rows kept.
       count = c.len-count.ensures columns rows kept;
       last = last_is rows c.len-count.result c.args.self.last.items c.last_place-last.result (c.len-count.ensures columns rows kept)
           c.last_place-last.ensures.none c.last_place-last.ensures.some kept.last;
+      places = kept.places;
       placed = placed_behind columns c.args.self.skip c.from.result rows (c.from.ensures ∙ b.are) kept.told.placed;
     }
 
@@ -25,5 +26,6 @@ returns-else-is_whole c = λ columns rows kept.
       count = c.len-count.ensures columns rows kept;
       last = last_is rows c.len-count.result c.args.self.last.items c.last_place-last.result (c.len-count.ensures columns rows kept)
           c.last_place-last.ensures.none c.last_place-last.ensures.some kept.last;
+      places = kept.places;
       placed = subst (All (IsPlaced columns)) (sym all) kept.told.placed;
     }

@@ -1,7 +1,8 @@
-use Rattle.std.proofs.Common.{◌++◌, ap, sym, ◌∙◌, subst}
+use Rattle.std.proofs.Common.{◌++◌, ◌∷◌, [], ap, cond, sym, ◌∙◌, subst}
 use Rattle.ds_pages.specs.Places.{placed}
 use Rattle.ds_engine.specs.Kept.{AreTold, with_one, with_row_if}
 use Rattle.ds_engine.proofs.KeptLaws.{last_put, last_stays, one_is}
+use Rattle.ds_engine.proofs.Placings.{place_put, places_stay}
 use Rattle.ds_engine.proofs.kept.KeptRows.put.Goals as goal
 
 pub returns-then-not-is_new-clause-rows : goal.returns-then-not-is_new-clause-rows
@@ -15,6 +16,9 @@ returns-then-not-is_new-clause-rows c = λ rows r kept.
       told = subst (AreTold columns c.take.new.self) same told.0;
       last = last_stays rows (with_one k.keeps_all k.firsts.slots rows row) k.last.items c.take.new.self.last.items
           (sym same ∙ ap (λ b. with_row_if b rows row) c.if-not-is_new.true) c.take.ensures.last kept.last;
+      places = λ keeps. places_stay columns rows (with_one k.keeps_all k.firsts.slots rows row) k.places.items c.take.new.self.places.items
+          (sym same ∙ ap (λ b. with_row_if b rows row) c.if-not-is_new.true) c.take.ensures.places
+          (kept.places (sym c.take.ensures.same.places ∙ keeps));
     }
 
 pub returns-clause-rows : goal.returns-clause-rows
@@ -30,4 +34,9 @@ returns-clause-rows c = λ rows r kept.
       last = last_put rows (with_one k.keeps_all k.firsts.slots rows row) row c.extend_from_slice.new.self.items
           (sym same ∙ ap (λ b. with_row_if b rows row) c.if-not-is_new.false)
           (c.in_ok-extend_from_slice.ensures.items ∙ ap (λ bs. bs ++ c.args.place.now) c.clear.ensures.items ∙ r.written);
+      places = λ keeps. place_put columns c.args.place.now r rows (with_one k.keeps_all k.firsts.slots rows row) k.places.items
+          c.put_place.new.places.items (sym same ∙ ap (λ b. with_row_if b rows row) c.if-not-is_new.false)
+          (c.in_ok-put_place.ensures
+          ∙ (λ i. cond (keeps i) (c.take.ensures.places i ++ c.args.place.now ∷ []) (c.take.ensures.places i)))
+          (kept.places (sym c.take.ensures.same.places ∙ keeps));
     }

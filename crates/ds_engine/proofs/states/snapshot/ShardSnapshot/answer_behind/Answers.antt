@@ -15,7 +15,7 @@ returns-clause-rows g c =
     let q = c.args.branch.now in
     let seen : entities_at c.self.inside.stamp c.tables-tables.result.versions ≡ entities_in c.args.self.now =
     λ i. entities_at ((c.self.view_is i).stamp) ((c.tables-tables.ensures i).versions) in
-    subst (λ es. IfOk c.answer_behind.result (IsCollected q.columns c.args.skip (map (placed q.columns)
+    subst (λ es. IfOk c.answer_behind.result (IsCollected q.columns c.args.skip c.args.places (map (placed q.columns)
     (given q (option_copied c.args.start) (option_copied c.args.end) c.args.most es)))) seen c.answer_behind.ensures.rows
 
 pub returns-clause-steps : goal.returns-clause-steps
