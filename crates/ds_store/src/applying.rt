@@ -95,7 +95,9 @@ impl<J: Names, H: Wait + Drop> Store<J, H> {
         let mut commit = 0;
         for shard in 0..shards {
             let applied = self.settle_shard(rt, pass, shard as u32, place)?;
-            put_count(&mut counts, applied.count)?;
+            let Ok(()) = counts.push(applied.count) else {
+                return Err(AllocError);
+            };
             let greatest = applied.commit.max(commit);
             commit = greatest;
         }
@@ -214,10 +216,4 @@ impl<J: Names, H: Wait + Drop> Store<J, H> {
         let mut desk = self.shards[shard].lock(rt);
         desk.show(rt, pass);
     }
-}
-
-fn put_count(counts: &mut Counts, count: u64) -> Result<(), NoMemory>
-    ensures { OnOk result (counts.new ≡ counts.old ++ count ∷ []) }
-{
-    counts.push(count).map_err(|_| AllocError)
 }

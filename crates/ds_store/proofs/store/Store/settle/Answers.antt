@@ -33,11 +33,10 @@ returns-in_err-applied-clause-read g c =
     (HasRead-through c.args.pass.now c.loop-shard.pass c.settle_shard.new.pass c.loop-shard.invariant.settled.read
     c.in_err-applied.ensures.read)
 
-pub returns-in_err-put_count-clause-read : goal.returns-in_err-put_count-clause-read
-returns-in_err-put_count-clause-read g c =
-    on_err c.from_residual-in_err-put_count.result (HasRead c.args.pass.now c.settle_shard.new.pass)
-    (HasRead-through c.args.pass.now c.loop-shard.pass c.settle_shard.new.pass c.loop-shard.invariant.settled.read
-    c.in_ok-applied.ensures.settled.read)
+pub returns-in_default-clause-read : goal.returns-in_default-clause-read
+returns-in_default-clause-read g c =
+    HasRead-through c.args.pass.now c.loop-shard.pass c.settle_shard.new.pass c.loop-shard.invariant.settled.read
+    c.in_ok-applied.ensures.settled.read
 
 pub loop-shard-preserved : goal.loop-shard-preserved
 loop-shard-preserved g c =
@@ -52,9 +51,9 @@ loop-shard-preserved g c =
     inv.settled (omega (arith, c.loop-shard-test.true, inv.all)) c.in_ok-applied.ensures.settled in
     record {
       all = inv.all;
-      settled = subst (λ n. AreSettled shards place c.args.pass.now after (done + 1) c.put_count.new.counts n) (sym c.max-greatest.ensures)
+      settled = subst (λ n. AreSettled shards place c.args.pass.now after (done + 1) c.push.new.self n) (sym c.max-greatest.ensures)
           (subst (λ ns. AreSettled shards place c.args.pass.now after (done + 1) ns (max applied.commit c.loop-shard.commit))
-          (sym c.in_ok-put_count.ensures) more);
+          (sym c.in-Ok.ensures.ok) more);
     }
 
 pub returns-clause-settled : goal.returns-clause-settled
