@@ -38,30 +38,21 @@ impl Step {
     pub fn is_commit(&self) -> bool
         ensures { result ≡ is_commit self.now }
     {
-        match self {
-            Step::Commit => true,
-            _ => false,
-        }
+        matches!(self, Step::Commit)
     }
 
     /// Whether it is an Issue of so many ids.
     pub fn is_issue(&self, ids: u64) -> bool
         ensures { result ≡ is_issue ids self.now }
     {
-        match self {
-            Step::Issue { count } => *count == ids,
-            _ => false,
-        }
+        matches!(self, Step::Issue { count } if *count == ids)
     }
 
     /// Whether it is a View of this shard.
     pub fn is_view(&self, of: u32) -> bool
         ensures { result ≡ is_view of self.now }
     {
-        match self {
-            Step::View { shard } => *shard == of,
-            _ => false,
-        }
+        matches!(self, Step::View { shard } if *shard == of)
     }
 }
 

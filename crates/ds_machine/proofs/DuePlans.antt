@@ -99,11 +99,8 @@ ids_none _ g none = refl
 
 -- nor for a search
 pub search_ids : (c : Call) (g : GatheredParts) (o : Result Asked.Search Body) → search_of c ≡ Some o → ids_of c g ≡ []
-search_ids (call.Query namespace kind ancestor filters orders select offset limit start end cursor) g o is = refl
-search_ids (call.Gql namespace text args names start end cursor) g o is = refl
 search_ids (call.Put key true properties) g o is = cc
 search_ids (call.AllocateIds count) g o is = cc
-search_ids (call.Put key false properties) g o is = refl
 search_ids _ g o is = refl
 
 search_draws : (c : Call) (b : Body) (o : Result Asked.Search Body) → search_of c ≡ Some o → drawn_by_call c b ≡ []

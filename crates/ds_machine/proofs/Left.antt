@@ -16,8 +16,7 @@ use Rattle.ds_protocol.specs.declared.operations.Operation.{Operation}
 use Rattle.ds_protocol.specs.declared.operations.Operation.TheVariants as operation
 use Rattle.ds_effects.specs.declared.gathered.Step.{Step}
 use Rattle.ds_effects.specs.Gathered.{GatheredParts, first_unviewed, has_covered, first_place}
-use Rattle.ds_machine.specs.Missing.{covers, first_uncovered, missing}
-use Rattle.ds_machine.specs.Missing.{Shown, unless}
+use Rattle.ds_machine.specs.Missing.{covers, first_uncovered, missing, Shown, unless}
 
 -- ---- what is left
 

@@ -1,6 +1,5 @@
 -- From a plan to the reply: an answer over the journal is one over every longer journal.
-use Rattle.std.proofs.Common.{ℕ, ◌+◌, List, [], ◌∷◌, ◌++◌, length, map}
-use Rattle.std.proofs.Common.{Option}
+use Rattle.std.proofs.Common.{ℕ, ◌+◌, List, [], ◌∷◌, ◌++◌, length, map, Option}
 use Rattle.std.specs.Prelude.{Ok}
 use Rattle.std.specs.List.{range_with_len}
 use Rattle.ds_log.specs.declared.Commit.{Commit}

@@ -21,16 +21,14 @@ use Rattle.ds_protocol.specs.Operations.{IsLawfulOperation, call_of, ids_asked}
 use Rattle.ds_effects.specs.declared.gathered.Step.{Step}
 use Rattle.ds_effects.specs.declared.gathered.Step.TheVariants as steps
 use Rattle.ds_effects.specs.Gathered.{GatheredParts, first_unviewed, has_covered, first_place}
-use Rattle.ds_machine.specs.Gathering.{counts_by, draws, gathered_by, gathers_entry, gathers_view, is_pending, next_by, settles}
-use Rattle.ds_machine.specs.Gathering.{shown_by}
+use Rattle.ds_machine.specs.Gathering.{counts_by, draws, gathered_by, gathers_entry, gathers_view, is_pending, next_by, settles, shown_by}
 use Rattle.ds_machine.specs.Missing.{are_exhausted, completed, covers, first_uncovered, is_within, missing}
 use Rattle.ds_machine.specs.Missing.{missing_apply, missing_ids, missing_read, missing_search, missing_settle, missing_view, missing_write}
 use Rattle.ds_machine.specs.Missing.{Shown, place_read, unless, view_or_apply}
 use Rattle.ds_effects.specs.Taken.{is_commit, is_issue, is_placed, is_view}
-use Rattle.ds_machine.proofs.Left.{entries-within, eqb-same, lacks, left, mapped-some, none-left, or-none, place-lower, same-step}
-use Rattle.ds_machine.proofs.Left.{some-is, unapplied, unapplied-less}
-use Rattle.ds_machine.proofs.Left.{unapplied-lower, uncovered, uncovered-few, uncovered-less, uncovered-lower, unless-some, unsettled}
-use Rattle.ds_machine.proofs.Left.{unviewed, unviewed-less, unviewed-lower, views_left, waits, waits-few}
+use Rattle.ds_machine.proofs.Left.{entries-within, eqb-same, lacks, left, mapped-some, none-left, or-none, place-lower, same-step, some-is}
+use Rattle.ds_machine.proofs.Left.{unapplied, unapplied-less, unapplied-lower, uncovered, uncovered-few, uncovered-less, uncovered-lower}
+use Rattle.ds_machine.proofs.Left.{unless-some, unsettled, unviewed, unviewed-less, unviewed-lower, views_left, waits, waits-few}
 
 -- what doesn't rise either way
 low-if : {A : Type 0} (f : A → ℕ) (b : Bool) (x y : A) → f x ≤ f y → f (cond b x y) ≤ f y
@@ -98,15 +96,12 @@ module _ (st : Shown) (s : Session) (o : Operation) (g : GatheredParts) (step ta
   unapplied_low : unapplied new 0 new.counts ≤ unapplied st 0 st.counts
   unapplied_low = let is = unapplied_is 0 new.counts in let low = by step in omega (arith, is, low) where
     by : (x : Step) → unapplied st 0 (counts_by st x) ≤ unapplied st 0 st.counts
-    by steps.Commit = omega arith
-    by steps.Touch = omega arith
-    by (steps.View shard) = omega arith
-    by (steps.Issue count) = omega arith
     by (steps.Apply shard) = each (is_pending st shard) where
       each : (b : Bool) → unapplied st 0 (cond b (raised_at shard (count_of st.counts shard + 1) st.counts) st.counts)
           ≤ unapplied st 0 st.counts
       each true = unapplied-lower st 0 st.counts shard (count_of st.counts shard + 1)
       each false = omega arith
+    by _ = omega arith
 
   views_low : views_left new o then ≤ views_left st o g
   views_low = of_kind o refl where
@@ -164,7 +159,8 @@ module _ (st : Shown) (s : Session) (o : Operation) (g : GatheredParts) (step ta
                   (subst (λ k. nat_le (entries_by st.journal st.shards k place) (count_of st.counts shard) ≡ true)
                   (let e : shard ≡ 0 + shard = omega arith in e) holds))
     settled (steps.Issue count) op =
-        low-if (λ (h : GatheredParts). unsettled st h.place h.views) (draws st o g count) (record g { first = Some st.next }) g (omega arith)
+        low-if (λ (h : GatheredParts). unsettled st h.place h.views) (draws st o g count) (record g { first = Some st.next }) g
+        (omega arith)
     settled (steps.Apply shard) op =
         low-if (λ (h : GatheredParts). unsettled st h.place h.views) (nat_lt shard st.shards && is_pending st shard && gathers_entry o g
         shard) (record g { applied = Some (count_of st.counts shard + 1) }) g (omega arith)

@@ -45,18 +45,12 @@ shard_there shards (operation.Apply shard) c of there = subst (λ x. has_shard s
 shard_there shards _ c of there = refl
 
 body_quiet : (why : OperationRefused) → IsQuiet (operation_body why)
-body_quiet refused.BadKey = record { acknowledges = refl; accepts = refl; prints = refl }
-body_quiet refused.BadValue = record { acknowledges = refl; accepts = refl; prints = refl }
-body_quiet (refused.TooLarge size) = record { acknowledges = refl; accepts = refl; prints = refl }
-body_quiet (refused.BadGql place) = record { acknowledges = refl; accepts = refl; prints = refl }
 body_quiet refused.NoMemory = record { acknowledges = refl; accepts = refl; prints = refl }
+body_quiet _ = record { acknowledges = refl; accepts = refl; prints = refl }
 
 body_plain : (why : OperationRefused) → is_quiet (operation_body why) ≡ true
-body_plain refused.BadKey = refl
-body_plain refused.BadValue = refl
-body_plain (refused.TooLarge size) = refl
-body_plain (refused.BadGql place) = refl
 body_plain refused.NoMemory = refl
+body_plain _ = refl
 
 module _ (st : StateParts) (s : Session) (client : ℕ) where
   pub plan_of : (o : Operation) (c : Call) (b : Body) (e : Effect) → IsOperationOf c o → IsPlanFor st s client o b e

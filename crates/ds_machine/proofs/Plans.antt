@@ -1,6 +1,5 @@
 -- Plans of answers that tell no number, and the common parts of others.
-use Rattle.std.proofs.Common.{◌≡◌, ◌⊎◌, inl, inr, ℕ, ◌-◌, ◌<◌, ◌≤◌, List, [], refl, ap, sym, ◌∙◌, subst, arith}
-use Rattle.std.proofs.Common.{Some, None, true, false}
+use Rattle.std.proofs.Common.{◌≡◌, ◌⊎◌, inl, inr, ℕ, ◌-◌, ◌<◌, ◌≤◌, List, [], refl, ap, sym, ◌∙◌, subst, arith, Some, None, true, false}
 use Rattle.std.specs.Prelude.{Result, Ok, All}
 use Rattle.std.specs.List.{range_with_len}
 use Rattle.std.proofs.lemmas.List.{append-nil}
@@ -43,11 +42,9 @@ prints-none _ quiet = refl
 
 draws-none : (c : Call) (b : Body) → is_quiet b ≡ true → drawn_by_call c b ≡ []
 draws-none (call.Put key true properties) (body.Put printed place) quiet = cc
-draws-none (call.Put key true properties) _ quiet = refl
 draws-none (call.Put key false properties) b quiet = refl
 draws-none (call.AllocateIds count) (body.AllocateIds first printed) quiet = cc
-draws-none (call.AllocateIds count) _ quiet = refl
-draws-none _ b quiet = refl
+draws-none _ _ quiet = refl
 
 pub no_ids : (first n : ℕ) → n ≡ 0 → [] ≡ range_with_len first n
 no_ids first n is = ap (range_with_len first) (sym is)

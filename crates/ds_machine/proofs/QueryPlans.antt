@@ -36,8 +36,7 @@ use Rattle.ds_pages.specs.Places.{placed}
 use Rattle.ds_applied.specs.AppliedLists.{AppliedParts, AreCounts, Follows, shard_view, shard_views}
 use Rattle.ds_applied.specs.ByKey.{KeysDiffer}
 use Rattle.ds_entity.specs.EntityOrder.{sorted_by_key}
-use Rattle.ds_applied.proofs.GlobalResults.{global_result, global_items}
-use Rattle.ds_applied.proofs.GlobalResults.{global_differ}
+use Rattle.ds_applied.proofs.GlobalResults.{global_result, global_items, global_differ}
 use Rattle.ds_applied.proofs.StrongViews.{strong_result, strong_items}
 use Rattle.ds_model.proofs.AncestorResults.{HaveAncestor, normal_have}
 use Rattle.ds_model.specs.Answers.{BodyAnswers, CountsWithin, Finds, FoundOver, RequestAnswers, cursor_of, window_of}

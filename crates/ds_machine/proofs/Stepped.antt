@@ -63,14 +63,11 @@ draws-parts st o g count is =
 
 -- ids are drawn, or none
 pub next_by-rises : (st : Shown) (o : Operation) (g : GatheredParts) (step : Step) → st.next ≤ next_by st o g step
-next_by-rises st o g steps.Commit = omega arith
-next_by-rises st o g steps.Touch = omega arith
-next_by-rises st o g (steps.View shard) = omega arith
-next_by-rises st o g (steps.Apply shard) = omega arith
 next_by-rises st o g (steps.Issue count) = by (draws st o g count) where
   by : (b : Bool) → st.next ≤ cond b (st.next + count) st.next
   by true = omega arith
   by false = omega arith
+next_by-rises st o g _ = omega arith
 
 -- ---- an entry
 
@@ -135,15 +132,7 @@ module _ (st new : StateParts) (s : Session) (o : Operation) (g : GatheredParts)
           (let low = up_to-count s.counts st.applied.counts shard seen.counts_within in
           let high = raised_above shard (count_of st.applied.counts shard + 1) st.applied.counts there in
           (omega (arith, low), omega (arith, high, ap (λ cs. count_of cs shard) raised)))
-      of_kind (operation.Put entity incomplete) is = tt
-      of_kind (operation.Delete key) is = tt
-      of_kind (operation.Get key) is = tt
-      of_kind (operation.Find search) is = tt
-      of_kind (operation.Begin several) is = tt
-      of_kind operation.Commit is = tt
-      of_kind operation.Rollback is = tt
-      of_kind operation.Settle is = tt
-      of_kind (operation.AllocateIds count) is = tt
+      of_kind _ is = tt
 
     by : (x : Step) → new.store ≡ store_by st o g x → new.applied.counts ≡ counts_by (shown st) x → IsGathered new s (call_of o) g
         → IsGathered new s (call_of o) (gathered_by (shown st) o g x)
@@ -204,15 +193,7 @@ unrefused-grown old new s o r definitions shards rises is = record {
     both.1,
   )
   by (operation.Find search) None both = both
-  by (operation.Put entity incomplete) x both = tt
-  by (operation.Delete key) x both = tt
-  by (operation.Get key) x both = tt
-  by (operation.Begin several) x both = tt
-  by operation.Commit x both = tt
-  by operation.Rollback x both = tt
-  by operation.Settle x both = tt
-  by (operation.AllocateIds count) x both = tt
-  by (operation.Apply shard) x both = tt
+  by _ x both = tt
 
 pub unrefused-looked : (old new : StateParts) (s : Session) (o : Operation) (r : Option Ready) → new.store ≡ old.store
     → IsUnrefused old s o r

@@ -36,8 +36,7 @@ use Rattle.ds_machine.specs.Missing.{missing_write, shown, unless}
 use Rattle.ds_machine.specs.Queries.{told_over}
 use Rattle.ds_machine.specs.States.{StateParts}
 use Rattle.ds_effects.specs.Taken.{is_commit, is_view, is_placed}
-use Rattle.ds_machine.specs.Told.{AreNumbersOf, IsPlaceOf, IsSeenBy, IsTold, ToldAlways}
-use Rattle.ds_machine.specs.Told.{is_refusal, is_silent, tells_now}
+use Rattle.ds_machine.specs.Told.{AreNumbersOf, IsPlaceOf, IsSeenBy, IsTold, ToldAlways, is_refusal, is_silent, tells_now}
 use Rattle.ds_protocol.specs.Refused.{is_quiet, tells_no_step}
 
 -- ---- which step it was
@@ -111,17 +110,7 @@ numberless st s g step _ none = tt
 tells-now : (next : ℕ) (b : Body) → tells_no_step b ≡ true → is_quiet b ≡ true → tells_now next b ≡ true
 tells-now next (body.IdNotIssued id told) bare quiet = cc
 tells-now next (body.IdsExhausted told) bare quiet = cc
-tells-now next (body.Put key written) bare quiet = bare
-tells-now next (body.Delete key written) bare quiet = bare
-tells-now next (body.Get entity m) bare quiet = bare
-tells-now next (body.Query select results looked cursor) bare quiet = bare
-tells-now next (body.Gql select results looked cursor) bare quiet = bare
-tells-now next (body.Commit n) bare quiet = bare
-tells-now next (body.Conflict commit group m) bare quiet = bare
-tells-now next (body.AllocateIds first count) bare quiet = bare
-tells-now next (body.Settle m counts) bare quiet = bare
-tells-now next (body.Apply applied count m shard) bare quiet = bare
-tells-now next _ bare quiet = refl
+tells-now next _ bare quiet = bare
 
 module _ (st : StateParts) (s : Session) where
   refusal-told : (b : Body) (e : Effect) → tells_now st.store.next b ≡ true → is_refusal e ≡ true → ToldAlways st s b e
@@ -152,16 +141,6 @@ silent-refused st b v e same_body same_effect none quiet =
 
 -- and leaves the store as it is
 pub silent-kept : (st : StateParts) (b : Body) (e : Effect) → is_silent st b e ≡ true → store_after e st.store ≡ st.store
-silent-kept st b effect.Nothing silent = refl
-silent-kept st b (effect.SeeNext next) silent = refl
-silent-kept st b (effect.Begin several) silent = refl
-silent-kept st b effect.End silent = refl
-silent-kept st b (effect.EndAt place) silent = refl
-silent-kept st b (effect.ReadGroup r) silent = refl
-silent-kept st b (effect.WriteGroup r) silent = refl
-silent-kept st b (effect.SeeCounts c) silent = refl
-silent-kept st b (effect.Settle place c) silent = refl
-silent-kept st b (effect.SeeCount c) silent = refl
 silent-kept st b (effect.CommitWrite w) silent = by (tells_now st.store.next b) silent where
   by : (x : Bool) → (x && false) ≡ true → store_after (effect.CommitWrite w) st.store ≡ st.store
   by true is = cc
@@ -170,6 +149,7 @@ silent-kept st b (effect.CommitTransaction draft) silent = by (tells_now st.stor
   by : (x : Bool) → (x && false) ≡ true → store_after (effect.CommitTransaction draft) st.store ≡ st.store
   by true is = cc
   by false is = cc
+silent-kept st b _ silent = refl
 
 -- ---- effects
 

@@ -1,6 +1,5 @@
 -- The numbers that a reply tells are those that its request has gathered.
-use Rattle.std.specs.Prelude.{◌≡◌, ◌⊎◌, ℕ, ◌+◌, Bool, true, false, ◌&&◌, ◌==◌, List}
-use Rattle.std.specs.Prelude.{Some, None, length, map, ⊤, IsTrue}
+use Rattle.std.specs.Prelude.{◌≡◌, ◌⊎◌, ℕ, ◌+◌, Bool, true, false, ◌&&◌, ◌==◌, List, Some, None, length, map, ⊤, IsTrue}
 use Rattle.ds_entity.specs.declared.results.Seen.{Seen}
 use Rattle.ds_entity.specs.declared.results.Seen.TheVariants as seen
 use Rattle.ds_base.specs.Keys.{KeyParts, is_key}

@@ -1,7 +1,6 @@
 //! A step of a client whose request is open: what it changes of the store, and what the request gathers by it.
 ghost use Rattle.std.specs.Prelude.{◌≡◌, ◌≤◌, ◌<◌, length, slice_index_or, None, IfOk, IfSome, OnErr, OnOk};
-ghost use Rattle.ds_machine.specs.Gathering.{counts_by, draws, gathered_by, gathers_entry, gathers_view, settles};
-ghost use Rattle.ds_machine.specs.Gathering.{store_by};
+ghost use Rattle.ds_machine.specs.Gathering.{counts_by, draws, gathered_by, gathers_entry, gathers_view, settles, store_by};
 ghost use Rattle.ds_machine.specs.Missing.{shown};
 ghost use Rattle.ds_machine.specs.States.{AreUpTo};
 
