@@ -1,6 +1,5 @@
 -- What a client's step comes to for its open request, and what it changes.
-use Rattle.std.proofs.Common.{◌≡◌, ◌≢◌, ◌⊎◌, inl, inr, ℕ, ◌+◌, ◌<◌, true, List, [], ◌∷◌, ◌++◌, length, refl, ap, sym, ◌∙◌, subst}
-use Rattle.std.proofs.Common.{arith}
+use Rattle.std.proofs.Common.{◌≡◌, ◌≢◌, ◌⊎◌, inl, inr, ℕ, ◌+◌, ◌<◌, true, List, [], ◌∷◌, ◌++◌, length, refl, ap, sym, ◌∙◌, subst, arith}
 use Rattle.std.proofs.Common.{Option, Some, None, get_or, length-append}
 use Rattle.std.specs.Prelude.{is_some, replicate, slice_set}
 use Rattle.std.proofs.lemmas.List.{append-nil, append_cancel_left}
@@ -62,27 +61,17 @@ said-alike x (Some q) old new first second = one-said x old new q.request q.repl
 
 -- ---- a step alone
 
+-- what is shown of a store and of counts
+as-shown : (new : StateParts) (store : StoreParts) (counts : List ℕ) → new.store ≡ store → new.applied.counts ≡ counts
+    → shown new ≡ record { shards = store.shards; journal = store.journal; next = store.next; counts = counts }
+as-shown new store counts same counted i =
+    record { shards = (same i).shards; journal = (same i).journal; next = (same i).next; counts = counted i }
+
 -- what a step gathers, and what it shows then
 stepped-then : (step : Step) (st new : StateParts) (old now : Option Open) → SteppedTo step st old new now
     → (now ≡ open_then (shown st) old step) × (shown new ≡ shown_then (shown st) old step)
-stepped-then step st new None now is = (
-  is.0,
-  λ i. record {
-    shards = ap (λ (x : StoreParts). x.shards) is.1 i;
-    journal = ap (λ (x : StoreParts). x.journal) is.1 i;
-    next = ap (λ (x : StoreParts). x.next) is.1 i;
-    counts = is.2 i;
-  },
-)
-stepped-then step st new (Some o) now is = (
-  is.0,
-  λ i. record {
-    shards = ap (λ (x : StoreParts). x.shards) is.1 i;
-    journal = ap (λ (x : StoreParts). x.journal) is.1 i;
-    next = ap (λ (x : StoreParts). x.next) is.1 i;
-    counts = is.2 i;
-  },
-)
+stepped-then step st new None now is = (is.0, as-shown new _ _ is.1 is.2)
+stepped-then step st new (Some o) now is = (is.0, as-shown new _ _ is.1 is.2)
 
 -- ---- what is due
 
@@ -91,11 +80,8 @@ pub told-due : (old new : StateParts) (s : Session) (step : Step) (o : Open) (d 
     → IfReply d (λ p. IsTold new s o.gathered step p.body p.effect) → IsNext (missing (shown old) s o.work.operation o.gathered step) d
     → IfReply d (λ p. IsToldTo new s step (Some o) p.body p.effect)
 told-due old new s step o (due.Waits next) same told is = tt
-told-due old new s step o (due.Reply p) same told is = (told, by is) where
-  by : (missing (shown old) s o.work.operation o.gathered step ≡ None) ⊎ (p.body ≡ body.NoMemory)
-      → (missing (shown new) s o.work.operation o.gathered step ≡ None) ⊎ (p.body ≡ body.NoMemory)
-  by (inl none) = inl (ap (λ x. missing x s o.work.operation o.gathered step) same ∙ none)
-  by (inr memory) = inr memory
+told-due old new s step o (due.Reply p) same told is =
+    (told, subst (λ x. IsNext (missing x s o.work.operation o.gathered step) (due.Reply p)) (sym same) is)
 
 -- what is due to each call that the operation is of is due to the request's
 pub due-now : (old new : StateParts) (s : Session) (client : ℕ) (step : Step) (o : Open) (d : Due) → shown new ≡ shown old
@@ -103,13 +89,17 @@ pub due-now : (old new : StateParts) (s : Session) (client : ℕ) (step : Step) 
     → IfReply d (λ p. (call : Call) → IsOperationOf call o.work.operation
     → IsDuePlan new s client call (ids_of call o.gathered) p.body p.effect)
     → IsNext (missing (shown old) s o.work.operation o.gathered step) d → IsDueNow new s client step (Some o) (Some d)
-due-now old new s client step o (due.Waits next) same of plan is =
-    (tt, ap (λ x. missing x s o.work.operation o.gathered step) same ∙ is)
-due-now old new s client step o (due.Reply p) same of plan is = (plan o.request.call of, by is) where
-  by : (missing (shown old) s o.work.operation o.gathered step ≡ None) ⊎ (p.body ≡ body.NoMemory)
-      → (missing (shown new) s o.work.operation o.gathered step ≡ None) ⊎ (p.body ≡ body.NoMemory)
-  by (inl none) = inl (ap (λ x. missing x s o.work.operation o.gathered step) same ∙ none)
-  by (inr memory) = inr memory
+due-now old new s client step o d same of plan is = (
+  by d plan,
+  subst (λ x. IsNext (missing x s o.work.operation o.gathered step) d)
+      (sym same) is,
+)
+  where
+    by : (x : Due) → IfReply x (λ p. (call : Call) → IsOperationOf call o.work.operation
+        → IsDuePlan new s client call (ids_of call o.gathered) p.body p.effect)
+        → IfReply x (λ p. IsDueTo new s client (Some o) p.body p.effect)
+    by (due.Waits next) plan = tt
+    by (due.Reply p) plan = plan o.request.call of
 
 -- a reply is due to the open request
 pub reply-due : (st : StateParts) (s : Session) (client : ℕ) (step : Step) (o : Option Open) (p : Plan)

@@ -1,6 +1,5 @@
 -- A step of a client as the machine takes it: what was said stays legal, and nothing is said.
-use Rattle.std.proofs.Common.{◌≡◌, ℕ, ◌<◌, ◌≤◌, true, false, length, ap, sym, ◌∙◌, subst, refl}
-use Rattle.std.proofs.Common.{Option, Some, None, get_or}
+use Rattle.std.proofs.Common.{◌≡◌, ℕ, ◌<◌, ◌≤◌, true, false, length, ap, sym, ◌∙◌, subst, refl, Option, Some, None, get_or}
 use Rattle.std.specs.Prelude.{Err, Ok, IfSome, OnOk, Result, is_some, slice_set}
 use Rattle.std.specs.Option.{option_map}
 use Rattle.ds_base.specs.Limits.{greatest_client}
@@ -25,10 +24,6 @@ use Rattle.std.proofs.lemmas.List.{get_or_default}
 -- what was said stays legal, and nothing is said
 abbrev pub Quietly : MachineParts → MachineParts → Type 0
 Quietly was new = IsLegal new × IsSameRun was new × IsSilent was new
-
-pub on-ok : {A E : Type 0} {P : Type 0} (r : Result A E) → P → OnOk r P
-on-ok (Ok x) holds = holds
-on-ok (Err e) holds = tt
 
 pub closed-one : (o : Option Open) → is_some o ≡ false → o ≡ None
 closed-one None closed = refl

@@ -39,10 +39,7 @@ use Rattle.ds_core.proofs.Lists.{set-own}
 -- ---- what is gathered for an operation is gathered for each call that it is of
 
 none-asked : (c : Call) (o : _) → search_of c ≡ Some o → ids_asked c ≡ 0
-none-asked (call.Query namespace kind ancestor filters orders select offset limit start end cursor) o is = refl
-none-asked (call.Gql namespace text args names start end cursor) o is = refl
 none-asked (call.Put key true properties) o is = cc
-none-asked (call.Put key false properties) o is = refl
 none-asked (call.AllocateIds count) o is = cc
 none-asked _ o is = refl
 
@@ -63,28 +60,12 @@ gathered_back st s (operation.Find r) c g of is = record {
       → IfSome p (λ first. (first_drawn_id ≤ first) × (s.next_id ≤ first) × (first + ids_asked c ≤ st.store.next))
   by None is = tt
   by (Some first) is = let none = none-asked c (Ok (search_parts r)) of.exact in (is.0, is.1, omega (arith, is.2, none))
-gathered_back st s (operation.Put entity incomplete) c g of is = subst (λ x. IsGathered st s x g) (sym of) is
-gathered_back st s (operation.Delete key) c g of is = subst (λ x. IsGathered st s x g) (sym of) is
-gathered_back st s (operation.Get key) c g of is = subst (λ x. IsGathered st s x g) (sym of) is
-gathered_back st s (operation.Begin several) c g of is = subst (λ x. IsGathered st s x g) (sym of) is
-gathered_back st s operation.Commit c g of is = subst (λ x. IsGathered st s x g) (sym of) is
-gathered_back st s operation.Rollback c g of is = subst (λ x. IsGathered st s x g) (sym of) is
-gathered_back st s operation.Settle c g of is = subst (λ x. IsGathered st s x g) (sym of) is
-gathered_back st s (operation.AllocateIds count) c g of is = subst (λ x. IsGathered st s x g) (sym of) is
-gathered_back st s (operation.Apply shard) c g of is = subst (λ x. IsGathered st s x g) (sym of) is
+gathered_back st s _ c g of is = subst (λ x. IsGathered st s x g) (sym of) is
 
 -- as many ids are asked for
 pub asked-alike : (o : Operation) (c : Call) → IsOperationOf c o → ids_asked c ≡ ids_asked (call_of o)
 asked-alike (operation.Find r) c of = none-asked c (Ok (search_parts r)) of.exact
-asked-alike (operation.Put entity incomplete) c of = ap ids_asked of
-asked-alike (operation.Delete key) c of = ap ids_asked of
-asked-alike (operation.Get key) c of = ap ids_asked of
-asked-alike (operation.Begin several) c of = ap ids_asked of
-asked-alike operation.Commit c of = ap ids_asked of
-asked-alike operation.Rollback c of = ap ids_asked of
-asked-alike operation.Settle c of = ap ids_asked of
-asked-alike (operation.AllocateIds count) c of = ap ids_asked of
-asked-alike (operation.Apply shard) c of = ap ids_asked of
+asked-alike _ c of = ap ids_asked of
 
 -- the held ids are those from the first one on alone
 pub ids-same : (c : Call) (g h : GatheredParts) → g.first ≡ h.first → ids_of c g ≡ ids_of c h

@@ -1,10 +1,9 @@
 -- What has happened so far, step by step.
-use Rattle.std.proofs.Common.{◌≡◌, ℕ, ◌+◌, List, [], ◌∷◌, ◌++◌, map, refl, ap, sym, ◌∙◌, subst}
-use Rattle.std.proofs.Common.{Option, None, append_assoc}
+use Rattle.std.proofs.Common.{◌≡◌, ℕ, ◌+◌, List, [], ◌∷◌, ◌++◌, map, refl, ap, sym, ◌∙◌, subst, Option, None, append_assoc}
 use Rattle.ds_base.specs.Limits.{first_drawn_id, greatest_client}
 use Rattle.ds_indexdef.specs.declared.IndexDef.{IndexDef}
 use Rattle.std.proofs.lemmas.List.Elements.{All-append, All-cons, All-nil}
-use Rattle.std.specs.Prelude.{Err, Ok, OnOk, Result, flat_map, replicate}
+use Rattle.std.specs.Prelude.{flat_map, replicate}
 use Rattle.std.proofs.lemmas.Grind.{flat_map-append}
 use Rattle.std.proofs.lemmas.List.{append-nil}
 use Rattle.ds_request.specs.declared.call.Request.{Request}
@@ -14,10 +13,9 @@ use Rattle.ds_core.specs.declared.event.Event.{Event}
 use Rattle.ds_core.specs.declared.event.Transcript.{Transcript}
 use Rattle.ds_core.specs.declared.opened.Open.{Open}
 use Rattle.ds_core.specs.Courses.{GoesOn, HasHappened, IsPast}
-use Rattle.ds_core.specs.Happenings.{Moment, Happening, Happens, Follow, Turn, IsStill}
-use Rattle.ds_core.specs.Happenings.{first_moment, moment_of, none_open}
+use Rattle.ds_core.specs.Happenings.{Moment, Happening, Happens, Follow, Turn, IsStill, first_moment, moment_of, none_open, event_of}
+use Rattle.ds_core.specs.Happenings.{said_requests, said_replies}
 use Rattle.ds_model.specs.Sessions.{Session, first_sessions}
-use Rattle.ds_core.specs.Happenings.{event_of, said_requests, said_replies}
 use Rattle.ds_core.specs.Machines.{MachineParts, IsSameRun}
 use Rattle.ds_core.specs.Timelines.{Moves}
 use Rattle.ds_core.specs.Takings.{IsMissing, IsTaken, WaitsFor, open_of, session_of, shown_at}

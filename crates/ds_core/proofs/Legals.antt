@@ -1,7 +1,7 @@
 -- What a machine has said stays one legal round, whatever its steps are.
 use Rattle.std.proofs.Common.{◌≡◌, ◌≢◌, ℕ, zero, suc, ◌+◌, ◌-◌, ◌<◌, ◌≤◌, List, [], ◌∷◌, ◌++◌, length, refl, ap, sym, ◌∙◌, subst, arith}
 use Rattle.std.proofs.Common.{Option, Some, None, get_or, append_assoc, length-append}
-use Rattle.std.specs.Prelude.{Err, Ok, OnOk, Result, All, IsTrue, replicate, slice_get, slice_set, flat_map, IsPermutation}
+use Rattle.std.specs.Prelude.{Ok, All, IsTrue, replicate, slice_get, slice_set, flat_map, IsPermutation}
 use Rattle.std.specs.List.{range_with_len}
 use Rattle.std.proofs.lemmas.Grind.{flat_map-append}
 use Rattle.std.proofs.lemmas.List.{append-nil}
@@ -475,7 +475,3 @@ legal-round m t definitions shards legal closed same_definitions same_shards req
     })
 
 -- ---- calls that may be refused
-
-pub same-ok : {A E : Type 0} (r : Result A E) (m n o : MachineParts) → IsSameRun m n → OnOk r (IsSameRun n o) → OnOk r (IsSameRun m o)
-same-ok (Ok x) m n o first second = same-run m n o first second
-same-ok (Err e) m n o first second = tt

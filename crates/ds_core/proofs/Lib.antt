@@ -1,3 +1,4 @@
+mod Calls
 mod Ended
 mod GatheredSteps
 mod Gathers

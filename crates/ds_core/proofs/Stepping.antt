@@ -62,15 +62,7 @@ asks-apply : (c : Call) (o : Operation) (g : GatheredParts) (shard : ℕ) → Is
     → c ≡ call.Apply shard
 asks-apply c (operation.Apply own) g shard of is =
     let both = and_parts (own == shard) (is_some g.place) is in of ∙ ap call.Apply (eqb-true own shard both.0)
-asks-apply c (operation.Put entity incomplete) g shard of is = cc
-asks-apply c (operation.Delete key) g shard of is = cc
-asks-apply c (operation.Get key) g shard of is = cc
-asks-apply c (operation.Find search) g shard of is = cc
-asks-apply c (operation.Begin several) g shard of is = cc
-asks-apply c operation.Commit g shard of is = cc
-asks-apply c operation.Rollback g shard of is = cc
-asks-apply c operation.Settle g shard of is = cc
-asks-apply c (operation.AllocateIds count) g shard of is = cc
+asks-apply c _ g shard of is = cc
 
 -- what an open request asks
 abbrev pub IsAsked : Option Open → Type 0

@@ -1,7 +1,6 @@
 -- A step with what it gathers and the reply that it may bring, and a request that opens before it.
 use Rattle.std.proofs.Common.{◌≡◌, ◌≢◌, ◌⊎◌, inl, inr, ℕ, ◌+◌, ◌<◌, List, [], ◌∷◌, ◌++◌, length, refl, ap, sym, ◌∙◌, subst, arith, ◌≤◌}
-use Rattle.std.proofs.Common.{option_map}
-use Rattle.std.proofs.Common.{cond, Option, Some, None, get_or, length-append}
+use Rattle.std.proofs.Common.{option_map, cond, Option, Some, None, get_or, length-append}
 use Rattle.std.specs.Prelude.{Ok, Err, OnOk, Result, nat_lt, slice_set}
 use Rattle.std.specs.Option.{option_or}
 use Rattle.std.proofs.lemmas.List.{append-nil}
@@ -51,12 +50,6 @@ moves-to shards steps.Commit m n o journal counts next is = record {
       → (o.journal ≡ m.journal) ⊎ ((c : Commit) × (o.journal ≡ m.journal ++ c ∷ []))
   by (inl same) = inl (journal ∙ same)
   by (inr (c, more)) = inr (c, journal ∙ more)
-moves-to shards (steps.Apply shard) m n o journal counts next is =
-    record { journal = journal ∙ is.journal; counts = counts ∙ is.counts; next = next ∙ is.next }
-moves-to shards (steps.View shard) m n o journal counts next is =
-    record { journal = journal ∙ is.journal; counts = counts ∙ is.counts; next = next ∙ is.next }
-moves-to shards steps.Touch m n o journal counts next is =
-    record { journal = journal ∙ is.journal; counts = counts ∙ is.counts; next = next ∙ is.next }
 moves-to shards (steps.Issue count) m n o journal counts next is = record {
   journal = journal ∙ is.journal;
   counts = counts ∙ is.counts;
@@ -65,6 +58,8 @@ moves-to shards (steps.Issue count) m n o journal counts next is = record {
   by : (n.next ≡ m.next) ⊎ (n.next ≡ m.next + count) → (o.next ≡ m.next) ⊎ (o.next ≡ m.next + count)
   by (inl same) = inl (next ∙ same)
   by (inr more) = inr (next ∙ more)
+moves-to shards _ m n o journal counts next is =
+    record { journal = journal ∙ is.journal; counts = counts ∙ is.counts; next = next ∙ is.next }
 
 pub moves-from : (shards : ℕ) (s : Step) (l m n : Moment) → m.journal ≡ l.journal → m.counts ≡ l.counts → m.next ≡ l.next
     → Moves shards s m n → Moves shards s l n
@@ -146,22 +141,24 @@ told_to : (st : StateParts) (s : Session) (step : Step) (p : Option Open) (o : O
     → IsToldTo st s step p b e → IsTold st s o.gathered step b e
 told_to st s step p o b e has told = (subst (λ q. IsToldTo st s step q b e) has told).0
 
-pub say-timed : (m new : MachineParts) (client : ℕ) (d : Session) (none : Option Open) (o : Open) (b : Body) (e : Effect) (step : Step)
-    → IsLegal m → client < length m.sessions → get_or m.opens client none ≡ Some o → b ≢ body.NoMemory
-    → IsDueTo m.state (get_or m.sessions client d) client (get_or m.opens client none) b e
-    → IsToldTo m.state (get_or m.sessions client d) step (get_or m.opens client none) b e
-    → new ≡ noted client o.request b (record (performed e client d m) { opens = slice_set m.opens client None })
-    → RepliesAt step client m new
-say-timed m new client d none o b e step legal below has memory due told is =
+pub say-timed : (m p q new : MachineParts) (client : ℕ) (d : Session) (o : Open) (b : Body) (e : Effect) (step : Step)
+    → IsLegal m → client < length m.sessions → b ≢ body.NoMemory
+    → IsDueTo m.state (get_or m.sessions client d) client (get_or m.opens client None) b e
+    → IsToldTo m.state (get_or m.sessions client d) step (get_or m.opens client None) b e
+    → p ≡ performed e client d m → q ≡ closing client p → Some o ≡ get_or p.opens client None
+    → new ≡ noted client o.request b q → RepliesAt step client m new
+say-timed m p q new client d o b e step legal below memory due told performs closes had noted_is =
+    let has : get_or m.opens client None ≡ Some o = ap (λ (x : MachineParts). get_or x.opens client None) (sym performs) ∙ sym had in
+    let is = noted_is ∙ ap (noted client o.request b) (closes ∙ ap (closing client) performs) in
     let many = opens-many m.state 0 m.sessions m.opens legal.opens in
-    let own = open-at m.state 0 m.sessions m.opens client d none legal.opens below in
+    let own = open-at m.state 0 m.sessions m.opens client d None legal.opens below in
     let s = get_or m.sessions client d in
     subst (RepliesAt step client m) (sym is)
     (told-replies m client d o.request o.gathered b e step below
-    (own_client m.state (get_or m.opens client none) (0 + client) s own.1 has ∙ (let same : 0 + client ≡ client = omega arith in same))
-    (λ hs are. are.gathered client o (got-at m.opens client none (omega (arith, many, below)) ∙ ap Some has))
-    (due_to m.state s client (get_or m.opens client none) o b e memory has due)
-    (told_to m.state s step (get_or m.opens client none) o b e has told))
+    (own_client m.state (get_or m.opens client None) (0 + client) s own.1 has ∙ (let same : 0 + client ≡ client = omega arith in same))
+    (λ hs are. are.gathered client o (got-at m.opens client None (omega (arith, many, below)) ∙ ap Some has))
+    (due_to m.state s client (get_or m.opens client None) o b e memory has due)
+    (told_to m.state s step (get_or m.opens client None) o b e has told))
   where
     own_client : (st : StateParts) (p : Option Open) (n : ℕ) (s : Session) → IsOpen st n s p → p ≡ Some o → o.request.client ≡ n
     own_client st p n s own same = (subst (λ q. IsOpen st n s q) same own).0
@@ -229,15 +226,15 @@ opens-had m client begins begun = record {
 -- where none is, and it may be replied to at once
 pub opens-then : (m new : MachineParts) (client : ℕ) (r : Request) (work : Work) (shards : ℕ) → client < length m.opens
     → open_of (moment_of m) client ≡ None → shards ≡ m.state.store.shards → IsOperationOf r.call work.operation
-    → new.state.store.shards ≡ m.state.store.shards
+    → IsSameRun (record m { opens = slice_set m.opens client (Some (just_opened r work shards)) }) new
     → RepliesAt steps.Touch client (record m { opens = slice_set m.opens client (Some (just_opened r work shards)) }) new
     → EndedAt steps.Touch client (record m { opens = slice_set m.opens client (Some (just_opened r work shards)) }) new
     → OpensAt client (Some r) m new
-opens-then m new client r work shards below closed many of same_shards replies ended = record {
+opens-then m new client r work shards below closed many of same replies ended = record {
   journal = by replies.journal;
   counts = replies.counts;
   next = replies.next;
-  shards = same_shards;
+  shards = same.1;
   begun = begins-then m new client r work shards below closed many of ended;
   timely = λ hs are. replies.timely hs (record {
     commits = λ is one. cc;
@@ -324,63 +321,56 @@ both-said old mid new (Some q) (Some z) said first second is = absurd (more said
       omega (arith, one, two, three, few)
 
 pub takes-opened : (s : Step) (client : ℕ) (old mid new : MachineParts) (begins : Option Request) → OpensAt client begins old mid
-    → Turn old mid client begins → TakesAt old.state.store.shards s client mid new → Turn mid new client None
+    → Turn old mid client begins → TakesAt mid.state.store.shards s client mid new → Turn mid new client None
     → HappensAt old.state.store.shards s client begins old new
-takes-opened s client old mid new begins opened first takes second = record {
-  moves = moves-from old.state.store.shards s (moment_of old) (moment_of mid) (moment_of new) opened.journal opened.counts opened.next
-      takes.moves;
-  taken = λ said is.
-      let begun = opened.begun first.said (first.requests, first.replies) in record {
-        between = moment_of mid;
-        early = first.said;
-        late = second.said;
-        said = said-alike said (option_or first.said second.said) old new is (both-said old mid new first.said second.said said
-            (first.requests, first.replies) (second.requests, second.replies) is);
-        begun = begun.begun;
-        shown = λ i. record {
-          shards = old.state.store.shards;
-          journal = opened.journal i;
-          next = opened.next i;
-          counts = opened.counts i;
-        };
-        quiet = begun.quiet;
-        others = begun.others;
-        takes = takes.takes second.said (second.requests, second.replies);
-      };
-  timely = λ hs h of are.
-      let begun = opened.timely hs are in
-      let now = takes.timely hs h (record {
-        step = of.step;
-        client = of.client;
-        before = record {
-          journal = of.before.journal ∙ sym opened.journal;
-          counts = of.before.counts ∙ sym opened.counts;
-          next = of.before.next ∙ sym opened.next;
-        };
-        after = of.after;
-      }) begun.0 in
-      (now.0, λ said is. by hs h begun.1 now.1 first.said second.said first.requests first.replies second.requests second.replies said is);
-} where
-  by : (hs : List Happening) (h : Happening) → ((said : Option Said) → IsSaid said old mid → IsTimely hs said)
-      → ((said : Option Said) → IsSaid said mid new → IsTimely (hs ++ h ∷ []) said) → (x y : Option Said)
-      → mid.requests ≡ old.requests ++ said_requests x → mid.replies ≡ old.replies ++ said_replies x
-      → new.requests ≡ mid.requests ++ said_requests y → new.replies ≡ mid.replies ++ said_replies y
-      → (said : Option Said) → IsSaid said old new → IsTimely (hs ++ h ∷ []) said
-  by hs h begun now None y rs ps us vs said is = now said (
-    is.0 ∙ ap (λ (xs : List Request). xs ++ said_requests said) (sym (rs ∙ append-nil old.requests)),
-    is.1 ∙ ap (λ xs. xs ++ said_replies said) (sym (ps ∙ append-nil old.replies)),
-  )
-  by hs h begun now (Some q) None rs ps us vs said is = timely-more hs (h ∷ []) said
-      (begun said (sym (us ∙ append-nil mid.requests) ∙ is.0, sym (vs ∙ append-nil mid.replies) ∙ is.1))
-  by hs h begun now (Some q) (Some z) rs ps us vs None is = tt
-  by hs h begun now (Some q) (Some z) rs ps us vs (Some x) is =
-      let one : length mid.requests ≡ length old.requests + 1 = ap (λ (xs : List Request). length xs) rs
-      ∙ length-append old.requests (q.request ∷ []) in
-      let two : length new.requests ≡ length mid.requests + 1 = ap (λ (xs : List Request). length xs) us
-      ∙ length-append mid.requests (z.request ∷ []) in
-      let all : length new.requests ≡ length old.requests + 1 = ap (λ (xs : List Request). length xs) is.0
-      ∙ length-append old.requests (x.request ∷ []) in
-      absurd (omega (arith, one, two, all))
+takes-opened s client old mid new begins opened first was second =
+    let takes = subst (λ n. TakesAt n s client mid new) opened.shards was in record {
+      moves = moves-from old.state.store.shards s (moment_of old) (moment_of mid) (moment_of new) opened.journal opened.counts opened.next
+          takes.moves;
+      taken = λ said is.
+          let begun = opened.begun first.said (first.requests, first.replies) in record {
+            between = moment_of mid;
+            early = first.said;
+            late = second.said;
+            said = alike said is;
+            begun = begun.begun;
+            shown = λ i. record {
+              shards = old.state.store.shards;
+              journal = opened.journal i;
+              next = opened.next i;
+              counts = opened.counts i;
+            };
+            quiet = begun.quiet;
+            others = begun.others;
+            takes = takes.takes second.said (second.requests, second.replies);
+          };
+      timely = λ hs h of are.
+          let begun = opened.timely hs are in
+          let now = takes.timely hs h (record {
+            step = of.step;
+            client = of.client;
+            before = record {
+              journal = of.before.journal ∙ sym opened.journal;
+              counts = of.before.counts ∙ sym opened.counts;
+              next = of.before.next ∙ sym opened.next;
+            };
+            after = of.after;
+          }) begun.0 in (
+            now.0,
+            λ said is. subst (IsTimely (hs ++ h ∷ [])) (sym (alike said is)) (by hs h begun.1 now.1 first.said second.said
+                (first.requests, first.replies) (second.requests, second.replies)),
+          );
+    }
+  where
+    alike : (said : Option Said) → IsSaid said old new → said ≡ option_or first.said second.said
+    alike said is = said-alike said (option_or first.said second.said) old new is (both-said old mid new first.said second.said said
+        (first.requests, first.replies) (second.requests, second.replies) is)
+
+    by : (hs : List Happening) (h : Happening) → ((said : Option Said) → IsSaid said old mid → IsTimely hs said)
+        → ((said : Option Said) → IsSaid said mid new → IsTimely (hs ++ h ∷ []) said) → (x y : Option Said) → IsSaid x old mid
+        → IsSaid y mid new → IsTimely (hs ++ h ∷ []) (option_or x y)
+    by hs h begun now None y early late = now y late
+    by hs h begun now (Some q) y early late = timely-more hs (h ∷ []) (Some q) (begun (Some q) early)
 
 -- a step alone
 pub takes-alone : (s : Step) (client : ℕ) (m n : MachineParts) → TakesAt m.state.store.shards s client m n
@@ -401,56 +391,13 @@ takes-alone s client m n takes = record {
   timely = takes.timely;
 }
 
--- ---- calls that may be refused
-
-pub takes-ok : {A E : Type 0} (r : Result A E) (s : Step) (client : ℕ) (old mid new : MachineParts)
-    → GathersAt old.state.store.shards s client old mid → StepsAt s client old mid → IsSilent old mid → OnOk r (RepliesAt s client mid new)
-    → OnOk r (EndedAt s client mid new) → OnOk r (TakesAt old.state.store.shards s client old new)
-takes-ok (Ok x) s client old mid new gathers stepped silent replies ended =
-    takes-then s client old mid new gathers stepped silent replies ended
-takes-ok (Err e) s client old mid new gathers stepped silent replies ended = tt
-
-pub replies-ok : {A E : Type 0} (r : Result A E) (s : Step) (client : ℕ) (m n o : MachineParts) → IsStill m n
-    → OnOk r (RepliesAt s client n o) → OnOk r (RepliesAt s client m o)
-replies-ok (Ok x) s client m n o still replies = replies-still s client m n o still replies
-replies-ok (Err e) s client m n o still replies = tt
-
-pub opens-ok : {A E : Type 0} (r : Result A E) (m new : MachineParts) (client : ℕ) (req : Request) (work : Work) (shards : ℕ)
-    → client < length m.opens → open_of (moment_of m) client ≡ None → shards ≡ m.state.store.shards → IsOperationOf req.call work.operation
-    → OnOk r (IsSameRun (record m { opens = slice_set m.opens client (Some (just_opened req work shards)) }) new)
-    → OnOk r (RepliesAt steps.Touch client (record m { opens = slice_set m.opens client (Some (just_opened req work shards)) }) new)
-    → OnOk r (EndedAt steps.Touch client (record m { opens = slice_set m.opens client (Some (just_opened req work shards)) }) new)
-    → OnOk r (OpensAt client (Some req) m new)
-opens-ok (Ok x) m new client req work shards below closed many of same replies ended =
-    opens-then m new client req work shards below closed many of same.1 replies ended
-opens-ok (Err e) m new client req work shards below closed many of same replies ended = tt
-
-pub takes-opened-ok : {A E : Type 0} (r : Result A E) (s : Step) (client : ℕ) (old mid new : MachineParts) (begins : Option Request)
-    → OpensAt client begins old mid → Turn old mid client begins → OnOk r (TakesAt mid.state.store.shards s client mid new)
-    → OnOk r (Turn mid new client None) → OnOk r (HappensAt old.state.store.shards s client begins old new)
-takes-opened-ok (Ok x) s client old mid new begins opened first takes second =
-    takes-opened s client old mid new begins opened first (subst (λ n. TakesAt n s client mid new) opened.shards takes) second
-takes-opened-ok (Err e) s client old mid new begins opened first takes second = tt
-
 -- a reply is said, taken effect and noted
-pub say-timed-ok : {A E : Type 0} (r : Result A E) (m p q new : MachineParts) (client : ℕ) (d : Session) (o : Open) (b : Body) (e : Effect)
-    (step : Step) → IsLegal m → client < length m.sessions → b ≢ body.NoMemory
-    → IsDueTo m.state (get_or m.sessions client d) client (get_or m.opens client None) b e
-    → IsToldTo m.state (get_or m.sessions client d) step (get_or m.opens client None) b e
-    → p ≡ performed e client d m → q ≡ closing client p → Some o ≡ get_or p.opens client None
-    → OnOk r (new ≡ noted client o.request b q) → OnOk r (RepliesAt step client m new)
-say-timed-ok (Err x) m p q new client d o b e step legal below memory due told performs closes has is = tt
-say-timed-ok (Ok x) m p q new client d o b e step legal below memory due told performs closes has is =
-    say-timed m new client d None o b e step legal below (ap (λ (x : MachineParts). get_or x.opens client None) (sym performs) ∙ sym has)
-    memory due told (is ∙ ap (noted client o.request b) (closes ∙ ap (closing client) performs))
-
-pub say-ended-ok : {A E : Type 0} (r : Result A E) (m p q new : MachineParts) (client : ℕ) (o : Open) (b : Body) (e : Effect) (step : Step)
+pub say-ended : (m p q new : MachineParts) (client : ℕ) (o : Open) (b : Body) (e : Effect) (step : Step)
     → client < length m.opens → b ≢ body.NoMemory
     → IsToldTo m.state (get_or m.sessions client (first_session 0)) step (get_or m.opens client None) b e
     → p ≡ performed e client (first_session 0) m → q ≡ closing client p → Some o ≡ get_or p.opens client None
-    → OnOk r (new ≡ noted client o.request b q) → OnOk r (EndedAt step client m new)
-say-ended-ok (Err x) m p q new client o b e step below memory told performs closes has is = tt
-say-ended-ok (Ok x) m p q new client o b e step below memory told performs closes has is =
+    → new ≡ noted client o.request b q → EndedAt step client m new
+say-ended m p q new client o b e step below memory told performs closes has is =
     ended-said m new client o b e step below (ap (λ (x : MachineParts). get_or x.opens client None) (sym performs) ∙ sym has) memory told
     (is ∙ ap (noted client o.request b) (closes ∙ ap (closing client) performs))
 

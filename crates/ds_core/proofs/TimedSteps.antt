@@ -1,6 +1,6 @@
 -- A step of a client as the machine takes it: what is gathered comes from it.
 use Rattle.std.proofs.Common.{◌≡◌, ℕ, ◌<◌, ◌≤◌, length, refl, sym, ◌∙◌, subst, Option, Some, None, get_or, ap}
-use Rattle.std.specs.Prelude.{Err, Ok, OnOk, Result, slice_set}
+use Rattle.std.specs.Prelude.{OnOk, Result, slice_set}
 use Rattle.std.proofs.lemmas.List.{get_or_default}
 use Rattle.ds_base.specs.Limits.{greatest_client}
 use Rattle.ds_request.specs.declared.call.Request.{Request}
@@ -17,10 +17,11 @@ use Rattle.ds_core.specs.Machines.{MachineParts, IsLegal, IsOpen, IsSameRun, jus
 use Rattle.ds_core.specs.Steps.{SteppedTo}
 use Rattle.ds_core.specs.Takings.{Ends, IsNextOf, IsWaiting, open_of, session_of}
 use Rattle.ds_core.specs.Witnesses.{EndedAt, GathersAt, IsToldTo, OpensAt, RepliesAt, StepsAt}
+use Rattle.ds_core.proofs.Calls.{ok-three}
 use Rattle.ds_core.proofs.OneClient.{client-below, client-open, own-at}
 use Rattle.ds_core.proofs.Ended.{ended-quiet, ended-still}
 use Rattle.ds_core.proofs.Stepping.{IsAsked}
-use Rattle.ds_core.proofs.Taking.{opens-ok}
+use Rattle.ds_core.proofs.Taking.{opens-then}
 use Rattle.ds_core.proofs.Witnessing.{step-gathers}
 use Rattle.ds_machine.specs.Missing.{shown}
 use Rattle.ds_protocol.specs.Operations.{IsOperationOf}
@@ -31,12 +32,11 @@ module _ (was m : MachineParts) (is : m ≡ was) (legal : IsLegal was) (client :
   below : client < length m.opens
   below = client-open m (subst IsLegal (sym is) legal) client bound
 
-  pub timed-step : {A E : Type 0} (r : Result A E) (st : StateParts) (step : Step) (old new : Option Open)
+  pub timed-step : (st : StateParts) (step : Step) (old new : Option Open)
       → length m.state.applied.counts ≡ m.state.store.shards → old ≡ get_or m.opens client old
-      → OnOk r (SteppedTo step m.state old st new)
-      → OnOk r (GathersAt was.state.store.shards step client was (record m { state = st; opens = slice_set m.opens client new }))
-  timed-step (Err e) st step old new many had stepped = tt
-  timed-step (Ok x) st step old new many had stepped =
+      → SteppedTo step m.state old st new
+      → GathersAt was.state.store.shards step client was (record m { state = st; opens = slice_set m.opens client new })
+  timed-step st step old new many had stepped =
       let own = own-at m (subst IsLegal (sym is) legal) client bound (first_session 0) old in
       subst (λ x. GathersAt x.state.store.shards step client x (record m { state = st; opens = slice_set m.opens client new })) is
       (step-gathers m client old new st below many (asked m.state client (get_or m.sessions client (first_session 0))
@@ -48,11 +48,10 @@ module _ (was m : MachineParts) (is : m ≡ was) (legal : IsLegal was) (client :
       asked st n s (Some o) is = is.4.0
 
   -- what is gathered is what the step gathers
-  pub timed-steps : {A E : Type 0} (r : Result A E) (st : StateParts) (step : Step) (old new : Option Open)
-      → old ≡ get_or m.opens client old → OnOk r (SteppedTo step m.state old st new)
-      → OnOk r (StepsAt step client was (record m { state = st; opens = slice_set m.opens client new }))
-  timed-steps (Err e) st step old new had stepped = tt
-  timed-steps (Ok x) st step old new had stepped =
+  pub timed-steps : (st : StateParts) (step : Step) (old new : Option Open)
+      → old ≡ get_or m.opens client old → SteppedTo step m.state old st new
+      → StepsAt step client was (record m { state = st; opens = slice_set m.opens client new })
+  timed-steps st step old new had stepped =
       subst (λ x. StepsAt step client x (record m { state = st; opens = slice_set m.opens client new })) is (record {
         stepped = subst (λ o. SteppedTo step m.state (get_or m.opens client None) st o) (sym (set-read m.opens client new None below))
             (subst (λ o. SteppedTo step m.state o st new) (had ∙ get_or_default m.opens client old None below) stepped);
@@ -84,7 +83,7 @@ module _ (was m : MachineParts) (is : m ≡ was) (legal : IsLegal was) (client :
       → OnOk r (OpensAt client (Some req) was after)
   timed-open r after req work n new now closed many of same replies ended =
       subst (λ x. OnOk r (OpensAt client (Some req) x after)) is
-      (opens-ok r m after client req work n below (ap (λ (x : MachineParts). get_or x.opens client None) is ∙ closed) many of
+      (ok-three r (opens-then m after client req work n below (ap (λ (x : MachineParts). get_or x.opens client None) is ∙ closed) many of)
       (subst (λ o. OnOk r (IsSameRun (record m { opens = slice_set m.opens client o }) after)) now same)
       (subst (λ o. OnOk r (RepliesAt steps.Touch client (record m { opens = slice_set m.opens client o }) after)) now replies)
       (subst (λ o. OnOk r (EndedAt steps.Touch client (record m { opens = slice_set m.opens client o }) after)) now ended))
@@ -99,11 +98,9 @@ module _ (was m : MachineParts) (is : m ≡ was) (legal : IsLegal was) (client :
       (had ∙ get_or_default m.sessions client s (first_session 0) (client-below m (subst IsLegal (sym is) legal) client bound))
       (subst (λ p. Ends (shown m.state) s step p None p) (asked ∙ get_or_default m.opens client o None below) ends)))
 
-  pub timed-ended : {A E : Type 0} (r : Result A E) (st : StateParts) (step : Step) (after : MachineParts) → st.store ≡ m.state.store
-      → st.applied.counts ≡ m.state.applied.counts → OnOk r (EndedAt step client (record m { state = st }) after)
-      → OnOk r (EndedAt step client was after)
-  timed-ended (Err e) st step after store counts ended = tt
-  timed-ended (Ok x) st step after store counts ended =
+  pub timed-ended : (st : StateParts) (step : Step) (after : MachineParts) → st.store ≡ m.state.store
+      → st.applied.counts ≡ m.state.applied.counts → EndedAt step client (record m { state = st }) after → EndedAt step client was after
+  timed-ended st step after store counts ended =
       subst (λ x. EndedAt step client x after) is (ended-still step client m after st store counts ended)
 
   -- what the client's open request waits for

@@ -1,15 +1,13 @@
 -- Each opened request is replied to once.
 use Rattle.std.proofs.Common.{◌≡◌, ℕ, zero, suc, ◌<◌, List, [], ◌∷◌, ◌++◌, length, refl, ap, sym, ◌∙◌, subst, arith}
 use Rattle.std.proofs.Common.{Option, Some, None, get_or}
-use Rattle.std.specs.Prelude.{Err, Ok, OnOk, Result, slice_set}
+use Rattle.std.specs.Prelude.{slice_set}
 use Rattle.std.specs.Option.{option_map}
 use Rattle.std.proofs.lemmas.List.{append-nil}
 use Rattle.ds_request.specs.declared.call.Request.{Request}
 use Rattle.ds_reply.specs.declared.reply.Reply.{Reply}
 use Rattle.ds_core.specs.declared.opened.Open.{Open}
-use Rattle.ds_core.specs.Happenings.{Said, Speaks, Turn, IsSilent}
-use Rattle.ds_core.specs.Happenings.{asked_by, asked_of, opening}
-use Rattle.ds_core.specs.Happenings.{said_requests, said_replies}
+use Rattle.ds_core.specs.Happenings.{Said, Speaks, Turn, IsSilent, asked_by, asked_of, opening, said_requests, said_replies}
 use Rattle.ds_core.specs.Machines.{MachineParts}
 use Rattle.ds_core.proofs.Lists.{set-again}
 
@@ -159,8 +157,3 @@ turn-then a b c client begins below first second = by first.said second.said fir
           cc
 
 -- ---- calls that may be refused
-
-pub turn-ok : {A E : Type 0} (r : Result A E) (a b c : MachineParts) (client : ℕ) (begins : Option Request) → client < length a.opens
-    → Turn a b client begins → OnOk r (Turn b c client None) → OnOk r (Turn a c client begins)
-turn-ok (Ok x) a b c client begins below first second = turn-then a b c client begins below first second
-turn-ok (Err e) a b c client begins below first second = tt

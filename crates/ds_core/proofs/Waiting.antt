@@ -1,8 +1,7 @@
 -- An open request waits for a step until it is replied to, whatever other clients do.
-use Rattle.std.proofs.Common.{◌≡◌, ◌⊎◌, inl, inr, ℕ, zero, suc, ◌+◌, ◌≤◌, Bool, true, false, List, [], ◌∷◌, ◌++◌, length, refl, ap}
-use Rattle.std.proofs.Common.{sym}
+use Rattle.std.proofs.Common.{◌≡◌, ◌⊎◌, inl, inr, ℕ, zero, suc, ◌+◌, ◌≤◌, Bool, true, false, List, [], ◌∷◌, ◌++◌, length, refl, ap, sym}
 use Rattle.std.proofs.Common.{◌∙◌, subst, arith, cond, Option, Some, None, get_or}
-use Rattle.std.specs.Prelude.{Err, IfSome, Ok, OnOk, Result, is_some, replicate, slice_set}
+use Rattle.std.specs.Prelude.{IfSome, is_some, replicate, slice_set}
 use Rattle.std.specs.Option.{option_map}
 use Rattle.std.proofs.lemmas.List.{append-nil, take-append-le}
 use Rattle.ds_base.specs.Keys.{KeyParts, root_of}
@@ -155,9 +154,6 @@ module _ (st : Shown) (added : List Commit) (next : ℕ) (counts : List ℕ) whe
         → is_some (missing_search more s g a steps.Touch) ≡ true
     by None found = found
     by (Some ancestor) found = read-some more (shard_of (root_of ancestor) st.shards) (place_read s g (root_of ancestor))
-  waits-more s (operation.Begin several) g within is = is
-  waits-more s operation.Commit g within is = is
-  waits-more s operation.Rollback g within is = is
   waits-more s operation.Settle g within is = settle-more g.place g.views within is
   waits-more s (operation.AllocateIds count) g within is = by g.first is where
     by : (x : Option ℕ) → is_some (missing_ids st count x steps.Touch None) ≡ true
@@ -165,6 +161,7 @@ module _ (st : Shown) (added : List Commit) (next : ℕ) (counts : List ℕ) whe
     by None found = refl
     by (Some id) found = found
   waits-more s (operation.Apply shard) g within is = apply-more shard g.place g.applied within is
+  waits-more s _ g within is = is
 
 -- ---- of a machine
 
@@ -295,25 +292,15 @@ moves-add shards steps.Commit t u is = by is.journal where
       × (u.journal ≡ t.journal ++ added)
   by (inl same) = ([], same ∙ sym (append-nil t.journal))
   by (inr (c, more)) = (c ∷ [], more)
-moves-add shards (steps.Apply shard) t u is = ([], is.journal ∙ sym (append-nil t.journal))
-moves-add shards (steps.View shard) t u is = ([], is.journal ∙ sym (append-nil t.journal))
-moves-add shards steps.Touch t u is = ([], is.journal ∙ sym (append-nil t.journal))
-moves-add shards (steps.Issue count) t u is = ([], is.journal ∙ sym (append-nil t.journal))
+moves-add shards _ t u is = ([], is.journal ∙ sym (append-nil t.journal))
 
-pub taken-waiting : (m n : MachineParts) (client : ℕ) (step : Step) → IsLegal m → IsSameRun m n → AreOthersWaiting client m
+pub taken-waiting : (m n : MachineParts) (client : ℕ) (step : Step) → IsLegal m → AreOthersWaiting client m → IsSameRun m n
     → TakesAt m.state.store.shards step client m n → Turn m n client None → AreWaiting n.state.store.shards (moment_of n)
-taken-waiting m n client step legal same was takes turn =
+taken-waiting m n client step legal was same takes turn =
     let taken = takes.takes turn.said (turn.requests, turn.replies) in
     let more = moves-add m.state.store.shards step (moment_of m) (moment_of n) takes.moves in
     all-waiting n client (others-waiting m n legal same more.0 more.1 client taken.others was)
     (own-waiting m n client step same (open_of (moment_of m) client) turn.said taken)
-
-pub taken-waiting-ok : {A E : Type 0} (r : Result A E) (m n : MachineParts) (client : ℕ) (step : Step) → IsLegal m
-    → AreOthersWaiting client m
-    → OnOk r (IsSameRun m n) → OnOk r (TakesAt m.state.store.shards step client m n) → OnOk r (Turn m n client None)
-    → OnOk r (AreWaiting n.state.store.shards (moment_of n))
-taken-waiting-ok (Ok x) m n client step legal was same takes turn = taken-waiting m n client step legal same was takes turn
-taken-waiting-ok (Err e) m n client step legal was same takes turn = tt
 
 -- once a request may have opened
 pub opened-waiting : (m n : MachineParts) (client : ℕ) (begins : Option Request) → IsLegal m → IsSameRun m n

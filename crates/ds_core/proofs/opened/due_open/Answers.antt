@@ -1,7 +1,6 @@
 use Rattle.std.proofs.Common.{subst, Some, sym}
-use Rattle.ds_core.specs.Machines.{IsOpen}
+use Rattle.ds_core.specs.Machines.{IsOpen, IsDueNow}
 use Rattle.ds_core.specs.Witnesses.{IsToldNow}
-use Rattle.ds_core.specs.Machines.{IsDueNow}
 use Rattle.ds_machine.proofs.OperationPlans.{gathered_there}
 use Rattle.ds_core.proofs.Ended.{due-now, told-due}
 use Rattle.ds_core.proofs.Places.{open-viewed}

@@ -1,10 +1,11 @@
 use Rattle.std.proofs.Common.{◌<◌, arith, length, subst, sym, Some}
 use Rattle.ds_core.specs.Machines.{IsDueNow, MachineParts}
 use Rattle.ds_core.specs.Witnesses.{IsToldNow}
+use Rattle.ds_core.proofs.Calls.{ok-then}
 use Rattle.ds_core.proofs.OneClient.{client-open}
 use Rattle.ds_core.proofs.GatheredSteps.{called-due, called-own, called-still}
 use Rattle.ds_core.proofs.Turns.{turn-silent}
-use Rattle.ds_core.proofs.Taking.{replies-none, replies-ok}
+use Rattle.ds_core.proofs.Taking.{replies-none, replies-still}
 use Rattle.ds_core.proofs.TimedSteps.{timed-still, timed-told, timed-ended, timed-quiet}
 use Rattle.ds_core.proofs.machine.Machine.advance.Goals as goal
 use Rattle.ds_core.proofs.Ended.{ends-none, ends-waits, reply-due}
@@ -65,9 +66,9 @@ returns-in-Some-Waits c =
 
 pub returns-in-Some-Reply-clause-timed : goal.returns-in-Some-Reply-clause-timed
 returns-in-Some-Reply-clause-timed c =
-    replies-ok c.say.result c.args.step c.args.client c.args.self.now _ c.say.new.self
+    ok-then c.say.result (replies-still c.args.step c.args.client c.args.self.now _ c.say.new.self
     (timed-still _ _ c.self.view_is c.requires.legal c.args.client c.requires.client c.due_open.new.state c.due_open.ensures.store
-    c.due_open.ensures.counts)
+    c.due_open.ensures.counts))
     (c.say.ensures.timed c.args.step
     (timed-told _ _ c.self.view_is c.requires.legal c.args.client c.requires.client c.due_open.new.state
     c.index-session.result.now c.index-open.result.now c.args.step c.in-Some-Reply.plan.body c.in-Some-Reply.plan.effect
@@ -78,8 +79,8 @@ returns-in-Some-Reply-clause-timed c =
 
 pub returns-in-Some-Reply-clause-ended : goal.returns-in-Some-Reply-clause-ended
 returns-in-Some-Reply-clause-ended c =
-    timed-ended _ _ c.self.view_is c.requires.legal c.args.client c.requires.client c.say.result c.due_open.new.state c.args.step
-    c.say.new.self c.due_open.ensures.store c.due_open.ensures.counts
+    ok-then c.say.result (timed-ended _ _ c.self.view_is c.requires.legal c.args.client c.requires.client c.due_open.new.state c.args.step
+    c.say.new.self c.due_open.ensures.store c.due_open.ensures.counts)
     (c.say.ensures.ended c.args.step
     (timed-told _ _ c.self.view_is c.requires.legal c.args.client c.requires.client c.due_open.new.state
     c.index-session.result.now c.index-open.result.now c.args.step c.in-Some-Reply.plan.body c.in-Some-Reply.plan.effect

@@ -31,8 +31,8 @@ steps-preserved c =
     record {
       legal = taken.legal;
       same = same-run c.args.self.now m o c.steps.invariant.same (same-run m n o found.same taken.same);
-      waiting = taken-waiting n o c.args.client c.in-Some.step found.legal taken.same
-          (λ k. inr (still-waiting m n found.still c.steps.invariant.waiting k)) taken.timed taken.turn;
+      waiting = taken-waiting n o c.args.client c.in-Some.step found.legal
+          (λ k. inr (still-waiting m n found.still c.steps.invariant.waiting k)) taken.same taken.timed taken.turn;
       opens = opens-taken c.args.self.now m n o c.args.client c.steps.invariant.opens found.still taken.timed taken.turn;
       goes = goes-then c.args.self.now m o c.steps.invariant.goes (goes-then m n o (goes-still m n found.still)
           (goes-turn n o c.in-Some.step c.args.client taken.turn taken.timed taken.same waits));

@@ -1,5 +1,6 @@
 use Rattle.std.proofs.Common.{◌<◌, arith, length, subst, sym}
 use Rattle.ds_core.specs.Machines.{MachineParts}
+use Rattle.ds_core.proofs.Calls.{ok-then}
 use Rattle.ds_core.proofs.OneClient.{client-open}
 use Rattle.ds_core.proofs.GatheredSteps.{called-step, called-steppable}
 use Rattle.ds_core.proofs.TimedSteps.{timed-step, timed-steps}
@@ -27,11 +28,11 @@ returns c =
       legal = stepped.0;
       same = stepped.1;
       silent = stepped.2;
-      timed = timed-step _ _ c.self.view_is c.requires.legal c.args.client c.requires.client c.step_open.result c.step_open.new.state
-          c.args.step
-          c.index_mut.result.now c.step_open.new.opened c.shards-shards.ensures.counts c.index_mut.ensures.value
+      timed = ok-then c.step_open.result (timed-step _ _ c.self.view_is c.requires.legal c.args.client c.requires.client
+          c.step_open.new.state
+          c.args.step c.index_mut.result.now c.step_open.new.opened c.shards-shards.ensures.counts c.index_mut.ensures.value)
           c.step_open.ensures.stepped;
-      steps = timed-steps _ _ c.self.view_is c.requires.legal c.args.client c.requires.client c.step_open.result c.step_open.new.state
-          c.args.step
-          c.index_mut.result.now c.step_open.new.opened c.index_mut.ensures.value c.step_open.ensures.stepped;
+      steps = ok-then c.step_open.result (timed-steps _ _ c.self.view_is c.requires.legal c.args.client c.requires.client
+          c.step_open.new.state c.args.step c.index_mut.result.now c.step_open.new.opened c.index_mut.ensures.value)
+          c.step_open.ensures.stepped;
     }

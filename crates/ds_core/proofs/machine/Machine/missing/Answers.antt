@@ -4,8 +4,9 @@ use Rattle.ds_effects.specs.declared.gathered.Step.{Step}
 use Rattle.ds_effects.specs.declared.gathered.Step.TheVariants as steps
 use Rattle.ds_core.specs.Machines.{IsDueNow, MachineParts}
 use Rattle.ds_core.proofs.OneClient.{client-open}
+use Rattle.ds_core.proofs.Calls.{on-ok}
 use Rattle.ds_core.proofs.Ended.{next-none, next-waits}
-use Rattle.ds_core.proofs.GatheredSteps.{called-own, called-still, on-ok}
+use Rattle.ds_core.proofs.GatheredSteps.{called-own, called-still}
 use Rattle.ds_core.proofs.TimedSteps.{timed-next, timed-still, timed-waits}
 use Rattle.ds_core.proofs.Waiting.{waiting-due}
 use Rattle.ds_core.proofs.machine.Machine.missing.Goals as goal

@@ -2,9 +2,10 @@ use Rattle.std.proofs.Common.{◌<◌, ap, arith, length, subst, sym, Some}
 use Rattle.std.specs.Prelude.{get_or, is_some}
 use Rattle.ds_model.specs.Sessions.{first_session}
 use Rattle.ds_core.specs.Machines.{IsWorkOf, MachineParts}
+use Rattle.ds_core.proofs.Calls.{ok-then}
 use Rattle.ds_core.proofs.OneClient.{client-open}
 use Rattle.ds_core.proofs.GatheredSteps.{called-open}
-use Rattle.ds_core.proofs.Turns.{turn-ok}
+use Rattle.ds_core.proofs.Turns.{turn-then}
 use Rattle.ds_core.proofs.TimedSteps.{timed-open}
 use Rattle.ds_core.proofs.machine.Machine.open.Goals as goal
 
@@ -31,8 +32,9 @@ returns-clause-turn c =
     (sym c.self.view_is) (c.requires.work (first_session 0)))
     c.shards-shards.ensures.counts c.shards-shards.ensures.value c.requires.lawful (ap is_some c.requires.closed)
     c.in_ok-open_request.ensures in
-    turn-ok c.advance.result c.args.self.now _ c.advance.new.self c.args.client (Some c.args.request)
-    (client-open c.args.self.now c.requires.legal c.args.client c.requires.client) opened.1 c.advance.ensures.turn
+    ok-then c.advance.result (turn-then c.args.self.now _ c.advance.new.self c.args.client (Some c.args.request)
+    (client-open c.args.self.now c.requires.legal c.args.client c.requires.client) opened.1)
+    c.advance.ensures.turn
 
 pub returns-clause-timed : goal.returns-clause-timed
 returns-clause-timed c =

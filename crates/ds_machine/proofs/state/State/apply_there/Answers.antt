@@ -1,4 +1,4 @@
-use Rattle.std.proofs.Common.{◌≡◌, ◌+◌, ◌∙◌, ◌≤◌, Bool, true, false, ap, arith, sym, subst, length}
+use Rattle.std.proofs.Common.{◌≡◌, ◌+◌, ◌∙◌, ◌<◌, ◌≤◌, Bool, rules, true, false, ap, arith, sym, subst, length}
 use Rattle.std.specs.Prelude.{◌&&◌, nat_lt}
 use Rattle.std.proofs.lemmas.Bool.{lt-ltb}
 use Rattle.ds_applied.specs.AppliedLists.{AppliedParts}
@@ -19,29 +19,22 @@ pub returns-in_err-pull-clause-grows : goal.returns-in_err-pull-clause-grows
 returns-in_err-pull-clause-grows c = subst (AreUpTo c.args.self.now.applied.counts) (sym c.pull.ensures.counts)
     (up_to-same c.args.self.now.applied.counts)
 
-pub returns-then-count-entries-clause-applied : goal.returns-then-count-entries-clause-applied
-returns-then-count-entries-clause-applied c =
-    both (nat_lt c.args.shard c.args.self.now.store.shards) (is_pending (shown c.args.self.now) c.args.shard) _
-    (lt-ltb c.args.shard c.args.self.now.store.shards (omega (arith, c.if-shard-shards.false, c.shards.ensures.value)))
-    (none_pending c.args.self.now c.pull.new.self c.args.shard c.count.result c.entries.result
-    (subst IsState c.self.view_is c.self.invariant)
-    c.in_ok-pull.ensures.pulled (omega (arith, c.if-shard-shards.false, c.shards.ensures.value)) c.pull.ensures.store c.pull.ensures.counts
-    (c.count.ensures.value ∙ ap (λ (st : StateParts). count_of st.applied.counts c.args.shard) c.self.view_is)
-    (c.entries.ensures ∙ ap (λ (st : StateParts). length (list_of st.applied.lists c.args.shard)) c.self.view_is)
-    c.if-count-entries.true)
-
-pub returns-then-count-entries-clause-counts : goal.returns-then-count-entries-clause-counts
-returns-then-count-entries-clause-counts c =
-    none_applied c.args.self.now c.pull.new.self c.args.shard c.count.result c.entries.result
-    (subst IsState c.self.view_is c.self.invariant)
-    c.in_ok-pull.ensures.pulled (omega (arith, c.if-shard-shards.false, c.shards.ensures.value)) c.pull.ensures.store c.pull.ensures.counts
-    (c.count.ensures.value ∙ ap (λ (st : StateParts). count_of st.applied.counts c.args.shard) c.self.view_is)
-    (c.entries.ensures ∙ ap (λ (st : StateParts). length (list_of st.applied.lists c.args.shard)) c.self.view_is)
-    c.if-count-entries.true
-
-pub returns-then-count-entries-clause-grows : goal.returns-then-count-entries-clause-grows
-returns-then-count-entries-clause-grows c = subst (AreUpTo c.args.self.now.applied.counts) (sym c.pull.ensures.counts)
-    (up_to-same c.args.self.now.applied.counts)
+pub returns-then-count-entries : goal.returns-then-count-entries
+returns-then-count-entries c =
+    let below : c.args.shard < c.args.self.now.store.shards = omega (arith, c.if-shard-shards.false, c.shards.ensures.value) in
+    let is = subst IsState c.self.view_is c.self.invariant in
+    let counted = c.count.ensures.value ∙ ap (λ (st : StateParts). count_of st.applied.counts c.args.shard) c.self.view_is in
+    let listed = c.entries.ensures ∙ ap (λ (st : StateParts). length (list_of st.applied.lists c.args.shard)) c.self.view_is in
+    let there = lt-ltb c.args.shard c.args.self.now.store.shards below in
+    record {
+      applied = both (nat_lt c.args.shard c.args.self.now.store.shards) (is_pending (shown c.args.self.now) c.args.shard) _ there
+          (none_pending c.args.self.now c.pull.new.self c.args.shard c.count.result c.entries.result is
+          c.in_ok-pull.ensures.pulled below c.pull.ensures.store c.pull.ensures.counts counted listed c.if-count-entries.true);
+      store = c.pull.ensures.store;
+      counts = none_applied c.args.self.now c.pull.new.self c.args.shard c.count.result c.entries.result is
+          c.in_ok-pull.ensures.pulled below c.pull.ensures.store c.pull.ensures.counts counted listed c.if-count-entries.true;
+      grows = subst (AreUpTo c.args.self.now.applied.counts) (sym c.pull.ensures.counts) (up_to-same c.args.self.now.applied.counts);
+    }
 
 pub returns-in_err-apply_one-clause-grows : goal.returns-in_err-apply_one-clause-grows
 returns-in_err-apply_one-clause-grows c =
@@ -49,33 +42,28 @@ returns-in_err-apply_one-clause-grows c =
     (sym (ap (λ (a : AppliedParts). a.counts) c.in_err-apply_one.ensures.err ∙ ap (λ (st : StateParts). st.applied.counts) c.self.view_is
     ∙ c.pull.ensures.counts)) (up_to-same c.args.self.now.applied.counts)
 
-pub returns-clause-applied : goal.returns-clause-applied
-returns-clause-applied c =
-    both (nat_lt c.args.shard c.args.self.now.store.shards) (is_pending (shown c.args.self.now) c.args.shard) _
-    (lt-ltb c.args.shard c.args.self.now.store.shards (omega (arith, c.if-shard-shards.false, c.shards.ensures.value)))
-    (some_pending c.args.self.now c.pull.new.self c.args.shard c.count.result c.entries.result
-    (subst IsState c.self.view_is c.self.invariant)
-    c.in_ok-pull.ensures.pulled (omega (arith, c.if-shard-shards.false, c.shards.ensures.value)) c.pull.ensures.store c.pull.ensures.counts
-    (c.count.ensures.value ∙ ap (λ (st : StateParts). count_of st.applied.counts c.args.shard) c.self.view_is)
-    (c.entries.ensures ∙ ap (λ (st : StateParts). length (list_of st.applied.lists c.args.shard)) c.self.view_is)
-    c.if-count-entries.false)
-
-pub returns-clause-counts : goal.returns-clause-counts
-returns-clause-counts c =
-    one_applied c.args.self.now c.pull.new.self c.args.shard c.count.result c.entries.result
-    (subst IsState c.self.view_is c.self.invariant)
-    c.in_ok-pull.ensures.pulled (omega (arith, c.if-shard-shards.false, c.shards.ensures.value)) c.pull.ensures.store c.pull.ensures.counts
-    (c.count.ensures.value ∙ ap (λ (st : StateParts). count_of st.applied.counts c.args.shard) c.self.view_is)
-    (c.entries.ensures ∙ ap (λ (st : StateParts). length (list_of st.applied.lists c.args.shard)) c.self.view_is)
-    c.if-count-entries.false c.apply_one.new.self.counts
-    (ap (λ (a : AppliedParts). a.counts) c.in_ok-apply_one.ensures.ok
-    ∙ ap (λ (st : StateParts). raised_at c.args.shard (count_of st.applied.counts c.args.shard + 1) st.applied.counts) c.self.view_is)
-
-pub returns-clause-grows : goal.returns-clause-grows
-returns-clause-grows c =
-    subst (λ cs. AreUpTo cs c.apply_one.new.self.counts) (ap (λ (st : StateParts). st.applied.counts) c.self.view_is
-    ∙ c.pull.ensures.counts)
-    (one_more c.self.inside.applied c.apply_one.new.self c.args.shard c.in_ok-apply_one.ensures.ok)
+pub returns : goal.returns
+returns c =
+    let below : c.args.shard < c.args.self.now.store.shards = omega (arith, c.if-shard-shards.false, c.shards.ensures.value) in
+    let is = subst IsState c.self.view_is c.self.invariant in
+    let counted = c.count.ensures.value ∙ ap (λ (st : StateParts). count_of st.applied.counts c.args.shard) c.self.view_is in
+    let listed = c.entries.ensures ∙ ap (λ (st : StateParts). length (list_of st.applied.lists c.args.shard)) c.self.view_is in
+    let there = lt-ltb c.args.shard c.args.self.now.store.shards below in
+    record {
+      applied = both (nat_lt c.args.shard c.args.self.now.store.shards) (is_pending (shown c.args.self.now) c.args.shard) _ there
+          (some_pending c.args.self.now c.pull.new.self c.args.shard c.count.result c.entries.result is
+          c.in_ok-pull.ensures.pulled below c.pull.ensures.store c.pull.ensures.counts counted listed c.if-count-entries.false);
+      store = search rules;
+      counts = one_applied c.args.self.now c.pull.new.self c.args.shard c.count.result c.entries.result is
+          c.in_ok-pull.ensures.pulled below c.pull.ensures.store c.pull.ensures.counts counted listed c.if-count-entries.false
+          c.apply_one.new.self.counts
+          (ap (λ (a : AppliedParts). a.counts) c.in_ok-apply_one.ensures.ok
+          ∙ ap (λ (st : StateParts). raised_at c.args.shard (count_of st.applied.counts c.args.shard + 1) st.applied.counts)
+          c.self.view_is);
+      grows = subst (λ cs. AreUpTo cs c.apply_one.new.self.counts) (ap (λ (st : StateParts). st.applied.counts) c.self.view_is
+          ∙ c.pull.ensures.counts)
+          (one_more c.self.inside.applied c.apply_one.new.self c.args.shard c.in_ok-apply_one.ensures.ok);
+    }
 
 pub returns-then-shard-shards-clause-counts : goal.returns-then-shard-shards-clause-counts
 returns-then-shard-shards-clause-counts c =
