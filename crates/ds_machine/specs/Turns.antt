@@ -27,8 +27,7 @@ use Rattle.ds_machine.specs.Told.{AreViewsOf, IsTold}
 use Rattle.ds_machine.specs.WritePlans.{IsWritable}
 
 -- The request asks this: nothing refuses it but what a step may find, each commit of the journal was looked at, and what its client has
--- seen
--- and what it has gathered is there.
+-- seen and what it has gathered is there.
 pub record IsTurn (st : StateParts) (t : Turn) (o : Operation) : Type 0 where
   pub lawful : IsLawfulOperation o
   pub shard : IsTrue (has_shard st.store.shards (call_of o))
@@ -67,8 +66,7 @@ pub record IsCommitting (st : StateParts) (t : Turn) (txn : TxnParts) : Type 0 w
   pub by_step : t.taken ≡ steps.Commit
 
 -- the counts that the request viewed, one for each shard, none of them below the seen one or above what is applied, and the last commit
--- that
--- they count
+-- that they count
 pub record AreSeenIn (st : StateParts) (t : Turn) (c : CountsSeen) : Type 0 where
   pub viewed : AreViewsOf t.gathered.now c.counts
   pub risen : AreUpTo t.session.now.counts c.counts

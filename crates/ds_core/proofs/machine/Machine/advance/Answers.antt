@@ -1,4 +1,4 @@
-use Rattle.std.proofs.Common.{◌<◌, arith, length, subst, sym, Some}
+use Rattle.std.proofs.Common.{◌<◌, arith, length, rules, subst, sym, Some}
 use Rattle.ds_core.specs.Machines.{IsDueNow, MachineParts}
 use Rattle.ds_core.specs.Witnesses.{IsToldNow}
 use Rattle.ds_core.proofs.Calls.{ok-then}
@@ -17,17 +17,11 @@ index-open-requires c =
     (client-open c.args.self.now c.requires.legal c.args.client c.requires.client) in
     omega (arith, there, c.self.inside.opens.ok.0)
 
-pub due_open-requires-clause-seen : goal.due_open-requires-clause-seen
-due_open-requires-clause-seen c =
+pub due_open-requires : goal.due_open-requires
+due_open-requires c =
     let own = called-own _ _ c.self.view_is c.requires.legal c.args.client c.requires.client
     c.index-session.result.now c.index-open.result.now c.index-session.ensures c.index-open.ensures in
-    own.0
-
-pub due_open-requires-clause-lawful : goal.due_open-requires-clause-lawful
-due_open-requires-clause-lawful c =
-    let own = called-own _ _ c.self.view_is c.requires.legal c.args.client c.requires.client
-    c.index-session.result.now c.index-open.result.now c.index-session.ensures c.index-open.ensures in
-    own.1
+    record { seen = own.0; lawful = own.1 }
 
 pub say-requires-clause-legal : goal.say-requires-clause-legal
 say-requires-clause-legal c =
@@ -64,30 +58,24 @@ returns-in-Some-Waits c =
           c.in-Some-Waits.field-0-is c.in-Some-Waits.ensures.due));
     }
 
-pub returns-in-Some-Reply-clause-timed : goal.returns-in-Some-Reply-clause-timed
-returns-in-Some-Reply-clause-timed c =
-    ok-then c.say.result (replies-still c.args.step c.args.client c.args.self.now _ c.say.new.self
-    (timed-still _ _ c.self.view_is c.requires.legal c.args.client c.requires.client c.due_open.new.state c.due_open.ensures.store
-    c.due_open.ensures.counts))
-    (c.say.ensures.timed c.args.step
-    (timed-told _ _ c.self.view_is c.requires.legal c.args.client c.requires.client c.due_open.new.state
+pub returns-in-Some-Reply : goal.returns-in-Some-Reply
+returns-in-Some-Reply c =
+    let told = timed-told _ _ c.self.view_is c.requires.legal c.args.client c.requires.client c.due_open.new.state
     c.index-session.result.now c.index-open.result.now c.args.step c.in-Some-Reply.plan.body c.in-Some-Reply.plan.effect
-    c.index-session.ensures
-    c.index-open.ensures (subst (λ d. IsToldNow c.due_open.new.state c.index-session.result.now c.args.step c.index-open.result.now
-    (Some d))
-    c.in-Some-Reply.field-0-is c.in-Some-Reply.ensures.told)))
-
-pub returns-in-Some-Reply-clause-ended : goal.returns-in-Some-Reply-clause-ended
-returns-in-Some-Reply-clause-ended c =
-    ok-then c.say.result (timed-ended _ _ c.self.view_is c.requires.legal c.args.client c.requires.client c.due_open.new.state c.args.step
-    c.say.new.self c.due_open.ensures.store c.due_open.ensures.counts)
-    (c.say.ensures.ended c.args.step
-    (timed-told _ _ c.self.view_is c.requires.legal c.args.client c.requires.client c.due_open.new.state
-    c.index-session.result.now c.index-open.result.now c.args.step c.in-Some-Reply.plan.body c.in-Some-Reply.plan.effect
-    c.index-session.ensures
-    c.index-open.ensures (subst (λ d. IsToldNow c.due_open.new.state c.index-session.result.now c.args.step c.index-open.result.now
-    (Some d))
-    c.in-Some-Reply.field-0-is c.in-Some-Reply.ensures.told)))
+    c.index-session.ensures c.index-open.ensures
+    (subst (λ d. IsToldNow c.due_open.new.state c.index-session.result.now c.args.step c.index-open.result.now (Some d))
+    c.in-Some-Reply.field-0-is c.in-Some-Reply.ensures.told) in
+    record {
+      legal = c.say.ensures.legal;
+      same = search rules;
+      turn = search rules;
+      timed = ok-then c.say.result (replies-still c.args.step c.args.client c.args.self.now _ c.say.new.self
+          (timed-still _ _ c.self.view_is c.requires.legal c.args.client c.requires.client c.due_open.new.state c.due_open.ensures.store
+          c.due_open.ensures.counts)) (c.say.ensures.timed c.args.step told);
+      ended = ok-then c.say.result (timed-ended _ _ c.self.view_is c.requires.legal c.args.client c.requires.client
+          c.due_open.new.state c.args.step c.say.new.self c.due_open.ensures.store c.due_open.ensures.counts)
+          (c.say.ensures.ended c.args.step told);
+    }
 
 pub returns-in-None : goal.returns-in-None
 returns-in-None c =

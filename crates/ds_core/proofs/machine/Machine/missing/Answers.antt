@@ -19,15 +19,11 @@ index-open-requires c =
     (client-open c.args.self.now c.requires.legal c.args.client c.requires.client) in
     omega (arith, there, c.self.inside.opens.ok.0)
 
-pub due_open-requires-clause-seen : goal.due_open-requires-clause-seen
-due_open-requires-clause-seen c =
-    (called-own _ _ c.self.view_is c.requires.legal c.args.client c.requires.client
-    c.index-session.result.now c.index-open.result.now c.index-session.ensures c.index-open.ensures).0
-
-pub due_open-requires-clause-lawful : goal.due_open-requires-clause-lawful
-due_open-requires-clause-lawful c =
-    (called-own _ _ c.self.view_is c.requires.legal c.args.client c.requires.client
-    c.index-session.result.now c.index-open.result.now c.index-session.ensures c.index-open.ensures).1
+pub due_open-requires : goal.due_open-requires
+due_open-requires c =
+    let own = called-own _ _ c.self.view_is c.requires.legal c.args.client c.requires.client
+    c.index-session.result.now c.index-open.result.now c.index-session.ensures c.index-open.ensures in
+    record { seen = own.0; lawful = own.1 }
 
 pub want_of_memory-requires : goal.want_of_memory-requires
 want_of_memory-requires c =
