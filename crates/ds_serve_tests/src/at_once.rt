@@ -46,9 +46,10 @@ impl Gate for Holding {
 fn meets<R: Threads + Wait + Sync>(rt: &R, alloc: Global) -> Result<bool, AllocError> {
     let text =
         b"{\"op\":\"get\",\"key\":[[\"T\",\"a\"]]}\n{\"client\":1,\"op\":\"get\",\"key\":[[\"T\",\"a\"]]}\n";
+    let bytes = ByteString::of(alloc, text)?;
     let words = words_of(alloc, &["--shards", "1", "--appliers", "0"])?;
     let mut files = no_files(alloc);
-    let mut input = MemorySource::make(ByteString::of(alloc, text)?, 1_000, Numbers::new(alloc));
+    let mut input = MemorySource::make(bytes, 1_000, Numbers::new(alloc));
     let mut output = MemorySink::make(alloc, 1_000, Numbers::new(alloc));
     let gate = Holding {
         is_answered: AtomicBool::new(false),
@@ -110,6 +111,11 @@ const SECOND_COMMITS: &[u8] = br#"{"client":0,"commit":1,"key":[["T","a"]],"line
 {"client":1,"commit":2,"line":11,"ok":"commit"}
 "#;
 
+fn one_is_committed<R: Threads + Wait + Sync>(rt: &R, alloc: Global) -> Result<bool, AllocError> {
+    let ended = served(rt, alloc, RIVALS, STEADY)?;
+    Ok(is_text(&ended, FIRST_COMMITS) || is_text(&ended, SECOND_COMMITS))
+}
+
 /// Whether just one of the two commits, so many times.
 fn one_commits<R: Threads + Wait + Sync>(
     rt: &R,
@@ -117,8 +123,7 @@ fn one_commits<R: Threads + Wait + Sync>(
     times: u32,
 ) -> Result<bool, AllocError> {
     for _ in 0..times {
-        let ended = served(rt, alloc, RIVALS, STEADY)?;
-        if !is_text(&ended, FIRST_COMMITS) && !is_text(&ended, SECOND_COMMITS) {
+        if !one_is_committed(rt, alloc)? {
             return Ok(false);
         }
     }

@@ -1,5 +1,5 @@
 //! Entries that wait to be applied, and versions that have expired, without appliers.
-use crate::serving::{STEADY, is_text, served_with, words_of};
+use crate::serving::{STEADY, ends_with, served_with, words_of};
 use ds_serve::Status;
 use std::alloc::{AllocError, Global};
 use std::sync::Wait;
@@ -96,13 +96,22 @@ fn is_answered<R: Threads + Wait + Sync>(
         &["--shards", "1", "--appliers", "0", "--window", row.window],
     )?;
     let ended = served_with(rt, alloc, words.as_slice(), row.lines, STEADY)?;
-    Ok(ended.run.status == Status::Done && is_text(&ended, row.replies))
+    Ok(ends_with(&ended, Status::Done, row.replies))
+}
+
+const ROWS: [Row; 4] = [WAITS, APPLIED_ONCE, EXPIRED, KEPT];
+
+fn are_answered<R: Threads + Wait + Sync>(rt: &R, alloc: Global) -> Result<bool, AllocError> {
+    for row in &ROWS {
+        if !is_answered(rt, alloc, row)? {
+            return Ok(false);
+        }
+    }
+    Ok(true)
 }
 
 #[test]
 fn applies_entries_late_and_keeps_a_window(rt: HostRuntime) -> Result<(), Fail> {
-    for row in [WAITS, APPLIED_ONCE, EXPIRED, KEPT] {
-        assert!(rt; is_answered(&rt, rt.alloc(), &row)?);
-    }
+    assert!(rt; are_answered(&rt, rt.alloc())?);
     Ok(())
 }

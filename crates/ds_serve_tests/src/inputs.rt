@@ -1,10 +1,12 @@
 //! Runs where nothing fails: how lines and rounds are cut, and memory enough for each reply.
 use crate::serving::{
-    FIRST, Outside, REPLIES, STEADY, commits, is_text, served, served_with, words,
+    FIRST, Outside, REPLIES, STEADY, commits, ends_with, served, served_with, words,
 };
 use ds_serve::Status;
 use std::alloc::{AllocError, Global};
+use std::sync::Wait;
 use std::test::Fail;
+use std::thread::Threads;
 
 /// Inputs, each with its replies: a carriage return before each newline; empty lines at the beginning, twice in a row, of
 /// blanks, and at the end; no last newline; nothing; empty lines alone; and a byte order mark, which is no part of a line of JSON.
@@ -34,43 +36,76 @@ const CUT: [(&[u8], &[u8]); 7] = [
     (FIRST, REPLIES),
 ];
 
-#[test]
-fn cuts_lines_and_rounds(rt: HostRuntime) -> Result<(), Fail> {
-    for read in [1, 1_000_000] {
-        let outside = Outside { read, ..STEADY };
-        for (text, replies) in CUT {
-            let ended = served(&rt, rt.alloc(), text, outside)?;
-            assert!(rt; ended.run.status == Status::Done);
-            assert!(rt; ended.run.unsent.len() == 0);
-            assert!(rt; is_text(&ended, replies));
+/// Whether an input has its replies, all of which are sent.
+fn is_cut<R: Threads + Wait + Sync>(
+    rt: &R,
+    alloc: Global,
+    row: &(&[u8], &[u8]),
+    outside: Outside,
+) -> Result<bool, AllocError> {
+    let ended = served(rt, alloc, row.0, outside)?;
+    Ok(ends_with(&ended, Status::Done, row.1) && ended.run.unsent.len() == 0)
+}
+
+/// The place of the first input that hasn't, where a read gives so many bytes.
+fn first_wrong<R: Threads + Wait + Sync>(
+    rt: &R,
+    alloc: Global,
+    read: usize,
+) -> Result<Option<usize>, AllocError> {
+    let outside = Outside { read, ..STEADY };
+    for (place, row) in CUT.iter().enumerate() {
+        if !is_cut(rt, alloc, row, outside)? {
+            return Ok(Some(place));
         }
     }
+    Ok(None)
+}
+
+#[test]
+fn cuts_lines_and_rounds(rt: HostRuntime) -> Result<(), Fail> {
+    assert_eq!(rt; first_wrong(&rt, rt.alloc(), 1)?, None);
+    assert_eq!(rt; first_wrong(&rt, rt.alloc(), 1_000_000)?, None);
     Ok(())
+}
+
+/// Whether so many commits are told of a text, and the gate sums this before and after the answers.
+fn calls_the_gate<R: Threads + Wait + Sync>(
+    rt: &R,
+    alloc: Global,
+    text: &[u8],
+    count: usize,
+    sum: u64,
+) -> Result<bool, AllocError> {
+    let ended = served(rt, alloc, text, STEADY)?;
+    Ok(commits(&ended) == Some(count) && ended.begun == sum && ended.done == sum)
 }
 
 #[test]
 fn tells_commits_and_calls_the_gate(rt: HostRuntime) -> Result<(), Fail> {
-    let ended = served(&rt, rt.alloc(), FIRST, STEADY)?;
-    assert!(rt; commits(&ended) == Some(1));
-    assert!(rt; ended.begun == 6 && ended.done == 6);
+    assert!(rt; calls_the_gate(&rt, rt.alloc(), FIRST, 1, 6)?);
     Ok(())
 }
 
 #[test]
 fn calls_the_gate_for_each_client(rt: HostRuntime) -> Result<(), Fail> {
     let text = b"{\"op\":\"settle\"}\n{\"client\":3,\"op\":\"settle\"}\n";
-    let ended = served(&rt, rt.alloc(), text, STEADY)?;
-    assert!(rt; ended.begun == 3_003 && ended.done == 3_003);
+    assert!(rt; calls_the_gate(&rt, rt.alloc(), text, 0, 3_003)?);
     Ok(())
+}
+
+fn refuses_seventeen_shards<R: Threads + Wait + Sync>(
+    rt: &R,
+    alloc: Global,
+) -> Result<bool, AllocError> {
+    let words = words(alloc, "17")?;
+    let ended = served_with(rt, alloc, words.as_slice(), FIRST, STEADY)?;
+    Ok(commits(&ended) == Some(0) && ends_with(&ended, Status::Usage, b""))
 }
 
 #[test]
 fn begins_no_run_with_too_many_shards(rt: HostRuntime) -> Result<(), Fail> {
-    let words = words(rt.alloc(), "17")?;
-    let usage = served_with(&rt, rt.alloc(), words.as_slice(), FIRST, STEADY)?;
-    assert!(rt; usage.run.status == Status::Usage);
-    assert!(rt; commits(&usage) == Some(0));
-    assert!(rt; is_text(&usage, b""));
+    assert!(rt; refuses_seventeen_shards(&rt, rt.alloc())?);
     Ok(())
 }
 
@@ -96,13 +131,19 @@ fn put_replies(alloc: Global, count: u64) -> Result<String, AllocError> {
     Ok(text)
 }
 
+fn answers_puts<R: Threads + Wait + Sync>(
+    rt: &R,
+    alloc: Global,
+    count: usize,
+) -> Result<bool, AllocError> {
+    let text = puts(alloc, count as u64)?;
+    let replies = put_replies(alloc, count as u64)?;
+    let ended = served(rt, alloc, text.as_bytes(), STEADY)?;
+    Ok(commits(&ended) == Some(count) && ends_with(&ended, Status::Done, replies.as_bytes()))
+}
+
 #[test]
 fn has_memory_for_two_thousand_lines(rt: HostRuntime) -> Result<(), Fail> {
-    let text = puts(rt.alloc(), 2_000)?;
-    let replies = put_replies(rt.alloc(), 2_000)?;
-    let ended = served(&rt, rt.alloc(), text.as_bytes(), STEADY)?;
-    assert!(rt; ended.run.status == Status::Done);
-    assert!(rt; commits(&ended) == Some(2_000));
-    assert!(rt; is_text(&ended, replies.as_bytes()));
+    assert!(rt; answers_puts(&rt, rt.alloc(), 2_000)?);
     Ok(())
 }

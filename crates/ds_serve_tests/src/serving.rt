@@ -1,7 +1,7 @@
 //! A run over a source and a sink in memory.
 use ds_base::{ByteString, ByteStrings, Names, Numbers};
 use ds_io::{Gate, MemoryFiles, MemorySink, MemorySource};
-use ds_serve::{Run, serve};
+use ds_serve::{Run, Status, serve};
 use std::alloc::{AllocError, Global};
 use std::sync::Wait;
 use std::sync::atomic::{AtomicU64, Ordering};
@@ -40,10 +40,10 @@ pub const ROUND_REPLIES: [&[u8]; 3] = [
 "#,
 ];
 
-/// The pieces one behind another.
-pub(crate) fn joined(alloc: Global, pieces: &[&[u8]]) -> Result<Vec<u8>, AllocError> {
+/// The first of the pieces, so many, one behind another.
+pub(crate) fn joined(alloc: Global, pieces: &[&[u8]], count: usize) -> Result<Vec<u8>, AllocError> {
     let mut text = Vec::new(alloc);
-    for piece in pieces {
+    for piece in pieces.iter().take(count) {
         text.extend_from_slice(piece)?;
     }
     Ok(text)
@@ -132,11 +132,12 @@ pub(crate) fn served_with<R: Threads + Wait + Sync>(
     text: &[u8],
     outside: Outside,
 ) -> Result<Ended, AllocError> {
+    let failing_read = only(alloc, outside.failing_read)?;
+    let failing_write = only(alloc, outside.failing_write)?;
+    let bytes = ByteString::of(alloc, text)?;
     let mut files = no_files(alloc);
-    let fails = only(alloc, outside.failing_read)?;
-    let mut input = MemorySource::make(ByteString::of(alloc, text)?, outside.read.max(1), fails);
-    let fails = only(alloc, outside.failing_write)?;
-    let mut written = MemorySink::make(alloc, outside.written, fails);
+    let mut input = MemorySource::make(bytes, outside.read.max(1), failing_read);
+    let mut written = MemorySink::make(alloc, outside.written, failing_write);
     let gate = Summing {
         begun: AtomicU64::new(0),
         done: AtomicU64::new(0),
@@ -185,6 +186,11 @@ pub(crate) fn is_text(ended: &Ended, text: &[u8]) -> bool {
         }
     }
     true
+}
+
+/// Whether the run ended with this status, and the taken bytes, followed by the unsent ones, are this text.
+pub(crate) fn ends_with(ended: &Ended, status: Status, text: &[u8]) -> bool {
+    ended.run.status == status && is_text(ended, text)
 }
 
 /// How many commits the run's journal has.

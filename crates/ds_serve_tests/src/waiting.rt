@@ -4,8 +4,11 @@ ghost use Rattle.std.specs.Prelude.{None};
 use crate::serving::{ROUND_REPLIES, ROUNDS, no_files, words};
 use ds_io::{Failed, NoGate, Sink, Source};
 use ds_serve::{Status, serve};
+use std::alloc::{AllocError, Global};
+use std::sync::Wait;
 use std::sync::atomic::{AtomicU64, Ordering};
 use std::test::Fail;
+use std::thread::Threads;
 
 /// Gives a round a call. A call fails whose round's replies to those before were not taken yet.
 #[derive(Drop)]
@@ -65,12 +68,12 @@ impl Sink for Counting<'_> {
     }
 }
 
-#[test]
-fn writes_a_round_before_it_reads_the_next(rt: HostRuntime) -> Result<(), Fail> {
+/// Whether no call of the source fails, all is taken, and the sink is flushed once a round.
+fn waits<R: Threads + Wait + Sync>(rt: &R, alloc: Global) -> Result<bool, AllocError> {
+    let words = words(alloc, "1")?;
     let taken = AtomicU64::new(0);
     let flushes = AtomicU64::new(0);
-    let words = words(rt.alloc(), "1")?;
-    let mut files = no_files(rt.alloc());
+    let mut files = no_files(alloc);
     let mut input = Waiting {
         round: 0,
         taken: &taken,
@@ -81,16 +84,20 @@ fn writes_a_round_before_it_reads_the_next(rt: HostRuntime) -> Result<(), Fail> 
         flushes: &flushes,
     };
     let run = serve(
-        &rt,
-        rt.alloc(),
+        rt,
+        alloc,
         words.as_slice(),
         &mut files,
         &mut input,
         &mut output,
         &NoGate,
     );
-    assert!(rt; run.status == Status::Done);
-    assert!(rt; taken.load(Ordering::SeqCst) == 238);
-    assert!(rt; flushes.load(Ordering::SeqCst) == 3);
+    let counted = taken.load(Ordering::SeqCst) == 238 && flushes.load(Ordering::SeqCst) == 3;
+    Ok(run.status == Status::Done && counted)
+}
+
+#[test]
+fn writes_a_round_before_it_reads_the_next(rt: HostRuntime) -> Result<(), Fail> {
+    assert!(rt; waits(&rt, rt.alloc())?);
     Ok(())
 }
