@@ -2,8 +2,7 @@
 ghost use Rattle.std.specs.Prelude.{◌≡◌, ◌+◌, ◌<◌, ◌≤◌, ◌^◌, IfOk, OnOk};
 
 use crate::look::{Want, stands};
-use crate::made::{first, fourth, second, third};
-use ds_base::NoMemory;
+use crate::made::{WRITTEN, Written, entry};
 use ds_indexdef::Defs;
 use ds_io::Steps;
 use ds_log::Entry;
@@ -13,16 +12,36 @@ use std::marker::Brand;
 use std::sync::ledger::{Blank, Ledger};
 use std::test::Fail;
 
-/// Absorbs an entry, and where it is refused for want of memory, which changes nothing, once more.
-fn absorb(shard: &mut Shard, entry: &Entry) -> Result<(), NoMemory>
+/// Absorbs what a commit writes, and where it is refused for want of memory, which changes nothing, once more.
+fn absorb(alloc: Global, shard: &mut Shard, written: &Written) -> Result<(), Fail>
     requires { shard.old.count < 2 ^ 62 }
     ensures count { OnOk result (shard.new.count ≡ shard.old.count + 1) }
-    ensures window { shard.new.window ≡ shard.old.window }
+    ensures window { OnOk result (shard.new.window ≡ shard.old.window) }
+{
+    let entry = entry(alloc, written)?;
+    absorb_entry(shard, &entry)
+}
+
+fn absorb_entry(shard: &mut Shard, entry: &Entry) -> Result<(), Fail>
+    requires { shard.old.count < 2 ^ 62 }
+    ensures count { OnOk result (shard.new.count ≡ shard.old.count + 1) }
+    ensures window { OnOk result (shard.new.window ≡ shard.old.window) }
 {
     if shard.absorb(entry).is_ok() {
         return Ok(());
     }
-    shard.absorb(entry)
+    Ok(shard.absorb(entry)?)
+}
+
+fn absorb_four(alloc: Global, shard: &mut Shard) -> Result<(), Fail>
+    requires { shard.old.count ≡ 0 }
+    ensures count { OnOk result (shard.new.count ≡ 4) }
+    ensures window { OnOk result (shard.new.window ≡ shard.old.window) }
+{
+    absorb(alloc, shard, &WRITTEN[0])?;
+    absorb(alloc, shard, &WRITTEN[1])?;
+    absorb(alloc, shard, &WRITTEN[2])?;
+    absorb(alloc, shard, &WRITTEN[3])
 }
 
 /// A shard that absorbed four entries.
@@ -33,10 +52,7 @@ fn after_four(alloc: Global, window: u64) -> Result<Shard, Fail>
     ensures window { IfOk result (λ s. s.window ≡ window) }
 {
     let mut shard = Shard::make(alloc, &Defs::new(alloc), window)?;
-    absorb(&mut shard, &first(alloc)?)?;
-    absorb(&mut shard, &second(alloc)?)?;
-    absorb(&mut shard, &third(alloc)?)?;
-    absorb(&mut shard, &fourth(alloc)?)?;
+    absorb_four(alloc, &mut shard)?;
     Ok(shard)
 }
 
@@ -113,18 +129,32 @@ fn kept_stand<L: Ledger>(blank: Blank, alloc: Global, shard: &Shard) -> Result<b
     stand_from(alloc, shard, 2, &mut steps)
 }
 
+/// Whether all stamps stand, and the count and the last commit are right.
+fn is_whole(alloc: Global, shard: &Shard) -> Result<bool, Fail>
+    requires { shard.now.count + 1 ≤ shard.now.window }
+{
+    let stand = all_stand::<Brand>(Blank::new(1), alloc, shard)?;
+    Ok(stand && shard.count() == 4 && shard.last() == 17)
+}
+
+fn stands_in_five(alloc: Global) -> Result<bool, Fail> {
+    let shard = after_four(alloc, 5)?;
+    is_whole(alloc, &shard)
+}
+
 #[test]
 fn stands_at_every_stamp(rt: HostRuntime) -> Result<(), Fail> {
-    let shard = after_four(rt.alloc(), 5)?;
-    assert!(rt; all_stand::<Brand>(Blank::new(1), rt.alloc(), &shard)?);
-    assert_eq!(rt; shard.count(), 4);
-    assert_eq!(rt; shard.last(), 17);
+    assert!(rt; stands_in_five(rt.alloc())?);
     Ok(())
+}
+
+fn stands_in_three(alloc: Global) -> Result<bool, Fail> {
+    let shard = after_four(alloc, 3)?;
+    kept_stand::<Brand>(Blank::new(1), alloc, &shard)
 }
 
 #[test]
 fn stands_in_its_window(rt: HostRuntime) -> Result<(), Fail> {
-    let shard = after_four(rt.alloc(), 3)?;
-    assert!(rt; kept_stand::<Brand>(Blank::new(1), rt.alloc(), &shard)?);
+    assert!(rt; stands_in_three(rt.alloc())?);
     Ok(())
 }

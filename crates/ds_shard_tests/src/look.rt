@@ -2,7 +2,8 @@
 ghost use Rattle.std.specs.Prelude.{◌≡◌, ◌+◌, ◌≤◌, IsTrue};
 ghost use Rattle.ds_shard.specs.Shards.{keeps};
 
-use crate::made::{key, number_of};
+use crate::made::number_of;
+use crate::parts::key;
 use ds_base::ByteString;
 use ds_io::Steps;
 use ds_rows::Tables;
@@ -40,6 +41,20 @@ fn count_rows<L: Ledger>(
     Ok(20)
 }
 
+/// The number of the entity with this name; none where there is no such entity.
+fn number_at<L: Ledger>(
+    alloc: Global,
+    tables: &ShardTables<'_, L>,
+    at: u64,
+    name: &str,
+    steps: &mut Steps<L>,
+) -> Result<Option<i64>, Fail>
+    requires { IsTrue (keeps tables.now at) }
+{
+    let key = key(alloc, name)?;
+    Ok(number_of(tables.entity(at, &key, steps)))
+}
+
 /// Whether it shows what is wanted.
 fn has<L: Ledger>(
     alloc: Global,
@@ -50,10 +65,8 @@ fn has<L: Ledger>(
 ) -> Result<bool, Fail>
     requires { IsTrue (keeps tables.now at) }
 {
-    let a = key(alloc, "a")?;
-    let b = key(alloc, "b")?;
-    let first = number_of(tables.entity(at, &a, steps));
-    let second = number_of(tables.entity(at, &b, steps));
+    let first = number_at(alloc, tables, at, "a", steps)?;
+    let second = number_at(alloc, tables, at, "b", steps)?;
     let rows = count_rows(alloc, tables, at, steps)?;
     Ok(first == want.a && second == want.b && rows == want.rows)
 }

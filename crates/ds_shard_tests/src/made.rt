@@ -1,73 +1,66 @@
 //! Small entities, writes and entries for the tests.
-use ds_base::{Elem, Elems, Ident, Key, TextString, Value, Values};
+ghost use Rattle.std.specs.Prelude.{◌≡◌, [], ◌∷◌, IfOk};
+
+use crate::parts::key;
+use ds_base::{Key, NoMemory, TextString, Value, Values};
 use ds_entity::{Entity, Properties, Property};
 use ds_log::{Entry, Write, Writes};
 use std::alloc::Global;
 use std::test::Fail;
 
-/// The key [T,name].
-pub(crate) fn key(alloc: Global, name: &str) -> Result<Key, Fail> {
-    let kind = TextString::of(alloc, "T")?;
-    let ident = Ident::Name(TextString::of(alloc, name)?);
-    let path = Elems::from(vec![in alloc; Elem { kind, ident }]?);
-    Ok(Key::new(alloc, path)?)
-}
-
-/// A put of the entity with this key and one property, a number.
-fn put(alloc: Global, name: &str, number: i64) -> Result<Write, Fail> {
+/// The property n with this number.
+fn properties(alloc: Global, number: i64) -> Result<Properties, NoMemory>
+    ensures { IfOk result (λ list. (one : _) × (list ≡ one ∷ [])) }
+{
+    let values = Values::from(vec![in alloc; Value::Int(number)]?);
+    let name = TextString::of(alloc, "n")?;
     let property = Property {
-        name: TextString::of(alloc, "n")?,
+        name,
         indexed: true,
-        values: Values::from(vec![in alloc; Value::Int(number)]?),
+        values,
     };
-    let properties = Properties::from(vec![in alloc; property]?);
-    let entity = Entity::new(key(alloc, name)?, properties)?;
-    Ok(Write::Put(entity))
+    Ok(Properties::from(vec![in alloc; property]?))
 }
 
-/// A delete of this key.
-fn delete(alloc: Global, name: &str) -> Result<Write, Fail> {
-    Ok(Write::Delete(key(alloc, name)?))
+/// A put of the entity with this key and one property, a number; a delete of the key where there is none.
+fn write(alloc: Global, name: &str, number: Option<i64>) -> Result<Write, Fail> {
+    let key = key(alloc, name)?;
+    match number {
+        Some(number) => put(key, properties(alloc, number)?),
+        None => Ok(Write::Delete(key)),
+    }
 }
 
-/// What the commit of this number writes to a group.
-fn entry(alloc: Global, commit: u64, writes: Vec<Write>) -> Result<Entry, Fail> {
+fn put(key: Key, properties: Properties) -> Result<Write, Fail>
+    requires { (one : _) × (properties ≡ one ∷ []) }
+{
+    Ok(Write::Put(Entity::new(key, properties)?))
+}
+
+/// The number of a commit, and the names that it writes, each with its number, or none where it deletes.
+pub(crate) type Written = (u64, &'static [(&'static str, Option<i64>)]);
+
+/// Commit 11 puts `a`, commit 12 puts `b` and replaces `a`, commit 14 deletes `b`, and commit 17 replaces `a` and deletes it, and puts `b`
+/// again.
+pub(crate) const WRITTEN: [Written; 4] = [
+    (11, &[("a", Some(1))]),
+    (12, &[("b", Some(5)), ("a", Some(2))]),
+    (14, &[("b", None)]),
+    (17, &[("a", Some(3)), ("a", None), ("b", Some(7))]),
+];
+
+/// What a commit writes to a group.
+pub(crate) fn entry(alloc: Global, written: &Written) -> Result<Entry, Fail> {
+    let mut writes = Vec::new(alloc);
+    for (name, number) in written.1 {
+        writes.push(write(alloc, *name, *number)?)?;
+    }
+    let group = key(alloc, "g")?;
     Ok(Entry {
-        commit,
-        group: key(alloc, "g")?,
+        commit: written.0,
+        group,
         writes: Writes::from(writes),
     })
-}
-
-/// Commit 11 puts `a`.
-pub(crate) fn first(alloc: Global) -> Result<Entry, Fail> {
-    let mut writes = Vec::new(alloc);
-    writes.push(put(alloc, "a", 1)?)?;
-    entry(alloc, 11, writes)
-}
-
-/// Commit 12 puts `b` and replaces `a`.
-pub(crate) fn second(alloc: Global) -> Result<Entry, Fail> {
-    let mut writes = Vec::new(alloc);
-    writes.push(put(alloc, "b", 5)?)?;
-    writes.push(put(alloc, "a", 2)?)?;
-    entry(alloc, 12, writes)
-}
-
-/// Commit 14 deletes `b`.
-pub(crate) fn third(alloc: Global) -> Result<Entry, Fail> {
-    let mut writes = Vec::new(alloc);
-    writes.push(delete(alloc, "b")?)?;
-    entry(alloc, 14, writes)
-}
-
-/// Commit 17 replaces `a` and deletes it, and puts `b` again.
-pub(crate) fn fourth(alloc: Global) -> Result<Entry, Fail> {
-    let mut writes = Vec::new(alloc);
-    writes.push(put(alloc, "a", 3)?)?;
-    writes.push(delete(alloc, "a")?)?;
-    writes.push(put(alloc, "b", 7)?)?;
-    entry(alloc, 17, writes)
 }
 
 /// The number of such an entity; none where it isn't one.

@@ -1,5 +1,5 @@
 //! A shard as the state of a hub.
-use crate::made::{first, second};
+use crate::made::{WRITTEN, entry};
 use ds_hub::Absorb;
 use ds_indexdef::Defs;
 use ds_log::Entry;
@@ -17,12 +17,16 @@ fn stands_at(state: &ShardState, count: u64, last: u64) -> bool {
     state.shard.count() == count && state.shard.last() == last
 }
 
+fn end_alike(alloc: Global, one: &mut ShardState, other: &mut ShardState) -> Result<bool, Fail> {
+    let begun = absorb_both(one, other, entry(alloc, &WRITTEN[0])?);
+    let done = absorb_both(one, other, entry(alloc, &WRITTEN[1])?);
+    Ok(begun && done && stands_at(one, 2, 12) && stands_at(other, 2, 12))
+}
+
 /// Whether both copies stand at the second entry once they absorbed both.
 fn are_alike(alloc: Global) -> Result<bool, Fail> {
     let (mut one, mut other) = ShardState::make_both(alloc, &Defs::new(alloc), 5)?;
-    let begun = absorb_both(&mut one, &mut other, first(alloc)?);
-    let done = absorb_both(&mut one, &mut other, second(alloc)?);
-    Ok(begun && done && stands_at(&one, 2, 12) && stands_at(&other, 2, 12))
+    end_alike(alloc, &mut one, &mut other)
 }
 
 #[test]
