@@ -259,41 +259,43 @@ fn walks(
     Ok(taken == steps && all.bytes() == want.as_bytes())
 }
 
-/// Three listings each, what a walk over them gives, and how many steps it takes.
-const THREE: [([&str; 3], &str, u64); 8] = [
-    (["a b c", "a b c", "a b c"], "a b c ", 10),
-    (["a b", "a c", "a d"], "a ", 7),
-    (["a m", "b m z", "c m"], "m ", 7),
-    (["a z", "b z", "c z"], "z ", 7),
-    (["a d", "b e", "c f"], "", 7),
-    (["a b", "", "a b"], "", 2),
-    (["a ab abc", "ab abc abcd", "a ab abc abcd"], "ab abc ", 8),
-    (["a b -b -b c", "-a b c", "b -c d"], "b ", 10),
+/// Listings, what a walk over them gives, and how many steps it takes.
+type Walked = (&'static [&'static str], &'static str, u64);
+
+/// Three listings each.
+const THREE: [Walked; 8] = [
+    (&["a b c", "a b c", "a b c"], "a b c ", 10),
+    (&["a b", "a c", "a d"], "a ", 7),
+    (&["a m", "b m z", "c m"], "m ", 7),
+    (&["a z", "b z", "c z"], "z ", 7),
+    (&["a d", "b e", "c f"], "", 7),
+    (&["a b", "", "a b"], "", 2),
+    (&["a ab abc", "ab abc abcd", "a ab abc abcd"], "ab abc ", 8),
+    (&["a b -b -b c", "-a b c", "b -c d"], "b ", 10),
 ];
+
+/// Two listings each.
+const TWO: [Walked; 4] = [
+    (&["a b c", "a b c"], "a b c ", 7),
+    (&["a c e g", "b c f g"], "c g ", 9),
+    (&["a b c d e f", "f"], "f ", 4),
+    (&["a -b -b c", "b c"], "c ", 7),
+];
+
+/// The place of the first row whose walk gives or takes something else.
+fn first_wrong_walk(alloc: Global, rows: &[Walked]) -> Result<Option<usize>, AllocError> {
+    for (place, row) in rows.iter().enumerate() {
+        if !walks(alloc, row.0, None, row.1, row.2)? {
+            return Ok(Some(place));
+        }
+    }
+    Ok(None)
+}
 
 #[test]
 fn walks_over_what_all_have(rt: HostRuntime) -> Result<(), Fail> {
-    for (words, want, steps) in THREE {
-        let holds = walks(rt.alloc(), words.as_slice(), None, want, steps)?;
-        assert!(rt; holds, "{words:?}");
-    }
-    Ok(())
-}
-
-/// The same of two listings.
-const TWO: [([&str; 2], &str, u64); 4] = [
-    (["a b c", "a b c"], "a b c ", 7),
-    (["a c e g", "b c f g"], "c g ", 9),
-    (["a b c d e f", "f"], "f ", 4),
-    (["a -b -b c", "b c"], "c ", 7),
-];
-
-#[test]
-fn counts_the_steps_of_two_scans(rt: HostRuntime) -> Result<(), Fail> {
-    for (words, want, steps) in TWO {
-        let holds = walks(rt.alloc(), words.as_slice(), None, want, steps)?;
-        assert!(rt; holds, "{words:?}");
-    }
+    assert_eq!(rt; first_wrong_walk(rt.alloc(), &THREE)?, None);
+    assert_eq!(rt; first_wrong_walk(rt.alloc(), &TWO)?, None);
     Ok(())
 }
 
@@ -306,14 +308,18 @@ const FROM_WITHIN: [(&str, &str, u64); 5] = [
     ("d", "", 1),
 ];
 
+fn walks_from_within(alloc: Global) -> Result<bool, AllocError> {
+    for row in &FROM_WITHIN {
+        if !walks(alloc, &["a b -c d"], Some(row.0.as_bytes()), row.1, row.2)? {
+            return Ok(false);
+        }
+    }
+    Ok(true)
+}
+
 #[test]
 fn walks_over_one_scan_from_within(rt: HostRuntime) -> Result<(), Fail> {
-    let words = ["a b -c d"];
-    for (after, want, steps) in FROM_WITHIN {
-        let begin = Some(after.as_bytes());
-        let holds = walks(rt.alloc(), words.as_slice(), begin, want, steps)?;
-        assert!(rt; holds, "after {after}");
-    }
+    assert!(rt; walks_from_within(rt.alloc())?);
     Ok(())
 }
 
@@ -347,12 +353,17 @@ const ABOVE: [(&str, Option<&str>); 7] = [
     ("e", None),
 ];
 
+fn joins_above_each(alloc: Global) -> Result<bool, AllocError> {
+    for row in &ABOVE {
+        if !joins(alloc, &["a b ca d e", "b c ca e"], row.0, row.1)? {
+            return Ok(false);
+        }
+    }
+    Ok(true)
+}
+
 #[test]
 fn joins_above_any_string(rt: HostRuntime) -> Result<(), Fail> {
-    let words = ["a b ca d e", "b c ca e"];
-    for (after, want) in ABOVE {
-        let holds = joins(rt.alloc(), words.as_slice(), after, want)?;
-        assert!(rt; holds, "after {after}");
-    }
+    assert!(rt; joins_above_each(rt.alloc())?);
     Ok(())
 }

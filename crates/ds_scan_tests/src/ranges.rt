@@ -52,35 +52,45 @@ fn below(high: &str) -> Option<&[u8]> {
     }
 }
 
+/// Prefixes, where a range begins and ends, and the rests in it.
+const RANGES: [(&str, &str, &str, &str); 10] = [
+    ("p", "", "", " a b "),
+    ("p", "a", "", "a b "),
+    ("p", "aa", "", "b "),
+    ("p", "", "b", " a "),
+    ("p", "a", "b", "a "),
+    ("p", "b", "a", ""),
+    ("p", "c", "", ""),
+    ("", "p", "pb", "p pa "),
+    ("", "", "", "oz p pa pb q "),
+    ("r", "", "", ""),
+];
+
+fn has_rests(
+    alloc: Global,
+    table: &Table,
+    row: &(&str, &str, &str, &str),
+) -> Result<bool, AllocError> {
+    let prefix = row.0.as_bytes();
+    let low = row.1.as_bytes();
+    let found = rests::<Brand>(Blank::new(1), alloc, table, prefix, low, below(row.2))?;
+    Ok(found.bytes() == row.3.as_bytes())
+}
+
+/// The place of the first range that has other rests.
+fn first_wrong(alloc: Global) -> Result<Option<usize>, AllocError> {
+    let table = rows(alloc)?;
+    for (place, row) in RANGES.iter().enumerate() {
+        if !has_rests(alloc, &table, row)? {
+            return Ok(Some(place));
+        }
+    }
+    Ok(None)
+}
+
 #[test]
 fn begins_and_ends_where_it_should(rt: HostRuntime) -> Result<(), Fail> {
-    let table = rows(rt.alloc())?;
-    for (prefix, low, high, want) in [
-        ("p", "", "", " a b "),
-        ("p", "a", "", "a b "),
-        ("p", "aa", "", "b "),
-        ("p", "", "b", " a "),
-        ("p", "a", "b", "a "),
-        ("p", "b", "a", ""),
-        ("p", "c", "", ""),
-        ("", "p", "pb", "p pa "),
-        ("", "", "", "oz p pa pb q "),
-        ("r", "", "", ""),
-    ] {
-        let found = rests::<Brand>(
-            Blank::new(1),
-            rt.alloc(),
-            &table,
-            prefix.as_bytes(),
-            low.as_bytes(),
-            below(high),
-        )?;
-        assert_eq!(rt;
-            found.bytes(),
-            want.as_bytes(),
-            "{prefix} from {low} to {high}"
-        );
-    }
+    assert_eq!(rt; first_wrong(rt.alloc())?, None);
     Ok(())
 }
 
@@ -116,22 +126,34 @@ fn is_at_its_end_until_it_goes_back(rt: HostRuntime) -> Result<(), Fail> {
     Ok(())
 }
 
+/// Prefixes, and the first bytes behind all that begin with each; none where there are none.
+const ENDS: [(&[u8], Option<&[u8]>); 5] = [
+    (b"", None),
+    (&[255, 255], None),
+    (b"a", Some(b"b")),
+    (b"a\xff\xff", Some(b"b")),
+    (b"a\xffb\xff", Some(b"a\xffc")),
+];
+
+fn is_end(found: &Option<ByteString>, want: Option<&[u8]>) -> bool {
+    match (found, want) {
+        (Some(found), Some(want)) => found.bytes() == want,
+        (None, None) => true,
+        _ => false,
+    }
+}
+
+fn ends_are_found(alloc: Global) -> Result<bool, AllocError> {
+    for row in &ENDS {
+        if !is_end(&end_of_prefix(alloc, row.0)?, row.1) {
+            return Ok(false);
+        }
+    }
+    Ok(true)
+}
+
 #[test]
 fn finds_the_end_of_a_prefix(rt: HostRuntime) -> Result<(), Fail> {
-    let all: [&[u8]; 2] = [b"", &[255, 255]];
-    for prefix in all {
-        assert!(rt; end_of_prefix(rt.alloc(), prefix)?.is_none(), "no end");
-    }
-    let some: [(&[u8], &[u8]); 3] = [
-        (b"a", b"b"),
-        (b"a\xff\xff", b"b"),
-        (b"a\xffb\xff", b"a\xffc"),
-    ];
-    for (prefix, want) in some {
-        let Some(end) = end_of_prefix(rt.alloc(), prefix)? else {
-            panic!(rt; "no end");
-        };
-        assert_eq!(rt; end.bytes(), want);
-    }
+    assert!(rt; ends_are_found(rt.alloc())?);
     Ok(())
 }
