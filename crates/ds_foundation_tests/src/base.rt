@@ -37,23 +37,30 @@ fn name_key(alloc: Global, kind: &str, name: &str) -> Result<Key, Fail> {
     Ok(Key::new(alloc, path)?)
 }
 
+fn elem(alloc: Global, ident: Ident) -> Result<Elem, NoMemory> {
+    let kind = TextString::of(alloc, "T")?;
+    Ok(Elem { kind, ident })
+}
+
 /// The key [T,9]/[T,c] in a namespace.
 fn child_key(alloc: Global, namespace: &str) -> Result<Key, Fail> {
-    let mut path = path_of(alloc, "T", Ident::Id(9))?.into_vec();
-    let child = path_of(alloc, "T", named(alloc, "c")?)?;
-    for elem in child.into_vec() {
-        path.push(elem)?;
-    }
-    Ok(Key::within(TextString::of(alloc, namespace)?, Elems::from(path))?)
+    let root = elem(alloc, Ident::Id(9))?;
+    let child = elem(alloc, named(alloc, "c")?)?;
+    let path = Elems::from(vec![in alloc; root, child]?);
+    Ok(Key::within(TextString::of(alloc, namespace)?, path)?)
+}
+
+fn lettered(alloc: Global, kind: usize, name: usize) -> Result<Elem, NoMemory> {
+    let ident = Ident::Name(letters(alloc, name)?);
+    let kind = letters(alloc, kind)?;
+    Ok(Elem { kind, ident })
 }
 
 /// A path of so many elements, with so many letters in each kind and each name.
 fn path(alloc: Global, length: usize, kind: usize, name: usize) -> Result<Elems, NoMemory> {
     let mut path = Vec::new(alloc);
     for _ in 0..length {
-        let ident = Ident::Name(letters(alloc, name)?);
-        let kind = letters(alloc, kind)?;
-        path.push(Elem { kind, ident })?;
+        path.push(lettered(alloc, kind, name)?)?;
     }
     Ok(Elems::from(path))
 }
@@ -222,10 +229,19 @@ fn property(
     Ok(Properties::from(vec![in alloc; property]?))
 }
 
+/// Whether the first of the properties may be an entity's.
+fn is_entity(alloc: Global, properties: Properties) -> Result<bool, Fail>
+    requires { (one : _) × (properties ≡ one ∷ []) }
+{
+    match Entity::new(name_key(alloc, "T", "a")?, properties) {
+        Err(EntityRefused::BadValue { property: 0 }) => Ok(false),
+        _ => Ok(true),
+    }
+}
+
 fn takes_value(alloc: Global, name: TextString, indexed: bool, value: Value) -> Result<bool, Fail> {
     let properties = property(alloc, name, indexed, value)?;
-    let refused = Entity::new(name_key(alloc, "T", "a")?, properties).err();
-    Ok(!matches!(refused, Some(EntityRefused::BadValue { property: 0 })))
+    is_entity(alloc, properties)
 }
 
 fn too_large(alloc: Global, letter_count: usize) -> Result<Option<u64>, Fail> {

@@ -45,13 +45,23 @@ fn takes(alloc: Global, defs: &mut Defs, rows: &[Row]) -> Result<bool, AllocErro
     Ok(true)
 }
 
+/// Whether the list has five definitions, and a copy of it has the same.
+fn has_five(alloc: Global, defs: &Defs) -> Result<bool, AllocError> {
+    let copy = defs.copy(alloc)?;
+    let same = copy.as_slice() == defs.as_slice();
+    Ok(same && defs.len() == 5 && defs.get(5).is_none())
+}
+
+fn fills(alloc: Global, defs: &mut Defs) -> Result<bool, AllocError> {
+    if !takes(alloc, defs, &DEFINITIONS)? {
+        return Ok(false);
+    }
+    has_five(alloc, defs)
+}
+
 #[test]
 fn definitions_are_distinct(rt: HostRuntime) -> Result<(), Fail> {
-    let alloc = rt.alloc();
-    let mut defs = Defs::new(alloc);
-    assert!(rt; takes(alloc, &mut defs, &DEFINITIONS)?);
-    let copy = defs.copy(alloc)?;
-    assert!(rt; copy.as_slice() == defs.as_slice());
-    assert!(rt; defs.len() == 5 && defs.get(5).is_none());
+    let mut defs = Defs::new(rt.alloc());
+    assert!(rt; fills(rt.alloc(), &mut defs)?);
     Ok(())
 }

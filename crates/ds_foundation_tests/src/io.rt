@@ -73,14 +73,22 @@ fn takes_six(sink: &mut MemorySink) -> bool {
     first && second && third && last
 }
 
+fn six_are_written(alloc: Global) -> Result<bool, AllocError> {
+    let mut sink = MemorySink::make(alloc, 3, only(alloc, 2)?);
+    Ok(takes_six(&mut sink) && sink.written().bytes() == b"abcdef".as_slice())
+}
+
+// Whether a sink that takes nothing fails.
+fn none_are_written(alloc: Global) -> bool {
+    let mut full = MemorySink::make(alloc, 0, Numbers::new(alloc));
+    full.write(b"a") == Err(Failed)
+}
+
 #[test]
 fn writes_in_memory(rt: HostRuntime) -> Result<(), Fail> {
     let alloc = rt.alloc();
-    let mut sink = MemorySink::make(alloc, 3, only(alloc, 2)?);
-    assert!(rt; takes_six(&mut sink));
-    assert!(rt; sink.written().bytes() == b"abcdef".as_slice());
-    let mut full = MemorySink::make(alloc, 0, Numbers::new(alloc));
-    assert!(rt; full.write(b"a") == Err(Failed));
+    assert!(rt; six_are_written(alloc)?);
+    assert!(rt; none_are_written(alloc));
     Ok(())
 }
 
@@ -106,15 +114,19 @@ fn fails_to_load<F: Files>(files: &mut F, alloc: Global, name: &str) -> bool {
     matches!(files.load(alloc, name), Err(LoadFault::Failed))
 }
 
+fn loads_in_turn(files: &mut MemoryFiles, alloc: Global) -> bool {
+    let second = loads(files, alloc, "b", b"second");
+    let failed = fails_to_load(files, alloc, "b");
+    let missing = fails_to_load(files, alloc, "c");
+    let first = loads(files, alloc, "a", b"first");
+    second && failed && missing && first
+}
+
 #[test]
 fn loads_in_memory(rt: HostRuntime) -> Result<(), Fail> {
     let alloc = rt.alloc();
     let mut files = two_files(alloc)?;
-    let second = loads(&mut files, alloc, "b", b"second");
-    let failed = fails_to_load(&mut files, alloc, "b");
-    let missing = fails_to_load(&mut files, alloc, "c");
-    let first = loads(&mut files, alloc, "a", b"first");
-    assert!(rt; second && failed && missing && first);
+    assert!(rt; loads_in_turn(&mut files, alloc));
     Ok(())
 }
 
@@ -167,9 +179,8 @@ fn fails_over_std() -> bool {
 #[test]
 fn reads_and_writes_over_std(rt: HostRuntime) -> Result<(), Fail> {
     let mut written = Vec::new(rt.alloc());
-    assert!(rt; reads_over_std() && fails_over_std());
-    assert!(rt; writes_over_std(&mut written));
-    assert!(rt; written.as_slice() == b"abc".as_slice());
+    let holds = reads_over_std() && fails_over_std() && writes_over_std(&mut written);
+    assert!(rt; holds && written.as_slice() == b"abc".as_slice());
     Ok(())
 }
 

@@ -3,7 +3,7 @@ ghost use Rattle.std.specs.Prelude.{◌<◌};
 
 use ds_base::{Buffer, ByteString, Numbers};
 use ds_io::MemorySource;
-use ds_rounds::{Chunk, Line, Round, RoundRefused, Rounds, Unsent};
+use ds_rounds::{Chunk, Line, Lines, Round, RoundRefused, Rounds, Unsent};
 use std::alloc::{AllocError, Global};
 use std::test::Fail;
 
@@ -15,18 +15,39 @@ const LONGEST: usize = 2_097_152;
 
 /// Puts what a round is behind a text: the number of its first line, and its lines.
 fn tell_round(alloc: Global, round: Round, text: &mut Vec<u8>) -> Result<(), AllocError> {
-    let number = format!(in alloc; "{}:", round.first)?;
-    text.extend_from_slice(number.as_bytes())?;
-    let count = round.lines.len();
+    tell_number(alloc, round.first, text)?;
+    tell_lines(alloc, round.lines, text)
+}
+
+fn tell_number(alloc: Global, first: u64, text: &mut Vec<u8>) -> Result<(), AllocError> {
+    let number = format!(in alloc; "{first}:")?;
+    text.extend_from_slice(number.as_bytes())
+}
+
+fn tell_lines(alloc: Global, lines: Lines, text: &mut Vec<u8>) -> Result<(), AllocError> {
+    let count = lines.len();
     if count > SHORT {
-        let lines = format!(in alloc; "{count} lines")?;
-        return text.extend_from_slice(lines.as_bytes());
+        return tell_count(alloc, count, text);
     }
-    let (chunks, last) = round.lines.into_chunks();
+    let (chunks, last) = lines.into_chunks();
+    tell_chunks(alloc, chunks.as_slice(), &last, text)
+}
+
+fn tell_count(alloc: Global, count: usize, text: &mut Vec<u8>) -> Result<(), AllocError> {
+    let lines = format!(in alloc; "{count} lines")?;
+    text.extend_from_slice(lines.as_bytes())
+}
+
+fn tell_chunks(
+    alloc: Global,
+    chunks: &[Chunk],
+    last: &Chunk,
+    text: &mut Vec<u8>,
+) -> Result<(), AllocError> {
     for chunk in chunks {
-        tell_chunk(alloc, &chunk, text)?;
+        tell_chunk(alloc, chunk, text)?;
     }
-    tell_chunk(alloc, &last, text)
+    tell_chunk(alloc, last, text)
 }
 
 /// Puts the lines of a chunk behind a text.
@@ -40,18 +61,19 @@ fn tell_chunk(alloc: Global, chunk: &Chunk, text: &mut Vec<u8>) -> Result<(), Al
 /// Puts a line behind a text, and a bar behind it.
 fn tell_line(alloc: Global, line: Option<Line>, text: &mut Vec<u8>) -> Result<(), AllocError> {
     match line {
-        Some(Line::Kept(bytes)) => {
-            if bytes.len() > SHORT {
-                let length = format!(in alloc; "{} bytes", bytes.len())?;
-                text.extend_from_slice(length.as_bytes())?;
-            } else {
-                text.extend_from_slice(bytes)?;
-            }
-        }
+        Some(Line::Kept(bytes)) => tell_kept(alloc, bytes, text)?,
         Some(Line::TooLong) => text.extend_from_slice(b"too long")?,
         None => text.extend_from_slice(b"none")?,
     }
     text.extend_from_slice(b"|")
+}
+
+fn tell_kept(alloc: Global, bytes: &[u8], text: &mut Vec<u8>) -> Result<(), AllocError> {
+    if bytes.len() <= SHORT {
+        return text.extend_from_slice(bytes);
+    }
+    let length = format!(in alloc; "{} bytes", bytes.len())?;
+    text.extend_from_slice(length.as_bytes())
 }
 
 /// Puts what the next call answers behind a text, and says whether there was something.
@@ -72,16 +94,34 @@ fn tell_next(
     Ok(true)
 }
 
-/// What the next calls answer, in turn, until one of them answers `None`, or there were six.
-fn told(alloc: Global, mut source: MemorySource) -> Result<Vec<u8>, AllocError> {
-    let mut text = Vec::new(alloc);
-    let mut rounds = Rounds::make(alloc)?;
+/// Puts what the next calls answer behind a text, in turn, until one of them answers `None`, or there were six.
+fn tell_six(
+    alloc: Global,
+    rounds: &mut Rounds,
+    source: &mut MemorySource,
+    text: &mut Vec<u8>,
+) -> Result<(), AllocError> {
     for _ in 0..6 {
-        if !tell_next(alloc, &mut rounds, &mut source, &mut text)? {
-            break;
+        if !tell_next(alloc, rounds, source, text)? {
+            return Ok(());
         }
     }
-    Ok(text)
+    Ok(())
+}
+
+fn tell_rounds(
+    alloc: Global,
+    source: &mut MemorySource,
+    text: &mut Vec<u8>,
+) -> Result<(), AllocError> {
+    let mut rounds = Rounds::make(alloc)?;
+    tell_six(alloc, &mut rounds, source, text)
+}
+
+fn is_told(alloc: Global, source: &mut MemorySource, want: &[u8]) -> Result<bool, AllocError> {
+    let mut text = Vec::new(alloc);
+    tell_rounds(alloc, source, &mut text)?;
+    Ok(text.as_slice() == want)
 }
 
 /// Whether the rounds of these bytes are told as this, where a read gives so many bytes at once, and none of these fails.
@@ -94,8 +134,8 @@ fn reads(
 ) -> Result<bool, AllocError>
     requires { 0 < most }
 {
-    let read = told(alloc, MemorySource::make(bytes, most, fails))?;
-    Ok(read.as_slice() == want)
+    let mut source = MemorySource::make(bytes, most, fails);
+    is_told(alloc, &mut source, want)
 }
 
 /// Inputs, and how their rounds are told.
@@ -189,8 +229,8 @@ fn reads_a_round_in_several_chunks(rt: HostRuntime) -> Result<(), Fail> {
 
 /// Whether three lines are told as this where a call to read fails.
 fn reads_where_one_fails(alloc: Global, failing: u64, want: &[u8]) -> Result<bool, AllocError> {
-    let bytes = ByteString::of(alloc, b"a\n\nb\ncd\n")?;
     let fails = Numbers::from(Vec::from_slice(alloc, &[failing])?);
+    let bytes = ByteString::of(alloc, b"a\n\nb\ncd\n")?;
     reads(alloc, bytes, 3, fails, want)
 }
 
