@@ -1,11 +1,44 @@
 //! Encodings both ways, and bytes that are no encoding.
 use ds_base::{Buffer, ByteString, Elem, Elems, Ident, IndexValue, Key, NoMemory, TextString};
 use ds_bytes::{decode, decode_key, encode, encode_key};
-use std::alloc::Global;
+use std::alloc::{AllocError, Global};
 use std::test::Fail;
 
-/// Whether the value is written as these bytes, and they are read as it before anything else, and are no encoding without
-/// the last of them.
+fn is_value(alloc: Global, bytes: &[u8], descending: bool) -> Result<bool, NoMemory> {
+    Ok(decode(alloc, bytes, descending)?.is_some())
+}
+
+/// Whether the bytes are read as this value, and so many are left behind it.
+fn is_read_as(
+    alloc: Global,
+    value: &IndexValue,
+    descending: bool,
+    bytes: &[u8],
+    rest: usize,
+) -> Result<bool, NoMemory> {
+    match decode(alloc, bytes, descending)? {
+        None => Ok(false),
+        Some(found) => Ok(found.value == *value && found.rest == rest),
+    }
+}
+
+/// Whether what was written are these bytes, and they are read as the value before anything else, and are no encoding without the last of
+/// them.
+fn agrees_with(
+    alloc: Global,
+    value: &IndexValue,
+    descending: bool,
+    bytes: &[u8],
+    written: &mut Buffer,
+) -> Result<bool, NoMemory> {
+    encode(value, descending, written)?;
+    if written.bytes() != bytes || is_value(alloc, without_last(bytes), descending)? {
+        return Ok(false);
+    }
+    written.append(b"rest")?;
+    is_read_as(alloc, value, descending, written.bytes(), bytes.len())
+}
+
 fn agrees(
     alloc: Global,
     value: &IndexValue,
@@ -13,21 +46,42 @@ fn agrees(
     bytes: &[u8],
 ) -> Result<bool, NoMemory> {
     let mut written = Buffer::new(alloc);
-    encode(value, descending, &mut written)?;
-    if written.bytes() != bytes {
-        return Ok(false);
-    }
-    if decode(alloc, without_last(bytes), descending)?.is_some() {
-        return Ok(false);
-    }
-    written.append(b"rest")?;
-    match decode(alloc, written.bytes(), descending)? {
+    agrees_with(alloc, value, descending, bytes, &mut written)
+}
+
+fn is_key(alloc: Global, bytes: &[u8], descending: bool) -> Result<bool, NoMemory> {
+    Ok(decode_key(alloc, bytes, descending)?.is_some())
+}
+
+fn is_read_as_key(
+    alloc: Global,
+    key: &Key,
+    descending: bool,
+    bytes: &[u8],
+    rest: usize,
+) -> Result<bool, NoMemory> {
+    match decode_key(alloc, bytes, descending)? {
         None => Ok(false),
-        Some(found) => Ok(found.value == *value && found.rest == bytes.len()),
+        Some(found) => Ok(found.key == *key && found.rest == rest),
     }
 }
 
 /// The same of a key.
+fn agrees_as_key_with(
+    alloc: Global,
+    key: &Key,
+    descending: bool,
+    bytes: &[u8],
+    written: &mut Buffer,
+) -> Result<bool, NoMemory> {
+    encode_key(key, descending, written)?;
+    if written.bytes() != bytes || is_key(alloc, without_last(bytes), descending)? {
+        return Ok(false);
+    }
+    written.append(b"rest")?;
+    is_read_as_key(alloc, key, descending, written.bytes(), bytes.len())
+}
+
 fn agrees_as_key(
     alloc: Global,
     key: &Key,
@@ -35,18 +89,7 @@ fn agrees_as_key(
     bytes: &[u8],
 ) -> Result<bool, NoMemory> {
     let mut written = Buffer::new(alloc);
-    encode_key(key, descending, &mut written)?;
-    if written.bytes() != bytes {
-        return Ok(false);
-    }
-    if decode_key(alloc, without_last(bytes), descending)?.is_some() {
-        return Ok(false);
-    }
-    written.append(b"rest")?;
-    match decode_key(alloc, written.bytes(), descending)? {
-        None => Ok(false),
-        Some(found) => Ok(found.key == *key && found.rest == bytes.len()),
-    }
+    agrees_as_key_with(alloc, key, descending, bytes, &mut written)
 }
 
 fn without_last(bytes: &[u8]) -> &[u8] {
@@ -61,20 +104,27 @@ fn elem(alloc: Global, kind: &str, ident: Ident) -> Result<Elem, NoMemory> {
     Ok(Elem { kind, ident })
 }
 
+/// The key of a path, in a namespace.
+fn key(alloc: Global, namespace: &str, path: Elems) -> Result<Key, NoMemory> {
+    match Key::within(TextString::of(alloc, namespace)?, path) {
+        Ok(key) => Ok(key),
+        Err(_) => Err(AllocError),
+    }
+}
+
 /// The key [["Task","a"]], in a namespace.
-fn task(alloc: Global, namespace: &str) -> Result<Key, Fail> {
+fn task(alloc: Global, namespace: &str) -> Result<Key, NoMemory> {
     let ident = Ident::Name(TextString::of(alloc, "a")?);
     let path = Elems::from(vec![in alloc; elem(alloc, "Task", ident)?]?);
-    Ok(Key::within(TextString::of(alloc, namespace)?, path)?)
+    key(alloc, namespace, path)
 }
 
 /// The key [["Guestbook","default"],["Greeting",4503599627370496]].
-fn greeting(alloc: Global) -> Result<Key, Fail> {
+fn greeting(alloc: Global) -> Result<Key, NoMemory> {
     let ident = Ident::Name(TextString::of(alloc, "default")?);
-    let mut path = Vec::new(alloc);
-    path.push(elem(alloc, "Guestbook", ident)?)?;
-    path.push(elem(alloc, "Greeting", Ident::Id(4_503_599_627_370_496))?)?;
-    Ok(Key::new(alloc, Elems::from(path))?)
+    let book = elem(alloc, "Guestbook", ident)?;
+    let greeting = elem(alloc, "Greeting", Ident::Id(4_503_599_627_370_496))?;
+    key(alloc, "", Elems::from(vec![in alloc; book, greeting]?))
 }
 
 /// Numbers, their directions and their bytes.
@@ -146,19 +196,19 @@ fn task_agrees(
     namespace: &str,
     descending: bool,
     bytes: &[u8],
-) -> Result<bool, Fail> {
+) -> Result<bool, NoMemory> {
     let task = task(alloc, namespace)?;
-    Ok(agrees_as_key(alloc, &task, descending, bytes)?)
+    agrees_as_key(alloc, &task, descending, bytes)
 }
 
-fn task_agrees_as_value(alloc: Global, bytes: &[u8]) -> Result<bool, Fail> {
+fn task_agrees_as_value(alloc: Global, bytes: &[u8]) -> Result<bool, NoMemory> {
     let value = IndexValue::Key(task(alloc, "")?);
-    Ok(agrees(alloc, &value, false, bytes)?)
+    agrees(alloc, &value, false, bytes)
 }
 
-fn greeting_agrees(alloc: Global, bytes: &[u8]) -> Result<bool, Fail> {
+fn greeting_agrees(alloc: Global, bytes: &[u8]) -> Result<bool, NoMemory> {
     let greeting = greeting(alloc)?;
-    Ok(agrees_as_key(alloc, &greeting, false, bytes)?)
+    agrees_as_key(alloc, &greeting, false, bytes)
 }
 
 const TASK: &[u8] = b"\x02Task\x00\x01\x20a\x00\x01\x01";
@@ -208,7 +258,7 @@ const NO_VALUES: [Row; 7] = [
 /// Which of the bytes are a value.
 fn first_value<'a>(alloc: Global, rows: &'a [Row]) -> Result<Option<&'a str>, NoMemory> {
     for row in rows {
-        if decode(alloc, row.1, false)?.is_some() {
+        if is_value(alloc, row.1, false)? {
             return Ok(Some(row.0));
         }
     }
@@ -260,7 +310,7 @@ const NO_KEYS: [Row; 12] = [
 /// Which of the bytes are a key.
 fn first_key<'a>(alloc: Global, rows: &'a [Row]) -> Result<Option<&'a str>, NoMemory> {
     for row in rows {
-        if decode_key(alloc, row.1, false)?.is_some() {
+        if is_key(alloc, row.1, false)? {
             return Ok(Some(row.0));
         }
     }

@@ -20,18 +20,23 @@ fn put<T: Drop>(list: &mut Sequence<T>, item: T) -> Result<(), NoMemory> {
     }
 }
 
+fn key(alloc: Global) -> Result<Key, NoMemory> {
+    let kind = TextString::of(alloc, "T")?;
+    let ident = Ident::Id(1);
+    let path = Elems::from(vec![in alloc; Elem { kind, ident }]?);
+    match Key::new(alloc, path) {
+        Ok(key) => Ok(key),
+        Err(_) => Err(AllocError),
+    }
+}
+
 /// A number, `key` for a key, or `text` for a long text.
-fn value(alloc: Global, word: &str) -> Result<Value, Fail> {
-    if word == "text" {
-        return Ok(Value::Text(TextString::of(alloc, "t")?));
+fn value(alloc: Global, word: &str) -> Result<Value, NoMemory> {
+    match word {
+        "text" => Ok(Value::Text(TextString::of(alloc, "t")?)),
+        "key" => Ok(Value::Key(key(alloc)?)),
+        _ => Ok(Value::Int(word.parse::<i64>().unwrap_or(0))),
     }
-    if word == "key" {
-        let kind = TextString::of(alloc, "T")?;
-        let ident = Ident::Id(1);
-        let path = Elems::from(vec![in alloc; Elem { kind, ident }]?);
-        return Ok(Value::Key(Key::new(alloc, path)?));
-    }
-    Ok(Value::Int(word.parse::<i64>().unwrap_or(0)))
 }
 
 fn operator(word: &str) -> Op {
@@ -46,7 +51,7 @@ fn operator(word: &str) -> Op {
     }
 }
 
-fn values_of(alloc: Global, words: SplitWhitespace) -> Result<Values, Fail> {
+fn values_of(alloc: Global, words: SplitWhitespace) -> Result<Values, NoMemory> {
     let mut values = Values::new(alloc);
     for word in words {
         put(&mut values, value(alloc, word)?)?;
@@ -55,7 +60,7 @@ fn values_of(alloc: Global, words: SplitWhitespace) -> Result<Values, Fail> {
 }
 
 /// A filter as `a in 1 2`.
-fn filter(alloc: Global, words: SplitWhitespace) -> Result<Filter, Fail> {
+fn filter(alloc: Global, words: SplitWhitespace) -> Result<Filter, NoMemory> {
     let mut words = words;
     let name = words.next().unwrap_or("?");
     let op = operator(words.next().unwrap_or("?"));
@@ -69,7 +74,7 @@ fn filter(alloc: Global, words: SplitWhitespace) -> Result<Filter, Fail> {
 }
 
 /// An order as `a desc`.
-fn order(alloc: Global, words: SplitWhitespace) -> Result<Column, Fail> {
+fn order(alloc: Global, words: SplitWhitespace) -> Result<Column, NoMemory> {
     let mut words = words;
     let name = TextString::of(alloc, words.next().unwrap_or("?"))?;
     let descending = words.next() == Some("desc");
@@ -94,13 +99,13 @@ fn add_clause(
     query: &mut Query,
     names: &mut Names,
     clause: &str,
-) -> Result<(), Fail> {
+) -> Result<(), NoMemory> {
     let mut words = clause.split_whitespace();
     match words.next().unwrap_or("") {
         "kind" => query.kind = Some(TextString::of(alloc, "T")?),
-        "where" => put(&mut query.filters, filter(alloc, words)?)?,
-        "order" => put(&mut query.orders, order(alloc, words)?)?,
-        "select" => put(names, TextString::of(alloc, words.next().unwrap_or("?"))?)?,
+        "where" => return put(&mut query.filters, filter(alloc, words)?),
+        "order" => return put(&mut query.orders, order(alloc, words)?),
+        "select" => return put(names, TextString::of(alloc, words.next().unwrap_or("?"))?),
         "cursor" => query.cursors = true,
         _ => {}
     }
@@ -115,14 +120,19 @@ fn select_of(names: Names) -> Select {
     }
 }
 
-/// The query of clauses as `kind T`, `where a in 1 2`, `order a desc`, `select a` and `cursor`.
-fn query(alloc: Global, text: &str) -> Result<Query, Fail> {
-    let mut query = nothing_asked(alloc);
+/// Adds what the clauses ask, and gives the names that they select.
+fn add_clauses(alloc: Global, query: &mut Query, text: &str) -> Result<Names, NoMemory> {
     let mut names = Names::new(alloc);
     for clause in text.split(';') {
-        add_clause(alloc, &mut query, &mut names, clause)?;
+        add_clause(alloc, query, &mut names, clause)?;
     }
-    query.select = select_of(names);
+    Ok(names)
+}
+
+/// The query of clauses as `kind T`, `where a in 1 2`, `order a desc`, `select a` and `cursor`.
+fn query(alloc: Global, text: &str) -> Result<Query, NoMemory> {
+    let mut query = nothing_asked(alloc);
+    query.select = select_of(add_clauses(alloc, &mut query, text)?);
     Ok(query)
 }
 
@@ -225,11 +235,9 @@ fn show_query(alloc: Global, query: &Query, onto: &mut String) -> Result<(), NoM
 }
 
 /// The normal form of a query as text, or its refusal.
-fn shown(alloc: Global, text: &str) -> Result<String, Fail> {
+fn show(alloc: Global, text: &str, onto: &mut String) -> Result<(), NoMemory> {
     let query = query(alloc, text)?;
-    let mut shown = String::new(alloc);
-    show_query(alloc, &query, &mut shown)?;
-    Ok(shown)
+    show_query(alloc, &query, onto)
 }
 
 // ---- the tables
@@ -337,12 +345,13 @@ const REASONS: [(&str, &str); 10] = [
     ("several_cursor", "where e in 1; cursor"),
 ];
 
-fn is_shown(alloc: Global, form: &(&str, &str)) -> Result<bool, Fail> {
-    let text = shown(alloc, form.0)?;
+fn is_shown(alloc: Global, form: &(&str, &str)) -> Result<bool, NoMemory> {
+    let mut text = String::new(alloc);
+    show(alloc, form.0, &mut text)?;
     Ok(text.as_str() == form.1)
 }
 
-fn forms_are_shown(alloc: Global) -> Result<bool, Fail> {
+fn forms_are_shown(alloc: Global) -> Result<bool, NoMemory> {
     for form in &FORMS {
         if !is_shown(alloc, form)? {
             return Ok(false);
@@ -352,7 +361,7 @@ fn forms_are_shown(alloc: Global) -> Result<bool, Fail> {
 }
 
 /// Whether the first of two reasons is told where both hold.
-fn is_told(alloc: Global, first: &(&str, &str), second: &(&str, &str)) -> Result<bool, Fail> {
+fn is_told(alloc: Global, first: &(&str, &str), second: &(&str, &str)) -> Result<bool, NoMemory> {
     let kindless = first.0 == "kindless" || second.0 == "kindless";
     let mut text = String::new(alloc);
     text.push_str(if kindless { "" } else { "kind T; " })?;
@@ -363,7 +372,7 @@ fn is_told(alloc: Global, first: &(&str, &str), second: &(&str, &str)) -> Result
 }
 
 /// Whether the first reason is told where one of those from a place on holds too.
-fn later_are_silent(alloc: Global, first: &(&str, &str), from: usize) -> Result<bool, Fail> {
+fn later_are_silent(alloc: Global, first: &(&str, &str), from: usize) -> Result<bool, NoMemory> {
     for second in REASONS.iter().skip(from) {
         if !is_told(alloc, first, second)? {
             return Ok(false);
@@ -373,7 +382,7 @@ fn later_are_silent(alloc: Global, first: &(&str, &str), from: usize) -> Result<
 }
 
 /// Each reason alone, and each two of them at once.
-fn first_reasons_are_told(alloc: Global) -> Result<bool, Fail> {
+fn first_reasons_are_told(alloc: Global) -> Result<bool, NoMemory> {
     for (i, first) in REASONS.iter().enumerate() {
         if !is_told(alloc, first, &("", ""))? || !later_are_silent(alloc, first, i + 1)? {
             return Ok(false);

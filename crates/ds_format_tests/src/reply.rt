@@ -1,5 +1,7 @@
 //! Replies as text: refusals, how keys, values and projections are shown, and what the escapes are. What went well, and the refusals
 //! that hold a group or a pair, are shown by the examples, which are served and compared.
+ghost use Rattle.std.specs.Prelude.{◌≡◌, [], ◌∷◌};
+
 use ds_base::{
     Buffer, ByteString, Columns, Elem, Elems, Ident, IndexValue, IndexValues, Key, Names, NoMemory,
     Sequence, TextString, Value, Values,
@@ -204,7 +206,12 @@ fn got(alloc: Global, name: &str, indexed: bool, values: Values) -> Result<Body,
         indexed,
         values,
     };
-    let properties = Properties::from(vec![in alloc; property]?);
+    got_with(alloc, Properties::from(vec![in alloc; property]?))
+}
+
+fn got_with(alloc: Global, properties: Properties) -> Result<Body, Fail>
+    requires { (one : _) × (properties ≡ one ∷ []) }
+{
     let entity = Entity::new(key(alloc, "", "a")?, properties)?;
     Ok(Body::Get {
         entity: Some(entity),

@@ -1,4 +1,6 @@
 //! Transactions before their commit: how many groups and writes they take.
+ghost use Rattle.std.specs.Prelude.{◌≡◌};
+
 use crate::made::key;
 use ds_log::Heads;
 use ds_txn::{Conflict, Txn, TxnRefused, WriteCause, WriteRefused};
@@ -60,32 +62,44 @@ fn is_too_many_groups(refused: Result<u64, TxnRefused>) -> bool {
     }
 }
 
-fn takes_25_groups(alloc: Global) -> Result<bool, Fail> {
-    let mut txn = Txn::begin(alloc, true);
-    if !takes_groups(alloc, &mut txn, &GROUPS[..25])? {
+fn is_full_with_25(alloc: Global, txn: &mut Txn) -> Result<bool, Fail> {
+    if !takes_groups(alloc, txn, &GROUPS[..25])? {
         return Ok(false);
     }
-    let again = may_touch(alloc, &txn, "a")?;
+    let again = may_touch(alloc, txn, "a")?;
     let refuses = txn.may_touch(None).is_err();
     Ok(is_too_many_groups(txn.touch(key(alloc, "z")?, 0)) && again && refuses)
 }
 
-fn takes_one_group(alloc: Global) -> Result<bool, Fail> {
-    let mut txn = Txn::begin(alloc, false);
-    if !takes_groups(alloc, &mut txn, &GROUPS[..1])? {
+fn takes_25_groups(alloc: Global) -> Result<bool, Fail> {
+    let mut txn = Txn::begin(alloc, true);
+    is_full_with_25(alloc, &mut txn)
+}
+
+fn is_full_with_one(alloc: Global, txn: &mut Txn) -> Result<bool, Fail> {
+    if !takes_groups(alloc, txn, &GROUPS[..1])? {
         return Ok(false);
     }
     Ok(is_second_group(txn.touch(key(alloc, "b")?, 0)))
 }
 
+fn takes_one_group(alloc: Global) -> Result<bool, Fail> {
+    let mut txn = Txn::begin(alloc, false);
+    is_full_with_one(alloc, &mut txn)
+}
+
 /// A second touch gives the first one's place.
+fn is_touched_at_three(alloc: Global, txn: &mut Txn) -> Result<bool, Fail> {
+    let first = touches(alloc, txn, "a", 3, 3)?;
+    let second = touches(alloc, txn, "a", 7, 3)?;
+    let place = place_of(alloc, txn, "a")?;
+    let other = place_of(alloc, txn, "b")?;
+    Ok(first && second && place == Some(3) && other.is_none())
+}
+
 fn keeps_the_first_place(alloc: Global) -> Result<bool, Fail> {
     let mut txn = Txn::begin(alloc, false);
-    let first = touches(alloc, &mut txn, "a", 3, 3)?;
-    let second = touches(alloc, &mut txn, "a", 7, 3)?;
-    let place = place_of(alloc, &txn, "a")?;
-    let other = place_of(alloc, &txn, "b")?;
-    Ok(first && second && place == Some(3) && other.is_none())
+    is_touched_at_three(alloc, &mut txn)
 }
 
 #[test]
@@ -114,15 +128,19 @@ fn is_too_many_writes<K: Drop>(refused: Result<(), WriteRefused<K>>) -> bool {
     }
 }
 
-fn takes_500_writes(alloc: Global) -> Result<bool, Fail> {
-    let mut txn = Txn::begin(alloc, false);
+fn is_full_with_500(alloc: Global, txn: &mut Txn) -> Result<bool, Fail> {
     for _ in 0..500 {
-        if !deletes(alloc, &mut txn)? {
+        if !deletes(alloc, txn)? {
             return Ok(false);
         }
     }
     let refused = is_too_many_writes(txn.delete(key(alloc, "a")?));
     Ok(refused && txn.may_write().is_err() && txn.writes() == 500)
+}
+
+fn takes_500_writes(alloc: Global) -> Result<bool, Fail> {
+    let mut txn = Txn::begin(alloc, false);
+    is_full_with_500(alloc, &mut txn)
 }
 
 #[test]
@@ -138,17 +156,6 @@ fn is_first_conflict(answer: Result<(), Conflict>, commit: u64, place: u64) -> b
         }
         Ok(()) => false,
     }
-}
-
-/// The heads after commit 1, which wrote [T,a]; none where they don't take it.
-fn heads_of_one(alloc: Global) -> Result<Option<Heads>, Fail> {
-    let mut heads = Heads::make(alloc);
-    heads.make_room(1)?;
-    if heads.note(key(alloc, "a")?, 1).is_err() {
-        return Ok(None);
-    }
-    heads.end_commit();
-    Ok(Some(heads))
 }
 
 /// The last commit that wrote [T,name].
@@ -180,21 +187,34 @@ fn are_told(alloc: Global, heads: &Heads) -> Result<bool, Fail> {
     Ok(before && since && noted)
 }
 
-fn heads_tell_conflicts(alloc: Global) -> Result<bool, Fail> {
-    match heads_of_one(alloc)? {
-        Some(heads) => are_told(alloc, &heads),
-        None => Ok(false),
+fn tell_conflicts(alloc: Global, heads: &mut Heads) -> Result<bool, Fail>
+    requires { heads.old.commits ≡ 0 }
+{
+    heads.make_room(1)?;
+    if heads.note(key(alloc, "a")?, 1).is_err() {
+        return Ok(false);
     }
+    heads.end_commit();
+    are_told(alloc, heads)
+}
+
+fn heads_tell_conflicts(alloc: Global) -> Result<bool, Fail> {
+    let mut heads = Heads::make(alloc);
+    tell_conflicts(alloc, &mut heads)
 }
 
 /// With room made the next touch and the next write are taken, and the parts are what was given.
-fn takes_with_room(alloc: Global) -> Result<bool, Fail> {
-    let mut txn = Txn::begin(alloc, false);
+fn has_parts(alloc: Global, txn: &mut Txn) -> Result<bool, Fail> {
     txn.make_room()?;
-    let touched = touches(alloc, &mut txn, "a", 0, 0)?;
-    let taken = deletes(alloc, &mut txn)?;
+    let touched = touches(alloc, txn, "a", 0, 0)?;
+    let taken = deletes(alloc, txn)?;
     let parts = txn.parts(alloc)?;
     Ok(touched && taken && parts.touched.len() == 1 && parts.writes.len() == 1)
+}
+
+fn takes_with_room(alloc: Global) -> Result<bool, Fail> {
+    let mut txn = Txn::begin(alloc, false);
+    has_parts(alloc, &mut txn)
 }
 
 #[test]

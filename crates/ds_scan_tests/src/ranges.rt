@@ -6,6 +6,7 @@ use ds_base::ByteString;
 use ds_io::Steps;
 use ds_scan::{RangeScan, TableRows, end_of_prefix};
 use ds_table::Table;
+use ds_zigzag::Scan;
 use std::alloc::{AllocError, Global};
 use std::marker::Brand;
 use std::sync::ledger::{Blank, Ledger};
@@ -94,6 +95,14 @@ fn begins_and_ends_where_it_should(rt: HostRuntime) -> Result<(), Fail> {
     Ok(())
 }
 
+fn goes_back<S: Scan, L: Ledger>(scan: &mut S, steps: &mut Steps<L>) -> Result<bool, AllocError>
+    requires { L.name ≡ S.ledger }
+{
+    let inside = gives(scan, b"aa", Some(b"b"), steps)? && gives(scan, b"b", Some(b"b"), steps)?;
+    let end = gives(scan, b"ba", None, steps)? && gives(scan, b"ba", None, steps)?;
+    Ok(gives(scan, b"", Some(b"a"), steps)? && inside && end)
+}
+
 /// Seeks in one scan, up to its end, beyond it, and then from the front again.
 fn seeks_to_the_end<L: Ledger>(
     blank: Blank,
@@ -110,13 +119,7 @@ fn seeks_to_the_end<L: Ledger>(
     }
     let rows: TableRows<'_, L> = TableRows::new(table.view(1));
     let mut scan = RangeScan::make(alloc, rows, b"p", b"a", None)?;
-    Ok(
-        gives(&mut scan, b"aa", Some(b"b"), &mut steps)?
-            && gives(&mut scan, b"b", Some(b"b"), &mut steps)?
-            && gives(&mut scan, b"ba", None, &mut steps)?
-            && gives(&mut scan, b"ba", None, &mut steps)?
-            && gives(&mut scan, b"", Some(b"a"), &mut steps)?,
-    )
+    goes_back(&mut scan, &mut steps)
 }
 
 #[test]
