@@ -132,83 +132,47 @@ written-if st w (Some t) within issued is = (
   All-push (λ (v : Write). first_unissued st.next (key_of v).elems ≡ None) t.writes w.write is.1 issued,
 )
 
+within : (st : StateParts) (s : Session) → s.place ≤ length st.store.journal → AreUpTo s.counts st.applied.counts
+    → s.next_id ≤ st.store.next
+    → IsTransaction st.store s.transaction → IsSession st s
+within st s place counts next transaction =
+    record { place_within = place; counts_within = counts; next_within = next; transaction_within = transaction }
+
 -- after an effect nothing was seen that isn't there
 pub session-after : (e : Effect) (st : StateParts) (s : Session) → IsAllowed e st s → IsSession st s
     → IsSession (after e st) (session_after e st.store s)
 session-after effect.Nothing st s a is = is
-session-after (effect.SeeNext next) st s a is = record {
-  place_within = is.place_within;
-  counts_within = is.counts_within;
-  next_within =
-      omega (arith, a, is.next_within);
-  transaction_within = is.transaction_within;
-}
-session-after (effect.Begin several) st s a is =
-    record {
-      place_within = is.place_within;
-      counts_within = is.counts_within;
-      next_within = is.next_within;
-      transaction_within = (
-        All-nil (λ (t : Touch). t.place ≤ length st.store.journal),
-        All-nil
-            (λ (w : Write). first_unissued st.store.next (key_of w).elems ≡ None),
-      );
-    }
-session-after effect.End st s a is = record {
-  place_within = is.place_within;
-  counts_within = is.counts_within;
-  next_within =
-      is.next_within;
-  transaction_within = tt;
-}
-session-after (effect.EndAt place) st s a is = record {
-  place_within = omega (arith, a, is.place_within);
-  counts_within = is.counts_within;
-  next_within = is.next_within;
-  transaction_within = tt;
-}
+session-after (effect.SeeNext next) st s a is = within st (session_after (effect.SeeNext next) st.store s) is.place_within is.counts_within
+    (omega (arith, a, is.next_within)) is.transaction_within
+session-after (effect.Begin several) st s a is = within st (session_after (effect.Begin several) st.store s) is.place_within
+    is.counts_within is.next_within (
+      All-nil (λ (t : Touch). t.place ≤ length st.store.journal),
+      All-nil (λ (w : Write). first_unissued st.store.next (key_of w).elems ≡ None),
+    )
+session-after effect.End st s a is =
+    within st (session_after effect.End st.store s) is.place_within is.counts_within is.next_within tt
+session-after (effect.EndAt place) st s a is = within st (session_after (effect.EndAt place) st.store s)
+    (omega (arith, a, is.place_within)) is.counts_within is.next_within tt
 session-after (effect.CommitWrite w) st s a is =
-    let grown = session-grown st (after (effect.CommitWrite w) st) s (grows-after (effect.CommitWrite w) st) is in record {
-      place_within = omega (arith, is.place_within, length-append st.store.journal (w.draft ∷ []));
-      counts_within = is.counts_within;
-      next_within = omega (arith, is.next_within, a.shown);
-      transaction_within = grown.transaction_within;
-    }
-session-after (effect.CommitTransaction draft) st s a is = record {
-  place_within = omega (arith, is.place_within, length-append st.store.journal (draft ∷ []));
-  counts_within = is.counts_within;
-  next_within = is.next_within;
-  transaction_within = tt;
-}
-session-after (effect.WriteGroup w) st s a is =
-    let grown = session-grown st (after (effect.WriteGroup w) st) s (grows-after (effect.WriteGroup w) st) is in record {
-      place_within = omega (arith, is.place_within, a.place);
-      counts_within = is.counts_within;
-      next_within = omega (arith, is.next_within, a.shown);
-      transaction_within = written-if (store_after (effect.WriteGroup w) st.store) w s.transaction a.place a.issued
-          grown.transaction_within;
-    }
-session-after (effect.ReadGroup r) st s a is = record {
-  place_within = omega (arith, is.place_within, a.place);
-  counts_within = up_to-raised r.shard r.entries s.counts st.applied.counts is.counts_within a.entries;
-  next_within = is.next_within;
-  transaction_within = touched-if st.store r.group r.place s.transaction a.place is.transaction_within;
-}
-session-after (effect.SeeCounts c) st s a is = record {
-  place_within = omega (arith, is.place_within, a.commit);
-  counts_within = up_to-greater s.counts c.counts st.applied.counts is.counts_within a.counts;
-  next_within = is.next_within;
-  transaction_within = is.transaction_within;
-}
-session-after (effect.Settle place c) st s a is = record {
-  place_within = omega (arith, is.place_within, a.0, a.1.commit);
-  counts_within = up_to-greater s.counts c.counts st.applied.counts is.counts_within a.1.counts;
-  next_within = is.next_within;
-  transaction_within = is.transaction_within;
-}
-session-after (effect.SeeCount c) st s a is = record {
-  place_within = omega (arith, is.place_within, a.place, a.commit);
-  counts_within = up_to-raised c.shard c.count s.counts st.applied.counts is.counts_within a.count;
-  next_within = is.next_within;
-  transaction_within = is.transaction_within;
-}
+    let grown = session-grown st (after (effect.CommitWrite w) st) s (grows-after (effect.CommitWrite w) st) is in
+    within (after (effect.CommitWrite w) st) (session_after (effect.CommitWrite w) st.store s)
+    (omega (arith, is.place_within, length-append st.store.journal (w.draft ∷ []))) is.counts_within
+    (omega (arith, is.next_within, a.shown)) grown.transaction_within
+session-after (effect.CommitTransaction draft) st s a is =
+    within (after (effect.CommitTransaction draft) st) (session_after (effect.CommitTransaction draft) st.store s)
+    (omega (arith, is.place_within, length-append st.store.journal (draft ∷ []))) is.counts_within is.next_within tt
+session-after (effect.WriteGroup w) st s a is = within st (session_after (effect.WriteGroup w) st.store s)
+    (omega (arith, is.place_within, a.place)) is.counts_within (omega (arith, is.next_within, a.shown))
+    (written-if st.store w s.transaction a.place a.issued is.transaction_within)
+session-after (effect.ReadGroup r) st s a is = within st (session_after (effect.ReadGroup r) st.store s)
+    (omega (arith, is.place_within, a.place)) (up_to-raised r.shard r.entries s.counts st.applied.counts is.counts_within a.entries)
+    is.next_within (touched-if st.store r.group r.place s.transaction a.place is.transaction_within)
+session-after (effect.SeeCounts c) st s a is = within st (session_after (effect.SeeCounts c) st.store s)
+    (omega (arith, is.place_within, a.commit)) (up_to-greater s.counts c.counts st.applied.counts is.counts_within a.counts)
+    is.next_within is.transaction_within
+session-after (effect.Settle place c) st s a is = within st (session_after (effect.Settle place c) st.store s)
+    (omega (arith, is.place_within, a.0, a.1.commit)) (up_to-greater s.counts c.counts st.applied.counts is.counts_within a.1.counts)
+    is.next_within is.transaction_within
+session-after (effect.SeeCount c) st s a is = within st (session_after (effect.SeeCount c) st.store s)
+    (omega (arith, is.place_within, a.place, a.commit))
+    (up_to-raised c.shard c.count s.counts st.applied.counts is.counts_within a.count) is.next_within is.transaction_within

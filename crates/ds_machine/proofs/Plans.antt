@@ -50,18 +50,26 @@ pub no_ids : (first n : ℕ) → n ≡ 0 → [] ≡ range_with_len first n
 no_ids first n is = ap (range_with_len first) (sym is)
 
 -- where the store stays as it is
-pub quiet-tells : (st : StoreParts) (c : Call) (b : Body) → is_quiet b ≡ true → Tells st st c b
-quiet-tells st c b quiet = record {
+pub same-tells : (st : StoreParts) (c : Call) (b : Body) → acknowledged_in b ≡ [] → accepted_in b ≡ [] → drawn_by_call c b ≡ []
+    → All (λ next. next ≤ st.next) (printed_next_in b) → Tells st st c b
+same-tells st c b acknowledges accepts draws prints = record {
   definitions = refl;
   shards = refl;
   added = [];
   journal = sym (append-nil st.journal);
-  acknowledges = acknowledges-none b quiet;
+  acknowledges = acknowledges;
   rises = omega arith;
-  draws = draws-none c b quiet ∙ no_ids st.next (st.next - st.next) (omega arith);
-  accepts = subst (λ ids. All (λ id. id < st.next) ids) (sym (accepts-none b quiet)) (All-nil (λ id. id < st.next));
-  prints = subst (λ ns. All (λ next. next ≤ st.next) ns) (sym (prints-none b quiet)) (All-nil (λ next. next ≤ st.next));
+  draws = draws ∙ no_ids st.next (st.next - st.next) (omega arith);
+  accepts = subst (λ ids. All (λ id. id < st.next) ids) (sym accepts) (All-nil (λ id. id < st.next));
+  prints = prints;
 }
+
+pub none-printed : (st : StoreParts) (b : Body) → printed_next_in b ≡ [] → All (λ next. next ≤ st.next) (printed_next_in b)
+none-printed st b none = subst (λ ns. All (λ next. next ≤ st.next) ns) (sym none) (All-nil (λ next. next ≤ st.next))
+
+pub quiet-tells : (st : StoreParts) (c : Call) (b : Body) → is_quiet b ≡ true → Tells st st c b
+quiet-tells st c b quiet = same-tells st c b (acknowledges-none b quiet) (accepts-none b quiet) (draws-none c b quiet)
+    (none-printed st b (prints-none b quiet))
 
 -- ---- answers to a request that isn't a query
 

@@ -2,7 +2,6 @@
 use Rattle.std.proofs.Common.{◌≡◌, inl, inr, ℕ, ◌-◌, ◌<◌, ◌≤◌, List, [], ◌∷◌, length, take, refl, sym, ◌∙◌}
 use Rattle.std.proofs.Common.{subst, arith, Option, Some, None, Bool, true, false, cond}
 use Rattle.std.specs.Prelude.{All, nat_le}
-use Rattle.std.proofs.lemmas.List.{append-nil}
 use Rattle.std.proofs.lemmas.List.Elements.{All-nil, All-cons}
 use Rattle.ds_entity.specs.declared.entity.Property.{Property}
 use Rattle.ds_base.specs.declared.key.Ident.TheVariants.{Id}
@@ -31,7 +30,7 @@ use Rattle.ds_machine.specs.Answered.{Tells, IsPlan}
 use Rattle.ds_machine.specs.Effects.{store_after, session_after}
 use Rattle.ds_machine.specs.States.{StoreParts, StateParts, IsSession, world}
 use Rattle.ds_machine.specs.WritePlans.{IsWritable, IsWritePlan, SaysWrite}
-use Rattle.ds_machine.proofs.Plans.{unrefused, no_memory_plan, no_ids}
+use Rattle.ds_machine.proofs.Plans.{no_ids, no_memory_plan, same-tells, unrefused}
 use Rattle.ds_machine.proofs.WriteAnswers.{ids-below}
 
 -- ---- refusals in turn
@@ -83,18 +82,9 @@ last_id-completed (e ∷ f ∷ g ∷ es) id ends = last_id-completed (f ∷ g �
 
 pub number-tells : (st : StoreParts) (c : Call) (b : Body) → acknowledged_in b ≡ [] → accepted_in b ≡ [] → printed_next_in b ≡ st.next ∷ []
     → drawn_by_call c b ≡ [] → Tells st st c b
-number-tells st c b acknowledges accepts prints draws = record {
-  definitions = refl;
-  shards = refl;
-  added = [];
-  journal = sym (append-nil st.journal);
-  acknowledges = acknowledges;
-  rises = omega arith;
-  draws = draws ∙ no_ids st.next (st.next - st.next) (omega arith);
-  accepts = subst (λ ids. All (λ id. id < st.next) ids) (sym accepts) (All-nil (λ id. id < st.next));
-  prints = subst (λ ns. All (λ next. next ≤ st.next) ns) (sym prints)
-      (All-cons (λ next. next ≤ st.next) st.next [] (omega arith) (All-nil (λ next. next ≤ st.next)));
-}
+number-tells st c b acknowledges accepts prints draws = same-tells st c b acknowledges accepts draws
+    (subst (λ ns. All (λ next. next ≤ st.next) ns) (sym prints)
+    (All-cons (λ next. next ≤ st.next) st.next [] (omega arith) (All-nil (λ next. next ≤ st.next))))
 
 module _ (st : StateParts) (s : Session) (client : ℕ) (seen : IsSession st s) where
   pub put_not_issued : (key : KeyParts) (incomplete : Bool) (properties : List Property) (id : ℕ)

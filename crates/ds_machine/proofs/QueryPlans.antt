@@ -1,12 +1,10 @@
 -- What queries and statements are told is what the definitions answer.
-use Rattle.std.proofs.Common.{◌≡◌, ◌⊎◌, inl, inr, ℕ, ◌+◌, ◌-◌, ◌<◌, ◌≤◌, Bool, true, false, List, [], ◌∷◌, length, take, map}
+use Rattle.std.proofs.Common.{◌≡◌, ◌⊎◌, inl, inr, ℕ, ◌+◌, ◌-◌, ◌≤◌, Bool, true, false, List, [], ◌∷◌, length, take, map}
 use Rattle.std.proofs.Common.{refl, ap, sym, ◌∙◌, subst, arith, Option, Some, None}
-use Rattle.std.specs.Prelude.{Ok, Err, Result, All, is_some, max, nat_le, ◌&&◌}
+use Rattle.std.specs.Prelude.{Ok, Err, Result, is_some, max, nat_le, ◌&&◌}
 use Rattle.std.specs.Cmp.{on_total}
 use Rattle.std.specs.List.{list_all}
 use Rattle.std.specs.Option.{option_map}
-use Rattle.std.proofs.lemmas.List.{append-nil}
-use Rattle.std.proofs.lemmas.List.Elements.{All-nil}
 use Rattle.std.proofs.lemmas.Bool.{leb-true, and_parts}
 use Rattle.ds_entity.specs.declared.results.Item.{Item}
 use Rattle.ds_entity.specs.declared.results.Seen.{Seen}
@@ -66,7 +64,7 @@ use Rattle.ds_machine.specs.Queries.{IsGroupSearch, IsPrepared, told_over}
 use Rattle.ds_machine.specs.Reads.{AreSeen, IsPulled, IsReached}
 use Rattle.ds_protocol.specs.Refused.{IsRefusal, is_quiet}
 use Rattle.ds_machine.specs.States.{AreUpTo, IsSession, IsState, StateParts, world}
-use Rattle.ds_machine.proofs.Plans.{memory_as, no_ids, planned_as, quiet-tells, said}
+use Rattle.ds_machine.proofs.Plans.{memory_as, none-printed, planned_as, quiet-tells, said, same-tells}
 use Rattle.ds_machine.proofs.ReadPlans.{lists_are, may_read, may_see, place_there, read_seen, shard_there, view_is_strong}
 
 -- ---- pages
@@ -174,17 +172,8 @@ module _ (st : StateParts) (s : Session) (client : ℕ) (c : Call) where
     by _ e = cc
 
   search_tells : (b : Body) (o : Result Asked.Search Body) → search_of c ≡ Some o → IsQuiet b → Tells st.store st.store c b
-  search_tells b o is quiet = record {
-    definitions = refl;
-    shards = refl;
-    added = [];
-    journal = sym (append-nil st.store.journal);
-    acknowledges = quiet.acknowledges;
-    rises = omega arith;
-    draws = draws_none b o is ∙ no_ids st.store.next (st.store.next - st.store.next) (omega arith);
-    accepts = subst (λ ids. All (λ id. id < st.store.next) ids) (sym quiet.accepts) (All-nil (λ id. id < st.store.next));
-    prints = subst (λ ns. All (λ next. next ≤ st.store.next) ns) (sym quiet.prints) (All-nil (λ next. next ≤ st.store.next));
-  }
+  search_tells b o is quiet =
+      same-tells st.store c b quiet.acknowledges quiet.accepts (draws_none b o is) (none-printed st.store b quiet.prints)
 
   -- a refusal that changes nothing
   refused_so : (b : Body) (o : Result Asked.Search Body) → search_of c ≡ Some o → Tells st.store st.store c b
@@ -235,55 +224,47 @@ module _ (st : StateParts) (s : Session) (client : ℕ) (c : Call) where
       found_quiet true selected results sn told = refl
       found_quiet false selected results sn told = refl
 
+      -- what is found among entities, and the cursor behind it
+      abbrev items : List EntityParts → List Item
+      items es = items_of ready.normal.merged r.query.select es (result ready.normal ready.window es).rows
+
+      abbrev behind : List EntityParts → Option (List ℕ)
+      behind es = cursor_of r.cursor ready.normal.branches (result ready.normal ready.window es).next
+
       found_answers : (window : Option ℕ) (after : Session) (es : List EntityParts) (sn : Seen)
           → ancestor_group_refusal s.transaction r.query.ancestor ≡ None
-          → FoundOver (world st.store window) s (search_parts r) prepared.form.places r.query.ancestor r.query.select
-          (items_of ready.normal.merged r.query.select es (result ready.normal ready.window es).rows) sn
-          (cursor_of r.cursor ready.normal.branches (result ready.normal ready.window es).next) after
+          → FoundOver (world st.store window) s (search_parts r) prepared.form.places r.query.ancestor r.query.select (items es) sn
+          (behind es)
+          after
           → BodyAnswers (world st.store window) s (Ok (record { client = client; call = c })) (told_over r ready.normal ready.window es sn)
           after
       found_answers window after es sn group over =
-          found_said r.statement window after r.query.select (items_of ready.normal.merged r.query.select es
-          (result ready.normal ready.window es).rows) sn
-          (cursor_of r.cursor ready.normal.branches (result ready.normal ready.window es).next)
+          found_said r.statement window after r.query.select (items es) sn (behind es)
           (subst (λ o. RequestAnswers (world st.store window) client s c o (told_over r ready.normal ready.window es sn) after)
-          (sym of.exact)
-          (search_found (world st.store window) s c r (is_some s.transaction) ready.normal ready.window prepared.form r.query.select
-          (items_of ready.normal.merged r.query.select es (result ready.normal ready.window es).rows) sn
-          (cursor_of r.cursor ready.normal.branches (result ready.normal ready.window es).next) after of refl group over))
+          (sym of.exact) (search_found (world st.store window) s c r (is_some s.transaction) ready.normal ready.window prepared.form
+          r.query.select (items es) sn (behind es) after of refl group over))
 
       found_tells : (es : List EntityParts) (sn : Seen) → Tells st.store st.store c (told_over r ready.normal ready.window es sn)
       found_tells es sn = quiet-tells st.store c (told_over r ready.normal ready.window es sn)
-          (found_quiet r.statement r.query.select (items_of ready.normal.merged r.query.select es
-          (result ready.normal ready.window es).rows) sn
-          (cursor_of r.cursor ready.normal.branches (result ready.normal ready.window es).next))
+          (found_quiet r.statement r.query.select (items es) sn (behind es))
 
-      finds_in : (es : List EntityParts) → Finds (search_parts r) prepared.form.places es r.query.select
-          (items_of ready.normal.merged r.query.select es (result ready.normal ready.window es).rows)
-          (cursor_of r.cursor ready.normal.branches (result ready.normal ready.window es).next)
+      finds_in : (es : List EntityParts) → Finds (search_parts r) prepared.form.places es r.query.select (items es) (behind es)
       finds_in es = finds_over r ready.normal ready.window prepared.form.places es prepared.form.normal_is prepared.form.window_is
 
       -- ---- in a group
 
       module _ (is : IsState st) (read : GroupRead) (g : IsGroupSearch st s r read) where
-        strong_planned : IsPlan st s client c (told_over r ready.normal ready.window (strong_view st.store.journal read.place)
-            (seen.Place read.place)) (effect.ReadGroup read)
+        abbrev strong : List EntityParts
+        strong = strong_view st.store.journal read.place
+
+        strong_planned : IsPlan st s client c (told_over r ready.normal ready.window strong (seen.Place read.place)) (effect.ReadGroup read)
         strong_planned = record {
-          answers = λ window. found_answers window (session_after (effect.ReadGroup read) st.store s)
-              (strong_view st.store.journal read.place) (seen.Place read.place)
+          answers = λ window. found_answers window (session_after (effect.ReadGroup read) st.store s) strong (seen.Place read.place)
               (ap (ancestor_group_refusal s.transaction) g.has ∙ g.allowed)
-              (subst (λ o. FoundOver (world st.store window) s (search_parts r) prepared.form.places o r.query.select
-              (items_of ready.normal.merged r.query.select (strong_view st.store.journal read.place)
-              (result ready.normal ready.window (strong_view st.store.journal read.place)).rows)
-              (seen.Place read.place) (cursor_of r.cursor ready.normal.branches
-              (result ready.normal ready.window (strong_view st.store.journal read.place)).next)
-              (session_after (effect.ReadGroup read) st.store s)) (sym g.has) (
-                g.stands,
-                finds_in (strong_view st.store.journal read.place),
-                read_seen st s client g.ancestor is read g.reached g.stands
-                    g.allowed window,
-              ));
-          told = found_tells (strong_view st.store.journal read.place) (seen.Place read.place);
+              (subst (λ o. FoundOver (world st.store window) s (search_parts r) prepared.form.places o r.query.select (items strong)
+              (seen.Place read.place) (behind strong) (session_after (effect.ReadGroup read) st.store s)) (sym g.has)
+              (g.stands, finds_in strong, read_seen st s client g.ancestor is read g.reached g.stands g.allowed window));
+          told = found_tells strong (seen.Place read.place);
           allowed = may_read st s client g.ancestor is read g.reached g.stands g.allowed;
         }
 
@@ -314,30 +295,23 @@ module _ (st : StateParts) (s : Session) (client : ℕ) (c : Call) where
         abbrev shown : List ℕ
         shown = st.applied.counts
 
-        global_planned : IsPlan st s client c (told_over r ready.normal ready.window (global_view st.applied.lists shown)
-            (seen.Counts shown)) (effect.SeeCounts sees)
+        abbrev global : List EntityParts
+        global = global_view st.applied.lists shown
+
+        global_planned : IsPlan st s client c (told_over r ready.normal ready.window global (seen.Counts shown)) (effect.SeeCounts sees)
         global_planned = record {
-          answers = λ window. found_answers window (session_after (effect.SeeCounts sees) st.store s) (global_view st.applied.lists shown)
-              (seen.Counts shown)
+          answers = λ window. found_answers window (session_after (effect.SeeCounts sees) st.store s) global (seen.Counts shown)
               (ap (ancestor_group_refusal s.transaction) none)
-              (subst (λ o. FoundOver (world st.store window) s (search_parts r) prepared.form.places o r.query.select
-              (items_of ready.normal.merged r.query.select (global_view st.applied.lists shown)
-              (result ready.normal ready.window (global_view st.applied.lists shown)).rows)
-              (seen.Counts shown) (cursor_of r.cursor ready.normal.branches
-              (result ready.normal ready.window (global_view st.applied.lists shown)).next)
-              (session_after (effect.SeeCounts sees) st.store s)) (sym none) (
+              (subst (λ o. FoundOver (world st.store window) s (search_parts r) prepared.form.places o r.query.select (items global)
+              (seen.Counts shown) (behind global) (session_after (effect.SeeCounts sees) st.store s)) (sym none) (
                 subst (λ lists. CountsWithin (λ k. 0) 0 s.counts lists shown) (lists_are st is pulled)
                     (counts_within 0 s.counts st.applied.lists shown session.counts_within
                     (subst (AreCounts st.applied.lists) are.counts are.listed)),
-                subst (λ lists. Finds (search_parts r) prepared.form.places (global_view lists shown) r.query.select
-                    (items_of ready.normal.merged r.query.select (global_view st.applied.lists shown)
-                    (result ready.normal ready.window (global_view st.applied.lists shown)).rows)
-                    (cursor_of r.cursor ready.normal.branches (result ready.normal ready.window
-                    (global_view st.applied.lists shown)).next)) (lists_are st is pulled)
-                    (finds_in (global_view st.applied.lists shown)),
+                subst (λ lists. Finds (search_parts r) prepared.form.places (global_view lists shown) r.query.select (items global)
+                    (behind global)) (lists_are st is pulled) (finds_in global),
                 after_is,
               ));
-          told = found_tells (global_view st.applied.lists shown) (seen.Counts shown);
+          told = found_tells global (seen.Counts shown);
           allowed = may_see st s client is pulled sees are;
         } where
           commit_is : sees.commit ≡ counted_place (shard_lists st.store.shards st.store.journal) shown
