@@ -74,6 +74,11 @@ ids-same (call.AllocateIds count) g h same = ap (ids_from count) same
 ids-same (call.Put key false properties) g h same = refl
 ids-same _ g h same = refl
 
+-- what is the same either way
+same-either : {A B : Type 0} (f : A → B) (b : Bool) (x y : A) → f x ≡ f y → f (cond b x y) ≡ f y
+same-either f true x y same = same
+same-either f false x y same = refl
+
 -- a step that draws nothing, by which the client's open request becomes this one
 pub quiet-step : (m : MachineParts) (new : StateParts) (client : ℕ) (d : Session) (none o : Option Open) → IsLegal m
     → client < length m.sessions → new.store ≡ m.state.store → AreUpTo m.state.applied.counts new.applied.counts
@@ -207,21 +212,14 @@ module _ (m : MachineParts) (legal : IsLegal m) (client : ℕ) (d : Session) (no
           by steps.Commit next = quiet (gathered_by (shown m.state) o.work.operation o.gathered steps.Commit) refl next
           by steps.Touch next = quiet (gathered_by (shown m.state) o.work.operation o.gathered steps.Touch) refl next
           by (steps.View shard) next = quiet (gathered_by (shown m.state) o.work.operation o.gathered (steps.View shard))
-              (each (nat_lt shard m.state.store.shards && gathers_view (shown m.state) o.work.operation o.gathered shard)) next where
-                each : (b : Bool) → (cond b (record (o.gathered) {
-                  views = slice_set o.gathered.views shard
-                      (Some (count_of m.state.applied.counts shard));
-                }) o.gathered).first ≡ o.gathered.first
-                each true = refl
-                each false = refl
+              (same-either (λ (h : GatheredParts). h.first)
+              (nat_lt shard m.state.store.shards && gathers_view (shown m.state) o.work.operation o.gathered shard)
+              (record (o.gathered) { views = slice_set o.gathered.views shard (Some (count_of m.state.applied.counts shard)) })
+              o.gathered refl) next
           by (steps.Apply shard) next = quiet (gathered_by (shown m.state) o.work.operation o.gathered (steps.Apply shard))
-              (each (nat_lt shard m.state.store.shards && is_pending (shown m.state) shard && gathers_entry o.work.operation o.gathered
-              shard)) next where
-                each : (b : Bool) → (cond b (record (o.gathered) { applied = Some (count_of m.state.applied.counts shard + 1) })
-                    o.gathered).first
-                    ≡ o.gathered.first
-                each true = refl
-                each false = refl
+              (same-either (λ (h : GatheredParts). h.first)
+              (nat_lt shard m.state.store.shards && is_pending (shown m.state) shard && gathers_entry o.work.operation o.gathered shard)
+              (record (o.gathered) { applied = Some (count_of m.state.applied.counts shard + 1) }) o.gathered refl) next
           by (steps.Issue count) next = each (draws (shown m.state) o.work.operation o.gathered count) refl next where
             each : (b : Bool) → draws (shown m.state) o.work.operation o.gathered count ≡ b
                 → new.store.next ≡ cond b (m.state.store.next + count) m.state.store.next
@@ -240,19 +238,8 @@ module _ (m : MachineParts) (legal : IsLegal m) (client : ℕ) (d : Session) (no
   step-legal now stepped = by old refl stepped where
     by : (p : Option Open) → old ≡ p → SteppedTo step m.state p new now → Quiet now
     by (Some o) has is = subst Quiet (sym is.0) (stepped_some o has is.1 is.2)
-    by None has is = subst Quiet (sym (is.0 ∙ sym has)) (
-      stepped-legal m legal new client d none old below (grows_planned m.state new is.1 up)
-          (ap (λ (x : StoreParts). x.definitions) is.1) (ap (λ (x : StoreParts). x.shards) is.1) (ap (λ (x : StoreParts). x.journal) is.1)
-          0 (let e : new.store.next ≡ m.state.store.next = ap (λ (x : StoreParts). x.next) is.1 in omega (arith, e))
-          (subst (IsOpen new client s) (sym has) tt)
-          (sym (append-nil (held_by old))),
-      (ap (λ (x : StoreParts). x.definitions) is.1, ap (λ (x : StoreParts). x.shards) is.1),
-      record {
-        asked = asked-same m.opens client none old below_open refl;
-        requests = refl;
-        replies = refl;
-      },
-    )
+    by None has is = subst Quiet (sym (is.0 ∙ sym has))
+        (quiet-step m new client d none old legal below is.1 up (subst (IsOpen new client s) (sym has) tt) refl refl)
 
 -- a request is opened, which has gathered nothing
 pub open-step : (m : MachineParts) → IsLegal m → (client : ℕ) (d : Session) (none : Option Open) (r : Request)

@@ -197,5 +197,3 @@ event-then hs h e more rest all so_far first is =
     ∙ ap (λ x. map event_of hs ++ (x ∷ more)) is
     ∙ ap (λ es. map event_of hs ++ es) (sym first)
     ∙ so_far
-
--- ---- calls that may be refused

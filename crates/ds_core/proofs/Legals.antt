@@ -473,5 +473,3 @@ legal-round m t definitions shards legal closed same_definitions same_shards req
       accepted_below = legal.accepts;
       printed_within = legal.prints;
     })
-
--- ---- calls that may be refused

@@ -155,5 +155,3 @@ turn-then a b c client begins below first second = by first.said second.said fir
           let gone : None ≡ Some z.request = sym (asked-set was client None within) ∙ ap (λ xs. asked_by xs client) (sym one.1)
           ∙ sym (opening-none (asked_by (asked_of b.opens) client)) ∙ two.0 in
           cc
-
--- ---- calls that may be refused
