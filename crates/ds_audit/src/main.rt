@@ -26,13 +26,7 @@ fn main(rt: HostRuntime) -> ExitCode {
 
 /// The words behind the program's name.
 fn words(rt: &HostRuntime) -> io::Result<Vec<String>> {
-    let mut words = Vec::new(rt.alloc());
-    for word in env::args(rt)?.skip(1) {
-        if words.push(word).is_err() {
-            return Err(io::Error::from(ErrorKind::OutOfMemory));
-        }
-    }
-    Ok(words)
+    Ok(env::args(rt)?.skip(1).collect(rt.alloc())?)
 }
 
 /// How an audit ends whose words could not be had.

@@ -15,9 +15,9 @@ ghost use Rattle.ds_engine.specs.Places.{bytes_of, is_wanted, walk_steps};
 
 use crate::behind::RowsBehind;
 use crate::kept::KeptRows;
-use ds_base::{Names, NoMemory};
+use ds_base::NoMemory;
 use ds_io::Steps;
-use ds_query::{Branch, Place, Select};
+use ds_query::{Branch, Place};
 use ds_zigzag::{Scan, Walk};
 use std::alloc::Global;
 use std::sync::ledger::Ledger;
@@ -53,12 +53,10 @@ pub(crate) fn first_common<S: Scan, L: Ledger>(
     ensures steps_stay_counted { steps.old ≤ steps.new }
 {
     let mut walk = Walk::begin(alloc, scans.len(), bytes_of(start))?;
-    let none = Names::new(alloc);
-    let names = projected(&branch.select, &none);
     let mut firsts = KeptRows::new(
         alloc,
         branch.columns.as_slice(),
-        names.as_slice(),
+        branch.select.projected(),
         skip,
         places,
     )?;
@@ -88,16 +86,5 @@ fn bytes_of(place: Option<&Place>) -> Option<&[u8]>
     match place {
         Some(place) => Some(place.bytes.bytes()),
         None => None,
-    }
-}
-
-/// The names of a projection; none otherwise.
-fn projected<'a>(select: &'a Select, none: &'a Names) -> &'a Names
-    requires { none.now ≡ [] }
-    ensures { result.now ≡ projected select.now }
-{
-    match select {
-        Select::Projection(names) => names,
-        _ => none,
     }
 }

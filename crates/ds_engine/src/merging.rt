@@ -27,5 +27,5 @@ pub fn merge(
     ensures { IfOk result (λ page. page ≡ page_of_rows merged.now projected.now window.now (map parts_of (all_rows lists))) }
 {
     let rows = joined(alloc, lists)?;
-    page_of_rows(alloc, rows, merged, projected, window)
+    page_of_rows(alloc, rows, merged, projected.as_slice(), window)
 }

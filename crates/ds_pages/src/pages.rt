@@ -19,9 +19,9 @@ pub(crate) fn page(alloc: Global, firsts: Vec<Row>, window: &Window) -> Result<R
     cut(alloc, seen(firsts, window), window)
 }
 
-/// The page of rows that stand in their order, of each result one, as many as are skipped and taken: those that are left when the first
-/// are skipped, and the place of the last one. The rows are moved, and none is compared. A refusal is want of memory.
-pub fn cut(alloc: Global, rows: Vec<Row>, window: &Window) -> Result<RowPage, NoMemory>
+/// Of rows that stand in their order, as many as are skipped and taken: those that are left when the first are skipped, and the place of
+/// the last one. The rows are moved.
+fn cut(alloc: Global, rows: Vec<Row>, window: &Window) -> Result<RowPage, NoMemory>
     ensures rows { IfOk result (λ m. m.rows ≡ drop window.now.offset rows.items) }
     ensures next { IfOk result (λ m. m.next ≡ last_of window.now.start rows.items) }
 {

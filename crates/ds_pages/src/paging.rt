@@ -10,7 +10,7 @@ use crate::firsts::firsts;
 use crate::marks::slots;
 use crate::pages::page;
 use crate::row_page::RowPage;
-use ds_base::{Columns, Names, NoMemory};
+use ds_base::{Columns, NoMemory, TextString};
 use ds_query::{Row, Window};
 use std::alloc::Global;
 
@@ -22,13 +22,13 @@ pub fn page_of_rows(
     alloc: Global,
     rows: Vec<Row>,
     columns: &Columns,
-    names: &Names,
+    names: &[TextString],
     window: &Window,
 ) -> Result<RowPage, NoMemory>
     requires placed { All (IsPlaced columns.now) rows.items }
     ensures { IfOk result (λ page. page ≡ page_of_rows columns.now names.now window.now (map parts_of rows.items)) }
 {
-    let slots = slots(alloc, columns.as_slice(), names.as_slice())?;
+    let slots = slots(alloc, columns.as_slice(), names)?;
     let sorted = sorted(rows)?;
     let firsts = firsts(alloc, sorted, slots.as_slice())?;
     page(alloc, firsts, window)

@@ -9,10 +9,10 @@ ghost use Rattle.ds_pages.specs.Places.{IsPlaced, placed};
 ghost use Rattle.ds_plain.specs.Answers.{query_page, branch_list};
 
 use crate::found::found_rows;
-use ds_base::{Columns, Names, NoMemory};
+use ds_base::{Columns, NoMemory};
 use ds_entity::{Entities, Entity};
 use ds_pages::{Directions, RowPage, directions_of, extended_values, joined, page_of_rows, placed};
-use ds_query::{Branch, Normal, Place, Row, RowList, RowLists, Select, Window};
+use ds_query::{Branch, Normal, Place, Row, RowList, RowLists, Window};
 use std::alloc::Global;
 use std::cmp::Ordering;
 
@@ -69,8 +69,7 @@ fn several(
 {
     let lists = branch_lists(alloc, entities, normal)?;
     let rows = joined(alloc, lists)?;
-    let none = Names::new(alloc);
-    page_of_rows(alloc, rows, &normal.merged, &none, window)
+    page_of_rows(alloc, rows, &normal.merged, &[], window)
 }
 
 /// The rows of each branch in the merged columns, with their places there. Where a column is none of the
@@ -127,20 +126,8 @@ fn single(
 {
     let branch = &normal.branches.as_slice()[0];
     let rows = rows_between(alloc, entities, branch, window)?;
-    let none = Names::new(alloc);
-    let names = projected(&branch.select, &none);
+    let names = branch.select.projected();
     page_of_rows(alloc, rows, &branch.columns, names, window)
-}
-
-/// The names of a projection; none otherwise.
-fn projected<'a>(select: &'a Select, none: &'a Names) -> &'a Names
-    requires { none.now ≡ [] }
-    ensures { result.now ≡ projected select.now }
-{
-    match select {
-        Select::Projection(names) => names,
-        _ => none,
-    }
 }
 
 /// The rows of a branch between the window's places, after the start and up to the end, each with its place among the branch's

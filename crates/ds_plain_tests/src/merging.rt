@@ -134,17 +134,6 @@ fn most_of(window: &Window) -> Option<u64>
     }
 }
 
-/// The names of a projection; none otherwise.
-fn projected<'a>(select: &'a Select, none: &'a Names) -> &'a Names
-    requires { none.now ≡ [] }
-    ensures { result.now ≡ projected select.now }
-{
-    match select {
-        Select::Projection(names) => names,
-        _ => none,
-    }
-}
-
 /// The first rows of a branch in two shards by one plan. The steps are within the sum of the bounds.
 fn lists_of_both<L: Ledger>(
     alloc: Global,
@@ -190,9 +179,24 @@ fn page_of_both<L: Ledger>(
         (all_entities (left_in first.now ∷ left_in second.now ∷ []))))) }
 {
     let lists = lists_of_both(alloc, first, second, branch, plan, window, steps)?;
-    let none = Names::new(alloc);
-    let names = projected(&branch.select, &none);
-    merge(alloc, lists, &branch.columns, names, window)
+    merge_one(alloc, lists, branch, window)
+}
+
+/// The page of the lists of one branch, with the names of its projection.
+fn merge_one(
+    alloc: Global,
+    lists: RowLists,
+    branch: &Branch,
+    window: &Window,
+) -> Result<Merged, NoMemory>
+    requires placed { All (IsPlaced branch.now.columns) (all_rows lists) }
+    ensures { IfOk result (λ page. page
+        ≡ page_of_rows branch.now.columns (projected branch.now.select) window.now (map parts_of (all_rows lists))) }
+{
+    match &branch.select {
+        Select::Projection(names) => merge(alloc, lists, &branch.columns, names, window),
+        _ => merge(alloc, lists, &branch.columns, &Names::new(alloc), window),
+    }
 }
 
 /// The page of a branch in one shard, by a plan of its own.

@@ -1,7 +1,6 @@
 -- An open transaction as the definitions of sessions see it.
-use Rattle.std.specs.Prelude.{◌≡◌, ℕ, min, List, Option, Some, None}
+use Rattle.std.specs.Prelude.{◌≡◌, ℕ, min, Option, Some, None}
 use Rattle.ds_base.specs.Keys.{KeyParts}
-use Rattle.ds_log.specs.declared.Touch.{Touch}
 use Rattle.ds_txn.specs.Transactions.{TxnParts}
 use Rattle.ds_model.specs.Groups.{group_refusal, write_refusal}
 use Rattle.ds_model.specs.Sessions.{Transaction}
@@ -18,11 +17,6 @@ pub record OpenParts : Type 0 where
 abbrev pub open_parts : Option TxnParts → OpenParts
 open_parts None = record { transaction = None; room = 0 }
 open_parts (Some t) = record { transaction = Some (transaction_of t); room = min t.touch_spare t.write_spare }
-
--- there is a transaction, and it has touched these groups
-abbrev pub HasTouched : Option Transaction → List Touch → Type 0
-HasTouched None touched = ⊥
-HasTouched (Some t) touched = t.touched ≡ touched
 
 -- a transaction that may touch the group and has room for a write
 abbrev pub MayWrite : Option Transaction → KeyParts → Type 0

@@ -15,7 +15,7 @@ use crate::states::items::items;
 use crate::states::over_shards::page_over_shards;
 use crate::states::rows::put_shard_rows;
 use crate::states::snapshot::ShardSnapshot;
-use ds_base::{Names, NoMemory};
+use ds_base::NoMemory;
 use ds_entity::Results;
 use ds_indexdef::Defs;
 use ds_io::Steps;
@@ -210,7 +210,7 @@ fn page_of_all(
         → IfOk result (λ page. page ≡ page_over normal.now window.now (all_entities (map entities_in snapshots.now))) }
 {
     if normal.several {
-        page_of_rows(alloc, rows, &normal.merged, &Names::new(alloc), window)
+        page_of_rows(alloc, rows, &normal.merged, &[], window)
     } else {
         page_of_results(alloc, rows, window)
     }

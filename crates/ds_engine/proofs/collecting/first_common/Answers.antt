@@ -33,9 +33,9 @@ answers-init g c = record {
       (map g.S.Scan.strings c.args.scans.now) c.args.most c.in_ok-firsts.firsts.keeps_all c.in_ok-firsts.firsts.firsts.slots
       c.in_ok-walk.walk.last []
       (c.in_ok-firsts.ensures.all
-      ∙ (λ i. are_projected ((c.as_slice-2.ensures ∙ c.projected-names.ensures) i) (c.as_slice.ensures i)))
+      ∙ (λ i. are_projected (c.projected.ensures i) (c.as_slice.ensures i)))
       c.requires.differ
-      (c.in_ok-firsts.ensures.slots ∙ (λ i. map (slot_of (c.as_slice.ensures i)) ((c.as_slice-2.ensures ∙ c.projected-names.ensures) i)))
+      (c.in_ok-firsts.ensures.slots ∙ (λ i. map (slot_of (c.as_slice.ensures i)) (c.projected.ensures i)))
       (c.in_ok-walk.ensures.stands ∙ c.bytes_of.ensures) refl;
   passed = refl;
   walked =

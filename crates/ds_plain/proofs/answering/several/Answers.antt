@@ -1,4 +1,4 @@
-use Rattle.std.proofs.Common.{map, ap, ◌∙◌}
+use Rattle.std.proofs.Common.{map, [], refl, ap, ◌∙◌}
 use Rattle.ds_pages.specs.Pages.{page_of_rows}
 use Rattle.ds_pages.specs.Places.{parts_of}
 use Rattle.ds_plain.proofs.AnswerLaws.{several_page, given}
@@ -9,6 +9,6 @@ returns c =
     let n = c.args.normal.now in
     let w = c.args.window.now in
     given c.page_of_rows.result c.page_of_rows.ensures (λ m page.
-    several_page n w (map (λ e. e.now) c.args.entities.now) c.in_ok-lists.lists c.new-none.result m c.requires.several
-    c.in_ok-lists.ensures.rows c.new-none.ensures
-    (page ∙ ap (λ rs. page_of_rows n.merged c.new-none.result w (map parts_of rs)) c.in_ok-rows.ensures))
+    several_page n w (map (λ e. e.now) c.args.entities.now) c.in_ok-lists.lists [] m c.requires.several
+    c.in_ok-lists.ensures.rows refl
+    (page ∙ ap (λ rs. page_of_rows n.merged [] w (map parts_of rs)) c.in_ok-rows.ensures))

@@ -17,13 +17,12 @@ returns g c own =
     let w = c.args.window.now in
     let es = left_in c.args.first.now in
     let fs = left_in c.args.second.now in
-    IfOk-weaker c.merge.result
-    (λ page. page ≡ page_of_rows q.columns c.projected-names.result.now w (map parts_of (all_rows c.in_ok-lists.lists)))
+    IfOk-weaker c.merge_one.result
+    (λ page. page ≡ page_of_rows q.columns (projected q.select) w (map parts_of (all_rows c.in_ok-lists.lists)))
     (λ page. page ≡ with_places q.columns (page_of q.columns w (branch_results q w.start w.end (all_entities (es ∷ fs ∷ [])))))
     (λ page is. is
-    ∙ ap (λ names. page_of_rows q.columns names w (map parts_of (all_rows c.in_ok-lists.lists))) c.projected-names.ensures
     ∙ ap (λ ls. page_of_rows q.columns (projected q.select) w (map parts_of (all_rows ls))) c.in_ok-lists.ensures.lists
     ∙ ap (page_of_rows q.columns (projected q.select) w)
     (parts_of_both q.columns (given q w.start w.end (plus_limit w.offset w.limit)) es fs)
     ∙ shards_page q w (shard_among 2) (es ∷ fs ∷ []) own)
-    c.merge.ensures
+    c.merge_one.ensures

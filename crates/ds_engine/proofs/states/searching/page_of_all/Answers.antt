@@ -1,4 +1,4 @@
-use Rattle.std.proofs.Common.{◌≡◌, ap, map, ◌∙◌}
+use Rattle.std.proofs.Common.{◌≡◌, map, []}
 use Rattle.std.proofs.lemmas.Result.{IfOk-weaker}
 use Rattle.ds_base.specs.Sorting.{sorted_by}
 use Rattle.ds_pages.specs.Pages.{page_of, page_of_rows, with_places}
@@ -14,10 +14,10 @@ returns-then-normal c own =
     let w = c.args.window.now in
     let views = map entities_in c.args.snapshots.now in
     let rows = map parts_of c.args.rows.items in
-    IfOk-weaker c.page_of_rows-then-normal.result (λ p. p ≡ page_of_rows n.merged c.new.result w rows)
+    IfOk-weaker c.page_of_rows-then-normal.result (λ p. p ≡ page_of_rows n.merged [] w rows)
     (λ p. p ≡ page_over n w (all_entities views))
     (λ p is. page_of_several n w views c.args.rows.items p c.requires.lawful c.requires.placeless c.if-normal.true c.requires.rows
-    (is ∙ ap (λ names. page_of_rows n.merged names w rows) c.new.ensures))
+    is)
     c.page_of_rows-then-normal.ensures
 
 pub returns-else-normal : goal.returns-else-normal
