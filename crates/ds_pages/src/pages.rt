@@ -47,16 +47,7 @@ fn next_place(alloc: Global, rows: &[Row], start: &Option<Place>) -> Result<Opti
 {
     match rows.last() {
         Some(row) => Ok(Some(row.place.copy(alloc)?)),
-        None => copied(alloc, start),
-    }
-}
-
-fn copied(alloc: Global, place: &Option<Place>) -> Result<Option<Place>, NoMemory>
-    ensures { IfOk result (λ c. c ≡ place.now) }
-{
-    match place {
-        Some(place) => Ok(Some(place.copy(alloc)?)),
-        None => Ok(None),
+        None => Ok(start.copy(alloc)?),
     }
 }
 

@@ -96,7 +96,7 @@ fn put_composite(
         last_key_descends(def.columns.as_slice()),
         &mut key,
     )?;
-    put_composite_front(position, entity.key(), front)?;
+    put_composite_front(entity.key().namespace(), position, front)?;
     put_for_index(
         def.ancestor,
         entity.key(),

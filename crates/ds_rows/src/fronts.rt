@@ -1,14 +1,12 @@
-//! What the rows of an index begin with.
-ghost use Rattle.std.specs.Prelude.{◌≡◌, ◌∷◌, ◌++◌, if◌then◌else◌, OnOk};
+//! What the rows of an index begin with: of an entity's rows, and of the ranges that a query reads.
+ghost use Rattle.std.specs.Prelude.{◌≡◌, ◌∷◌, ◌++◌, [], if◌then◌else◌, OnOk};
 ghost use Rattle.ds_bytes.specs.Encoding.{escaped};
 ghost use Rattle.ds_base.specs.Bytes.{AreBytes};
 ghost use Rattle.ds_indexdef.specs.declared.IndexDef.{IndexDef};
-ghost use Rattle.ds_rows.specs.IndexedValues.{kind_of};
 ghost use Rattle.ds_rows.specs.Indexes.{AllByKey, KindByKey, ByProperty, Composite};
 ghost use Rattle.ds_rows.specs.Rows.{index_front};
 
-use crate::indexed::kind_of;
-use ds_base::{Buffer, Key, NoMemory, TextString};
+use ds_base::{Buffer, NoMemory, TextString};
 use ds_bytes::encode_text;
 
 /// The bytes that tell the kinds of indexes apart.
@@ -22,33 +20,39 @@ const BY_PROPERTY_DESCENDING: u8 = 0x03;
 
 const COMPOSITE: u8 = 0x04;
 
-/// Leaves in `front` what rows in the index of all entities begin with, in the key's namespace.
-pub(crate) fn put_all_front(key: &Key, front: &mut Buffer) -> Result<(), NoMemory>
-    ensures { OnOk result (front.new.bytes ≡ index_front AllByKey key.now.namespace (kind_of key.now)) }
+/// Leaves in `front`, in place of what it held, what rows in the index of all entities of a namespace begin with. Refused: want of
+/// memory, as in the other calls here.
+pub fn put_all_front(namespace: &TextString, front: &mut Buffer) -> Result<(), NoMemory>
+    ensures { OnOk result (front.new.bytes ≡ index_front AllByKey namespace.now []) }
 {
-    begin(ALL_BY_KEY, key, front)
+    begin(ALL_BY_KEY, namespace, front)
 }
 
-/// Leaves in `front` what rows in the index of the key's kind begin with.
-pub(crate) fn put_kind_front(key: &Key, front: &mut Buffer) -> Result<(), NoMemory>
-    ensures { OnOk result (front.new.bytes ≡ index_front KindByKey key.now.namespace (kind_of key.now)) }
-{
-    begin(KIND_BY_KEY, key, front)?;
-    encode_text(kind_of(key), front)
-}
-
-/// Leaves in `front` what rows in an index of a property begin with.
-pub(crate) fn put_property_front(
-    name: &TextString,
-    descending: bool,
-    key: &Key,
+/// Leaves in `front`, in place of what it held, what rows in the index of a kind begin with in a namespace.
+pub fn put_kind_front(
+    namespace: &TextString,
+    kind: &[u8],
     front: &mut Buffer,
 ) -> Result<(), NoMemory>
-    ensures front { OnOk result (front.new.bytes ≡ index_front (ByProperty name.now descending) key.now.namespace (kind_of key.now)) }
+    ensures { OnOk result (front.new.bytes ≡ index_front KindByKey namespace.now kind.now) }
+{
+    begin(KIND_BY_KEY, namespace, front)?;
+    encode_text(kind, front)
+}
+
+/// Leaves in `front`, in place of what it held, what rows in the index of a property begin with in a namespace and kind.
+pub fn put_property_front(
+    namespace: &TextString,
+    kind: &[u8],
+    name: &TextString,
+    descending: bool,
+    front: &mut Buffer,
+) -> Result<(), NoMemory>
+    ensures front { OnOk result (front.new.bytes ≡ index_front (ByProperty name.now descending) namespace.now kind.now) }
     ensures name { OnOk result (AreBytes name.now) }
 {
-    begin(property_tag(descending), key, front)?;
-    encode_text(kind_of(key), front)?;
+    begin(property_tag(descending), namespace, front)?;
+    encode_text(kind, front)?;
     put_name(name.bytes(), front)
 }
 
@@ -59,15 +63,16 @@ fn put_name(name: &[u8], front: &mut Buffer) -> Result<(), NoMemory>
     encode_text(name, front)
 }
 
-/// Leaves in `front` what rows in the composite index of the definition at this place begin with.
-pub(crate) fn put_composite_front(
+/// Leaves in `front`, in place of what it held, what rows in the composite index of the definition at this place begin with in a
+/// namespace. The definition tells their kind.
+pub fn put_composite_front(
+    namespace: &TextString,
     position: u32,
-    key: &Key,
     front: &mut Buffer,
 ) -> Result<(), NoMemory>
-    ensures { (def : IndexDef) → OnOk result (front.new.bytes ≡ index_front (Composite position def) key.now.namespace (kind_of key.now)) }
+    ensures { (def : IndexDef) → OnOk result (front.new.bytes ≡ index_front (Composite position def) namespace.now []) }
 {
-    begin(COMPOSITE, key, front)?;
+    begin(COMPOSITE, namespace, front)?;
     front.append(&position.to_be_bytes())
 }
 
@@ -81,11 +86,11 @@ fn property_tag(descending: bool) -> u8
     }
 }
 
-/// Leaves in `front` the byte and the key's namespace.
-fn begin(tag: u8, key: &Key, front: &mut Buffer) -> Result<(), NoMemory>
-    ensures { OnOk result (front.new.bytes ≡ tag ∷ escaped key.now.namespace) }
+/// Leaves in `front` the byte and the namespace.
+fn begin(tag: u8, namespace: &TextString, front: &mut Buffer) -> Result<(), NoMemory>
+    ensures { OnOk result (front.new.bytes ≡ tag ∷ escaped namespace.now) }
 {
     front.clear();
     front.append(&[tag])?;
-    encode_text(key.namespace().bytes(), front)
+    encode_text(namespace.bytes(), front)
 }

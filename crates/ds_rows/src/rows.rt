@@ -11,7 +11,7 @@ ghost use Rattle.ds_rows.specs.Laws.{IsOnce};
 
 use crate::composite::put_composite_rows;
 use crate::fronts::{put_all_front, put_kind_front, put_property_front};
-use crate::indexed::indexed_lists;
+use crate::indexed::{indexed_lists, kind_of};
 use crate::row_set::{RowSet, RowWriter};
 use crate::ways::{ColumnValues, put_rows};
 use ds_base::{Buffer, IndexValue, IndexValues, NoMemory, TextString};
@@ -70,9 +70,10 @@ fn put_key_rows(
       begun = [];
     }) }
 {
-    put_all_front(entity.key(), front)?;
+    let own = entity.key();
+    put_all_front(own.namespace(), front)?;
     put_rows(front.bytes(), &[], key, rows)?;
-    put_kind_front(entity.key(), front)?;
+    put_kind_front(own.namespace(), kind_of(own), front)?;
     put_rows(front.bytes(), &[], key, rows)
 }
 
@@ -146,7 +147,8 @@ fn put_property(
     ensures lawful { OnOk result (All IsLawfulValue values.now) }
     ensures name { OnOk result (AreBytes name.now) }
 {
-    put_property_front(name, descending, entity.key(), front)?;
+    let own = entity.key();
+    put_property_front(own.namespace(), kind_of(own), name, descending, front)?;
     put_rows(
         front.bytes(),
         &[ColumnValues { values, descending }],

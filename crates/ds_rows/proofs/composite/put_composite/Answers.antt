@@ -1,4 +1,4 @@
-use Rattle.std.proofs.Common.{◌≡◌, ◌++◌, List, ℕ, map, refl, ap, sym, ◌∙◌}
+use Rattle.std.proofs.Common.{◌≡◌, ◌++◌, List, ℕ, [], map, refl, ap, sym, ◌∙◌}
 use Rattle.ds_base.specs.declared.column.Column.{Column}
 use Rattle.ds_base.specs.Buffers.{BufferParts}
 use Rattle.ds_base.specs.Keys.{KeyParts}
@@ -21,7 +21,7 @@ returns c =
     ∙ (λ t. key_encoding (descends t) (c.key-2.ensures.value t)) in
     let front : c.put_composite_front.new.front.bytes ≡ index_front (Composite c.args.position d) e.key.namespace (kind_of e.key) =
     c.in_ok-put_composite_front.ensures d
-    ∙ ap (λ (k : KeyParts). index_front (Composite c.args.position d) k.namespace (kind_of k)) c.key-4.ensures.value in
+    ∙ ap (λ ns. index_front (Composite c.args.position d) ns []) (c.namespace.ensures.value ∙ ap (λ (k : KeyParts). k.namespace) c.key-4.ensures.value) in
     let columns : c.front_columns.result.now ≡ front_columns d.columns = c.front_columns.ensures ∙ ap front_columns c.as_slice.ensures in
     c.put_for_index.ensures e (Composite c.args.position d) (sym c.key-5.ensures.value) refl front last
     (ap lists_of c.as_slice-4.ensures.value ∙ c.in_ok-values.ensures.lists ∙ ap (map (λ (x : Column). column_values e x.name)) columns)

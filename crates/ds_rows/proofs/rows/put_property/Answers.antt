@@ -12,13 +12,16 @@ use Rattle.ds_rows.proofs.rows.put_property.Goals as goal
 
 pub returns-clause-put : goal.returns-clause-put
 returns-clause-put c =
+    let theirs : c.namespace.result.now ≡ c.args.entity.now.key.namespace =
+    c.namespace.ensures.value ∙ ap (λ (k : KeyParts). k.namespace) c.key-own.ensures.value in
+    let kinds : c.kind_of.result.now ≡ kind_of c.args.entity.now.key = c.kind_of.ensures ∙ ap kind_of c.key-own.ensures.value in
     on_ok c.put_rows.result
     (rows_put c.args.rows.now c.put_rows.new.rows _ _
     (rows_without c.args.entity.now (ByProperty c.args.name.now c.args.descending) c.bytes.result.now c.args.key.now
     (c.args.values.now ∷ [])
     (c.args.descending ∷ []) refl
     (c.bytes.ensures ∙ c.in_ok-put_property_front.ensures.front
-    ∙ ap (λ (k : KeyParts). index_front (ByProperty c.args.name.now c.args.descending) k.namespace (kind_of k)) c.key.ensures.value)
+    ∙ (λ i. index_front (ByProperty c.args.name.now c.args.descending) (theirs i) (kinds i)))
     c.requires.encoded (ap (λ values. values ∷ []) c.requires.theirs) refl))
     c.put_rows.ensures.put
 

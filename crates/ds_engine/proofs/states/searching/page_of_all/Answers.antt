@@ -14,11 +14,11 @@ returns-then-normal c own =
     let w = c.args.window.now in
     let views = map entities_in c.args.snapshots.now in
     let rows = map parts_of c.args.rows.items in
-    IfOk-weaker c.page_of_rows-then-normal.result (λ p. p ≡ page_of_rows n.merged [] w rows)
+    IfOk-weaker c.page_of_rows.result (λ p. p ≡ page_of_rows n.merged [] w rows)
     (λ p. p ≡ page_over n w (all_entities views))
     (λ p is. page_of_several n w views c.args.rows.items p c.requires.lawful c.requires.placeless c.if-normal.true c.requires.rows
     is)
-    c.page_of_rows-then-normal.ensures
+    c.page_of_rows.ensures
 
 pub returns-else-normal : goal.returns-else-normal
 returns-else-normal c own =
