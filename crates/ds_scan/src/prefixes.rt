@@ -69,6 +69,7 @@ fn put_composite_prefix(
     position: u32,
     prefix: &mut Buffer,
 ) -> Result<(), NoMemory>
+    requires { prefix.old.bytes ≡ [] }
     ensures put { OnOk result (prefix.new.bytes
         ≡ unwrap_or (option_map (prefix_in branch.now scan.now) (option_map (Composite position) (slice_get defs.now position))) []) }
     ensures lawful { OnOk result (IsLawfulIn scan.now (option_map (Composite position) (slice_get defs.now position))) }
