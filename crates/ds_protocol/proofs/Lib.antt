@@ -2,7 +2,6 @@ pub mod Ends
 pub mod Halving
 pub mod Meetings
 pub mod Plans
-pub mod PutRefusals
 pub mod Raises
 pub mod Refusals
 pub mod SearchReplies

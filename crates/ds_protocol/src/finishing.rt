@@ -154,15 +154,5 @@ fn place_of(entities: &[&Entity], key: &Key) -> usize
     requires { AreByKey (map (λ e. e.now) entities.now) }
     ensures { IsPlaceOf (map (λ e. e.now) entities.now) key.now result }
 {
-    let mut low = 0;
-    let mut high = entities.len();
-    while low < high {
-        let middle = low + (high - low) / 2;
-        if entities[middle].key().cmp(key).is_lt() {
-            low = middle + 1;
-        } else {
-            high = middle;
-        }
-    }
-    low
+    entities.partition_point(|entity| entity.key().cmp(key).is_lt())
 }

@@ -1,14 +1,13 @@
 //! The normal form and the window of a search, or the first refusal before its group is looked at.
-ghost use Rattle.std.specs.Prelude.{◌≡◌, ◌⊎◌, IfOk, IfErr, OnOk, None, Some, All, IsTrue};
+ghost use Rattle.std.specs.Prelude.{◌≡◌, ◌⊎◌, ◌&&◌, ◌∷◌, [], false, IfOk, IfErr, OnOk, None, Some, All, IsTrue};
 ghost use Rattle.std.specs.List.{list_all};
 ghost use Rattle.ds_base.specs.Keys.{is_namespace};
 ghost use Rattle.ds_query.specs.Filters.{has_operands};
-ghost use Rattle.ds_query.specs.Lawful.{IsLawfulBranch, IsLawfulNormal, SuitsSeveral};
+ghost use Rattle.ds_query.specs.Lawful.{IsLawfulBranch, IsLawfulNormal, IsPlaceless, SuitsSeveral};
 ghost use Rattle.ds_query.specs.Normals.{normal_form};
-ghost use Rattle.ds_query.specs.Reasons.{reason_of};
 ghost use Rattle.ds_planner.specs.Missing.{missing_of};
 ghost use Rattle.ds_model.specs.Answers.{place_found};
-ghost use Rattle.ds_model.specs.Refusals.{form_refusal, missing_body, missing_refusal};
+ghost use Rattle.ds_model.specs.Refusals.{Refused, cursor_refusal, form_refusal, missing_body, missing_refusal};
 ghost use Rattle.ds_model.specs.Sessions.{Session};
 ghost use Rattle.ds_protocol.specs.Cursors.{told, IsEnd, IsEndRefused, WindowRead, WindowRefused, window_between};
 ghost use Rattle.ds_protocol.specs.Preparing.{IsInside, IsReady, IsRefused, IsPlanFor, ArePlacesOf, ArePlansFor};
@@ -73,7 +72,7 @@ fn normal_form(alloc: Global, in_transaction: bool, query: &Query) -> Result<Nor
     ensures ok { IfOk result (λ n. n ≡ normal_form query.now) }
     ensures lawful { IfOk result IsLawfulNormal }
     ensures unrefused { IfOk result (λ n. (s : Session) → IsInside in_transaction s → form_refusal s query.now ≡ None) }
-    ensures no_reason { IfOk result (λ n. reason_of query.now ≡ None) }
+    ensures cursorless { IfOk result (λ n. (n.several && query.now.cursors) ≡ false) }
     ensures refused { IfErr result (λ b. (b ≡ Body.NoMemory)
         ⊎ ((s : Session) → IsInside in_transaction s → form_refusal s query.now ≡ Some b)) }
     ensures quiet { IfErr result IsQuiet }
@@ -103,16 +102,29 @@ enum End {
     Behind(Place),
 }
 
-/// The window of a search whose query has these branches, or the refusal of the start's text and then of the end's.
+/// The window of a search whose query has these branches, or the refusal of the start's text and then of the end's. Where there is no
+/// single branch, neither is looked at.
 fn window_of(alloc: Global, branches: &[Branch], search: &Search) -> Result<Window, Body>
     ensures ok { IfOk result (WindowRead branches.now (search_parts search.now)) }
     ensures places { IfOk result (λ w. All (ArePlacesOf w) branches.now) }
+    ensures placeless { IfOk result (λ w. search.now.start ≡ None → search.now.end ≡ None → IsPlaceless w) }
     ensures refused { IfErr result (λ b. (b ≡ Body.NoMemory) ⊎ WindowRefused branches.now (search_parts search.now) b) }
     ensures quiet { IfErr result IsQuiet }
 {
-    let [branch] = branches else {
-        return Ok(window_between(End::Nothing, End::Nothing, search.offset, search.limit));
-    };
+    match branches {
+        [branch] => window_in(alloc, branch, search),
+        _ => Ok(window_between(End::Nothing, End::Nothing, search.offset, search.limit)),
+    }
+}
+
+/// The window of a search in its one branch.
+fn window_in(alloc: Global, branch: &Branch, search: &Search) -> Result<Window, Body>
+    ensures ok { IfOk result (WindowRead (branch.now ∷ []) (search_parts search.now)) }
+    ensures places { IfOk result (λ w. ArePlacesOf w branch.now) }
+    ensures placeless { IfOk result (λ w. search.now.start ≡ None → search.now.end ≡ None → IsPlaceless w) }
+    ensures refused { IfErr result (λ b. (b ≡ Body.NoMemory) ⊎ WindowRefused (branch.now ∷ []) (search_parts search.now) b) }
+    ensures quiet { IfErr result IsQuiet }
+{
     let start = end_of(alloc, branch, Field::Start, &search.start)?;
     let end = end_of(alloc, branch, Field::End, &search.end)?;
     Ok(window_between(start, end, search.offset, search.limit))
@@ -126,6 +138,7 @@ fn end_of(
     text: &Option<TextString>,
 ) -> Result<End, Body>
     ensures ok { IfOk result (IsEnd branch.now text.now) }
+    ensures nothing { IfOk result (λ e. text.now ≡ None → e ≡ End.Nothing) }
     ensures refused { IfErr result (λ b. (b ≡ Body.NoMemory) ⊎ IsEndRefused branch.now field text.now b) }
     ensures quiet { IfErr result IsQuiet }
 {
@@ -135,9 +148,19 @@ fn end_of(
     match read(alloc, branch, text.text()) {
         Ok(Some(place)) => Ok(End::Behind(place)),
         Ok(None) => Ok(End::BeforeFirst),
-        Err(CursorRefused::BadCursor) => Err(Body::BadCursor { field }),
-        Err(CursorRefused::CursorMismatch) => Err(Body::CursorMismatch { field }),
-        Err(CursorRefused::NoMemory) => Err(Body::NoMemory),
+        Err(refused) => Err(cursor_body(field, refused)),
+    }
+}
+
+/// What is told of a text that is no cursor.
+fn cursor_body(field: Field, refused: CursorRefused) -> Body
+    ensures told { (result ≡ Body.NoMemory) ⊎ (cursor_refusal field (Refused refused) ≡ Some result) }
+    ensures quiet { IsQuiet result }
+{
+    match refused {
+        CursorRefused::BadCursor => Body::BadCursor { field },
+        CursorRefused::CursorMismatch => Body::CursorMismatch { field },
+        CursorRefused::NoMemory => Body::NoMemory,
     }
 }
 
@@ -145,20 +168,15 @@ fn end_of(
 fn window_between(start: End, end: End, offset: u32, limit: Option<u32>) -> Window
     ensures { result ≡ window_between start end offset limit }
 {
-    let start = place_in(start);
-    match end {
-        End::BeforeFirst => Window {
-            start,
-            end: None,
-            offset: 0,
-            limit: Some(0),
-        },
-        end => Window {
-            start,
-            end: place_in(end),
-            offset,
-            limit,
-        },
+    let (offset, limit) = match &end {
+        End::BeforeFirst => (0, Some(0)),
+        End::Nothing | End::Behind(_) => (offset, limit),
+    };
+    Window {
+        start: place_in(start),
+        end: place_in(end),
+        offset,
+        limit,
     }
 }
 

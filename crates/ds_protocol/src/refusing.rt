@@ -2,7 +2,7 @@
 ghost use Rattle.std.specs.Prelude.{◌≡◌, None, Some, IfSome, IsTrue};
 ghost use Rattle.ds_log.specs.Ids.{first_unissued};
 ghost use Rattle.ds_model.specs.Groups.{with_transaction};
-ghost use Rattle.ds_model.specs.Refusals.{refusal_of};
+ghost use Rattle.ds_model.specs.Refusals.{refusal_of, row_refusal};
 ghost use Rattle.ds_model.specs.Sessions.{Session};
 ghost use Rattle.ds_protocol.specs.Operations.{call_of, ids_asked, written_path};
 ghost use Rattle.ds_protocol.specs.Refused.{IsRefusal, is_quiet, tells_no_step};
@@ -10,6 +10,7 @@ ghost use Rattle.ds_protocol.specs.Refused.{IsRefusal, is_quiet, tells_no_step};
 use crate::ids::first_unissued;
 use crate::operations::Operation;
 use crate::transaction::OpenTransaction;
+use ds_entity::Entity;
 use ds_indexdef::Defs;
 use ds_reply::Body;
 use ds_rows::{RowsRefused, count_rows};
@@ -32,10 +33,9 @@ pub fn refusal_of(
     match operation {
         Operation::Put { entity, incomplete } => {
             let key = entity.key();
-            match count_rows(alloc, defs, entity) {
-                Ok(_) => transaction.key_refusal(alloc, key, *incomplete),
-                Err(RowsRefused::TooManyRows { count }) => Some(Body::TooManyRows { count }),
-                Err(RowsRefused::NoMemory) => Some(Body::NoMemory),
+            match row_refusal(alloc, defs, entity) {
+                Some(body) => Some(body),
+                None => transaction.key_refusal(alloc, key, *incomplete),
             }
         }
         Operation::Delete { key } => transaction.key_refusal(alloc, key, false),
@@ -48,6 +48,19 @@ pub fn refusal_of(
             None => Some(Body::NoTransaction),
         },
         Operation::Find(_) | Operation::AllocateIds { .. } => None,
+    }
+}
+
+/// That the entity would have too many index rows, or that there is no memory to count them.
+fn row_refusal(alloc: Global, defs: &Defs, entity: &Entity) -> Option<Body>
+    ensures told { IsRefusal (row_refusal defs.now entity.now) result }
+    ensures quiet { IfSome result (λ b. IsTrue (is_quiet b)) }
+    ensures numberless { IfSome result (λ b. IsTrue (tells_no_step b)) }
+{
+    match count_rows(alloc, defs, entity) {
+        Ok(_) => None,
+        Err(RowsRefused::TooManyRows { count }) => Some(Body::TooManyRows { count }),
+        Err(RowsRefused::NoMemory) => Some(Body::NoMemory),
     }
 }
 

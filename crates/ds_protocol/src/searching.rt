@@ -75,6 +75,17 @@ pub(crate) fn search_of(alloc: Global, call: Call) -> Result<Search, OperationRe
                 cursor,
             })
         }
+        call => statement_search_of(alloc, call),
+    }
+}
+
+/// What a statement searches for; `NoMemory` is what any other call is told, too.
+fn statement_search_of(alloc: Global, call: Call) -> Result<Search, OperationRefused>
+    requires { IsLawfulCall call }
+    ensures ok { IfOk result (IsSearchOf call) }
+    ensures refused { IfErr result (λ e. (e ≡ OperationRefused.NoMemory) ⊎ (search_of call ≡ Some (Err (operation_body e)))) }
+{
+    match call {
         Call::Gql {
             namespace,
             text,

@@ -128,22 +128,21 @@ impl Watermark {
 }
 
 /// Raises the number at a place, if there is one, to at least `count`.
+#[tactic(auto, using(crate::proofs::Raises::raised_set, std::proofs::lemmas::List::set_past))]
 fn raise_at(counts: &mut [u64], shard: usize, count: u64)
     ensures { counts.new ≡ raised_at shard count counts.old }
 {
-    if shard < counts.len() && counts[shard] < count {
-        counts[shard] = count;
+    if shard < counts.len() {
+        counts[shard] = counts[shard].max(count);
     }
 }
 
 /// Raises each number to at least the one at its place.
+#[tactic(auto, using(crate::proofs::Raises::greater_none, crate::proofs::Raises::greater_more))]
 fn raise_all(counts: &mut [u64], others: &[u64])
     ensures { counts.new ≡ greater_counts counts.old others.now }
 {
-    let both = counts.len().min(others.len());
-    for i in 0..both {
-        if counts[i] < others[i] {
-            counts[i] = others[i];
-        }
+    for i in 0..others.len() {
+        raise_at(counts, i, others[i]);
     }
 }
