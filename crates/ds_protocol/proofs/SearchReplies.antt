@@ -1,34 +1,29 @@
 -- From what is promised of a search that is prepared, refused or finished to the replies of the model: laws for servers.
-use Rattle.std.proofs.Common.{◌≡◌, Bool, List, ℕ, Option, Some, None, Ok, refl}
+use Rattle.std.proofs.Common.{arith, ◌≡◌, Bool, List, ℕ, Option, Some, None, Ok, refl}
 use Rattle.ds_entity.specs.declared.results.Item.{Item}
 use Rattle.ds_entity.specs.declared.results.Seen.{Seen}
 use Rattle.ds_query.specs.declared.branch.Normal.{Normal}
 use Rattle.ds_query.specs.declared.branch.Window.{Window}
 use Rattle.ds_query.specs.declared.query.Select.{Select}
 use Rattle.ds_request.specs.declared.call.Call.{Call}
-use Rattle.ds_request.specs.declared.call.Call.TheVariants as call
 use Rattle.ds_reply.specs.declared.reply.Body.{Body}
 use Rattle.ds_model.specs.Answers.{FoundOver, SearchAnswers, SearchRefusedOrAnswered}
 use Rattle.ds_model.specs.Asked
 use Rattle.ds_model.specs.Asked.{search_of}
-use Rattle.ds_model.specs.Refusals.{Places, ancestor_group_refusal, form_refusal}
+use Rattle.ds_model.specs.Refusals.{Places, ancestor_group_refusal}
 use Rattle.ds_model.specs.Sessions.{Session}
 use Rattle.ds_model.specs.Worlds.{World}
 use Rattle.ds_protocol.specs.declared.searching.Search.{Search}
 use Rattle.ds_protocol.specs.Finishing.{found}
 use Rattle.ds_protocol.specs.Preparing.{IsInside, IsReady, IsRefused}
 use Rattle.ds_protocol.specs.Searches.{IsSearchOf, search_parts, is_statement}
-use Rattle.ds_protocol.proofs.Ends.{in_any_case}
 
 -- a query's reply is a query's, and a statement's a statement's
 search_answers : (w : World) (s : Session) (c : Call) (search : Asked.Search) (places : Places) (selected : Select) (results : List Item)
     (seen : Seen) (told : Option (List ℕ)) (after : Session) → search_of c ≡ Some (Ok search)
     → FoundOver w s search places search.query.ancestor selected results seen told after
     → SearchAnswers w s c search places (found (is_statement c) selected results seen told) after
-search_answers w s (call.Query namespace kind ancestor filters orders select offset limit start end cursor) search places selected results
-    seen told after is over = over
-search_answers w s (call.Gql namespace text args names start end cursor) search places selected results seen told after is over = over
-search_answers w s _ search places selected results seen told after is over = cc
+search_answers w s c search places selected results seen told after is over = grind arith
 
 -- ---- the whole reply
 
@@ -42,7 +37,7 @@ module _ (w : World) (s : Session) (c : Call) where
       → SearchRefusedOrAnswered w s c (search_parts r) (found r.statement selected results seen told) after
   search_found r inside n window ready selected results seen told after is i group over = record {
     places = ready.places;
-    read = in_any_case (form_refusal s r.query) _ ready.read;
+    read = grind (arith, ready.read);
     answered = rw (ready.unrefused s i, group, is.written) (search_answers w s c (search_parts r) ready.places selected results seen told
         after is.exact over);
   }
@@ -53,7 +48,7 @@ module _ (w : World) (s : Session) (c : Call) where
       → ancestor_group_refusal s.transaction search.query.ancestor ≡ Some b → SearchRefusedOrAnswered w s c search b s
   search_group_refused search inside n window b ready i group = record {
     places = ready.places;
-    read = in_any_case (form_refusal s search.query) _ ready.read;
+    read = grind (arith, ready.read);
     answered = rw (ready.unrefused s i, group) (refl, refl);
   }
 

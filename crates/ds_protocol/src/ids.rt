@@ -1,11 +1,10 @@
 //! The ids of a written key: which of them only the server gives, and to which group they lead.
 ghost use Rattle.std.specs.Prelude.{◌≡◌, IfOk, IsTrue};
 ghost use Rattle.std.specs.List.{list_all};
-ghost use Rattle.ds_base.specs.Keys.{is_elem, is_ident};
+ghost use Rattle.ds_base.specs.Keys.{is_elem};
 ghost use Rattle.ds_log.specs.Ids.{first_unissued};
 ghost use Rattle.ds_model.specs.Refusals.{group_asked};
 ghost use Rattle.ds_model.specs.Sessions.{next_above};
-ghost use Rattle.ds_protocol.specs.Writing.{id_above};
 
 use ds_base::limits::FIRST_DRAWN_ID;
 use ds_base::{Elem, Ident, Key, NoMemory};
@@ -27,19 +26,12 @@ pub fn next_above(path: &[Elem]) -> u64
 {
     let mut next = 0;
     for elem in path {
-        next = next.max(above(&elem.ident));
+        next = next.max(match &elem.ident {
+            Ident::Id(id) if *id >= FIRST_DRAWN_ID => *id + 1,
+            Ident::Id(_) | Ident::Name(_) => 0,
+        });
     }
     next
-}
-
-fn above(ident: &Ident) -> u64
-    requires { IsTrue (is_ident ident.now) }
-    ensures { result ≡ id_above ident.now }
-{
-    match ident {
-        Ident::Id(id) if *id >= FIRST_DRAWN_ID => *id + 1,
-        Ident::Id(_) | Ident::Name(_) => 0,
-    }
 }
 
 /// The group of a written key; `None` for an incomplete root, whose id isn't drawn yet. A refusal is want of memory.

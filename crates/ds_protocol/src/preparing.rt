@@ -40,6 +40,7 @@ pub struct Ready {
 /// `TooManySubqueries`); in a transaction a query without an ancestor (`NeedAncestor`); the texts of the start and then of the end that are
 /// no cursors of the query (`BadCursor`, `CursorMismatch`); and what no index serves of the first branch that misses one
 /// (`MissingIndex`). `NoMemory` is want of memory alone.
+#[tactic(auto, using(crate::proofs::Refusals::refused_form, crate::proofs::Refusals::suits_several))]
 pub fn prepare(
     alloc: Global,
     defs: &Defs,
@@ -66,6 +67,7 @@ pub fn prepare(
 }
 
 /// The normal form, or the refusal of the query's form: a rule that it breaks, too many branches, or in a transaction no ancestor.
+#[tactic(auto, using(crate::proofs::Refusals::normal_read))]
 fn normal_form(alloc: Global, in_transaction: bool, query: &Query) -> Result<Normal, Body>
     requires namespace { IsTrue (is_namespace query.now.namespace) }
     requires values { IsTrue (list_all has_operands query.now.filters) }
@@ -118,6 +120,7 @@ fn window_of(alloc: Global, branches: &[Branch], search: &Search) -> Result<Wind
 }
 
 /// The window of a search in its one branch.
+#[tactic(auto, using(crate::proofs::Ends::start_refused, crate::proofs::Ends::end_refused))]
 fn window_in(alloc: Global, branch: &Branch, search: &Search) -> Result<Window, Body>
     ensures ok { IfOk result (WindowRead (branch.now ∷ []) (search_parts search.now)) }
     ensures places { IfOk result (λ w. ArePlacesOf w branch.now) }
@@ -131,6 +134,7 @@ fn window_in(alloc: Global, branch: &Branch, search: &Search) -> Result<Window, 
 }
 
 /// What the text of one end stands for as a cursor of the branch.
+#[tactic(auto, using(crate::proofs::Ends::text_refused))]
 fn end_of(
     alloc: Global,
     branch: &Branch,
@@ -190,6 +194,7 @@ fn place_in(end: End) -> Option<Place>
 }
 
 /// A plan for each branch, or what the first without one misses.
+#[tactic(auto, using(crate::proofs::Plans::plans_step, crate::proofs::Plans::missing_step))]
 fn plans_of(alloc: Global, defs: &Defs, branches: &[Branch]) -> Result<Vec<ScanPlan>, Body>
     requires { All IsLawfulBranch branches.now }
     ensures ok { OnOk result (missing_refusal defs.now branches.now ≡ None) }

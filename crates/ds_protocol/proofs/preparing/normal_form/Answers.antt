@@ -3,6 +3,3 @@ use Rattle.ds_protocol.proofs.preparing.normal_form.Goals as goal
 
 pub returns-else-in_transaction-clause-ok : goal.returns-else-in_transaction-clause-ok
 returns-else-in_transaction-clause-ok c = (normal_read c.args.query.now c.in-Ok.normal c.in-Ok.ensures.ok).0
-
-pub returns-else-in_transaction-clause-cursorless : goal.returns-else-in_transaction-clause-cursorless
-returns-else-in_transaction-clause-cursorless c = (normal_read c.args.query.now c.in-Ok.normal c.in-Ok.ensures.ok).1
