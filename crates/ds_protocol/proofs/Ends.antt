@@ -1,19 +1,17 @@
 -- Windows between ends, and what texts that are no cursors refuse.
-use Rattle.std.proofs.Common.{◌≡◌, ◌⊎◌, inl, inr, ℕ, arith, length, List, [], ◌∷◌, Some, Err, refl}
+use Rattle.ds_protocol.proofs.Words.{◌≡◌, inl, inr, ℕ, arith, length, List, [], ◌∷◌, Some, refl, Branch, Body, Search, Nothing}
+use Rattle.std.proofs.Common.{◌⊎◌, Err}
 use Rattle.ds_base.specs.Memory.{UnlessNoMemory}
-use Rattle.ds_query.specs.declared.branch.Branch.{Branch}
 use Rattle.ds_query.specs.declared.field.Field.{Field}
-use Rattle.ds_query.specs.declared.field.Field.TheVariants as field
 use Rattle.ds_cursor.specs.declared.cursor.CursorRefused.{CursorRefused}
-use Rattle.ds_cursor.specs.declared.cursor.CursorRefused.TheVariants as cursor
 use Rattle.ds_cursor.specs.Cursors.{CursorIs, cursor_fault}
-use Rattle.ds_reply.specs.declared.reply.Body.{Body}
-use Rattle.ds_reply.specs.declared.reply.Body.TheVariants as body
-use Rattle.ds_model.specs.Asked.{Search}
-use Rattle.ds_model.specs.Refusals.{Nothing, Refused, PlaceRead, cursor_refusal}
+use Rattle.ds_model.specs.Refusals.{Refused, PlaceRead, cursor_refusal}
 use Rattle.ds_protocol.specs.declared.preparing.End.{End}
-use Rattle.ds_protocol.specs.declared.preparing.End.TheVariants as end
 use Rattle.ds_protocol.specs.Cursors.{told, IsEndRefused, WindowRead, WindowRefused, window_between}
+use Rattle.ds_query.specs.declared.field.Field.TheVariants as field
+use Rattle.ds_cursor.specs.declared.cursor.CursorRefused.TheVariants as cursor
+use Rattle.ds_reply.specs.declared.reply.Body.TheVariants as body
+use Rattle.ds_protocol.specs.declared.preparing.End.TheVariants as end
 
 -- ---- one end
 
@@ -24,7 +22,8 @@ pub text_refused : (q : Branch) (f : Field) (text : List ℕ) (why : CursorRefus
 text_refused q f text why b read (inl none) = inl none
 text_refused q f text cursor.NoMemory b read (inr is) = cc
 text_refused q f text cursor.BadCursor b read (inr is) = inr (record { end = Refused cursor.BadCursor; read = read; refused = is })
-text_refused q f text cursor.CursorMismatch b read (inr is) = inr (record { end = Refused cursor.CursorMismatch; read = read; refused = is })
+text_refused q f text cursor.CursorMismatch b read (inr is) =
+    inr (record { end = Refused cursor.CursorMismatch; read = read; refused = is })
 
 -- ---- the window of one branch
 

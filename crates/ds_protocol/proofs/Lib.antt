@@ -5,3 +5,4 @@ pub mod Plans
 pub mod Raises
 pub mod Refusals
 pub mod SearchReplies
+mod Words

@@ -1,8 +1,8 @@
 -- Sessions meet by the greatest of what each has seen.
-use Rattle.std.proofs.Common.{◌≡◌, ℕ, zero, suc, ◌<◌, ◌≤◌, List, [], ◌∷◌, length, map, refl, ap, sym, ◌∙◌, arith, get_or}
-use Rattle.std.specs.Prelude.{fold, max, replicate}
+use Rattle.ds_protocol.proofs.Words.{◌≡◌, ℕ, zero, suc, ◌<◌, ◌≤◌, List, [], ◌∷◌, length, map, refl, ap, sym, ◌∙◌, arith, get_or, fold, max}
+use Rattle.ds_protocol.proofs.Words.{replicate, Session, greater_counts}
 use Rattle.std.proofs.lemmas.List.{length-replicate}
-use Rattle.ds_model.specs.Sessions.{Session, greater_counts, greatest_counts, greatest_place, greatest_next, raised_to, met}
+use Rattle.ds_model.specs.Sessions.{greatest_counts, greatest_place, greatest_next, raised_to, met}
 use Rattle.ds_protocol.specs.Watermarks.{HaveCounts, greatest_of, nothing_seen, raised_by}
 
 -- ---- counts

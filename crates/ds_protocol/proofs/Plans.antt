@@ -1,13 +1,11 @@
 -- Branch after branch a plan is found.
-use Rattle.std.proofs.Common.{◌≡◌, ℕ, zero, suc, ◌+◌, ◌<◌, List, [], ◌∷◌, ◌++◌, length, take, drop, get_or, arith}
-use Rattle.std.proofs.Common.{None, add-one, drop-cons}
+use Rattle.ds_protocol.proofs.Words.{◌≡◌, ℕ, zero, suc, ◌+◌, ◌<◌, List, [], ◌∷◌, ◌++◌, length, take, drop, get_or, arith, None, add-one}
+use Rattle.ds_protocol.proofs.Words.{IndexDef, Branch, missing_refusal, ArePlansFor}
+use Rattle.std.proofs.Common.{drop-cons}
 use Rattle.std.proofs.lemmas.Grind.{common_steps}
-use Rattle.ds_indexdef.specs.declared.IndexDef.{IndexDef}
-use Rattle.ds_query.specs.declared.branch.Branch.{Branch}
 use Rattle.ds_planner.specs.declared.planned.ScanPlan.{ScanPlan}
 use Rattle.ds_planner.specs.Missing.{missing_of}
-use Rattle.ds_model.specs.Refusals.{missing_refusal}
-use Rattle.ds_protocol.specs.Preparing.{IsPlanFor, ArePlansFor}
+use Rattle.ds_protocol.specs.Preparing.{IsPlanFor}
 
 -- a plan for one branch more
 plans_more : (definitions : List IndexDef) (qs : List Branch) (i : ℕ) (ps : List ScanPlan) (q : Branch) (p : ScanPlan) → i < length qs

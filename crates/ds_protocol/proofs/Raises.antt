@@ -1,8 +1,8 @@
 -- Raising the counts that a session has seen.
-use Rattle.std.proofs.Common.{◌≡◌, ℕ, zero, suc, ◌+◌, ◌<◌, List, [], ◌∷◌, length, take, refl, ap, sym, arith, get_or, add-one}
-use Rattle.std.specs.Prelude.{max}
+use Rattle.ds_protocol.proofs.Words.{◌≡◌, ℕ, zero, suc, ◌+◌, ◌<◌, List, [], ◌∷◌, length, take, refl, ap, sym, arith, get_or, add-one, max}
+use Rattle.ds_protocol.proofs.Words.{greater_counts}
 use Rattle.std.proofs.Math.ListN.{set}
-use Rattle.ds_model.specs.Sessions.{greater_counts, raised_at}
+use Rattle.ds_model.specs.Sessions.{raised_at}
 
 -- the count at a place is raised; where there is no such place, nothing is
 pub raised_set : (shard count : ℕ) (cs : List ℕ) → raised_at shard count cs ≡ set cs shard (max (get_or cs shard 0) count)

@@ -1,18 +1,13 @@
 -- The refusal of a search's form, and what a query without one has.
-use Rattle.std.proofs.Common.{◌≡◌, ℕ, Bool, false, List, Option, Some, None, Ok, arith}
+use Rattle.ds_protocol.proofs.Words.{◌≡◌, ℕ, Bool, false, List, Option, Some, None, Ok, arith, IndexDef, Normal, Window, Body, Search}
+use Rattle.ds_protocol.proofs.Words.{Nothing, Session, IsInside, IsRefused}
 use Rattle.std.specs.Prelude.{◌&&◌}
-use Rattle.ds_indexdef.specs.declared.IndexDef.{IndexDef}
-use Rattle.ds_query.specs.declared.branch.Normal.{Normal}
-use Rattle.ds_query.specs.declared.branch.Window.{Window}
 use Rattle.ds_query.specs.declared.query.Query.{Query}
 use Rattle.ds_query.specs.Lawful.{IsPlaceless, SuitsSeveral}
 use Rattle.ds_query.specs.Normals.{normal_of, normal_form}
 use Rattle.ds_query.specs.Reasons.{reason_of}
-use Rattle.ds_reply.specs.declared.reply.Body.{Body}
-use Rattle.ds_model.specs.Asked.{Search, has_cursors}
-use Rattle.ds_model.specs.Refusals.{Nothing, form_refusal}
-use Rattle.ds_model.specs.Sessions.{Session}
-use Rattle.ds_protocol.specs.Preparing.{IsInside, IsRefused}
+use Rattle.ds_model.specs.Asked.{has_cursors}
+use Rattle.ds_model.specs.Refusals.{form_refusal}
 
 -- ---- a query with a normal form
 

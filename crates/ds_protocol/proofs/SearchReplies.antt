@@ -1,22 +1,19 @@
 -- From what is promised of a search that is prepared, refused or finished to the replies of the model: laws for servers.
-use Rattle.std.proofs.Common.{arith, ◌≡◌, Bool, List, ℕ, Option, Some, None, Ok, refl}
+use Rattle.ds_protocol.proofs.Words.{arith, ◌≡◌, Bool, List, ℕ, Option, Some, None, Ok, refl, Normal, Window, Body, Session, IsInside}
+use Rattle.ds_protocol.proofs.Words.{IsRefused, search_parts}
 use Rattle.ds_entity.specs.declared.results.Item.{Item}
 use Rattle.ds_entity.specs.declared.results.Seen.{Seen}
-use Rattle.ds_query.specs.declared.branch.Normal.{Normal}
-use Rattle.ds_query.specs.declared.branch.Window.{Window}
 use Rattle.ds_query.specs.declared.query.Select.{Select}
 use Rattle.ds_request.specs.declared.call.Call.{Call}
-use Rattle.ds_reply.specs.declared.reply.Body.{Body}
 use Rattle.ds_model.specs.Answers.{FoundOver, SearchAnswers, SearchRefusedOrAnswered}
-use Rattle.ds_model.specs.Asked
 use Rattle.ds_model.specs.Asked.{search_of}
 use Rattle.ds_model.specs.Refusals.{Places, ancestor_group_refusal}
-use Rattle.ds_model.specs.Sessions.{Session}
 use Rattle.ds_model.specs.Worlds.{World}
 use Rattle.ds_protocol.specs.declared.searching.Search.{Search}
 use Rattle.ds_protocol.specs.Finishing.{found}
-use Rattle.ds_protocol.specs.Preparing.{IsInside, IsReady, IsRefused}
-use Rattle.ds_protocol.specs.Searches.{IsSearchOf, search_parts, is_statement}
+use Rattle.ds_protocol.specs.Preparing.{IsReady}
+use Rattle.ds_protocol.specs.Searches.{IsSearchOf, is_statement}
+use Rattle.ds_model.specs.Asked
 
 -- a query's reply is a query's, and a statement's a statement's
 search_answers : (w : World) (s : Session) (c : Call) (search : Asked.Search) (places : Places) (selected : Select) (results : List Item)

@@ -1,10 +1,7 @@
-use Rattle.std.proofs.Common.{◌≡◌, true, Bor, arith}
-use Rattle.std.proofs.lemmas.List.{length-map, get_or-map}
-use Rattle.ds_base.specs.KeyOrder.{same_key}
-use Rattle.ds_entity.specs.Entities.{EntityParts}
+use Rattle.ds_protocol.proofs.Words.{◌≡◌, true, Bor, arith, length-map, get_or-map, same_key, EntityParts}
 use Rattle.ds_protocol.proofs.Halving.{entity_at, no_entity_at}
-use Rattle.ds_protocol.proofs.finishing.entity_of.Goals as goal
 use Rattle.ds_protocol.proofs.finishing.entity_of.Goals.{then-place-entities+else-eq, else-place-entities}
+use Rattle.ds_protocol.proofs.finishing.entity_of.Goals as goal
 
 pub returns-then-eq : goal.returns-then-eq
 returns-then-eq c =

@@ -1,5 +1,5 @@
 -- What is told of the rows so far, and of those that are left, is told of all.
-use Rattle.std.proofs.Common.{◌≡◌, ◌++◌, map}
+use Rattle.ds_protocol.proofs.Words.{◌≡◌, ◌++◌, map}
 use Rattle.ds_model.specs.Results.{items_of}
 use Rattle.ds_protocol.specs.Finishing.{row_parts}
 use Rattle.ds_protocol.proofs.finishing.items.Given as goal

@@ -1,5 +1,5 @@
 -- The values of the names so far.
-use Rattle.std.proofs.Common.{◌≡◌, map, take}
+use Rattle.ds_protocol.proofs.Words.{◌≡◌, map, take}
 use Rattle.std.specs.Prelude.{unwrap_or}
 use Rattle.ds_base.specs.declared.index_value.IndexValue.TheVariants.{Null}
 use Rattle.ds_query.specs.RowValues.{value_columns, value_named}

@@ -1,5 +1,4 @@
-use Rattle.std.proofs.Common.{◌≡◌, drop}
-use Rattle.std.specs.Prelude.{fold, max}
+use Rattle.ds_protocol.proofs.Words.{◌≡◌, drop, fold, max}
 use Rattle.ds_base.specs.declared.key.Elem.{Elem}
 use Rattle.ds_model.specs.Sessions.{next_above}
 use Rattle.ds_protocol.specs.Writing.{id_above}

@@ -1,7 +1,5 @@
 -- The branches so far miss no index, and there is a plan for each.
-use Rattle.std.proofs.Common.{◌≡◌, take, drop}
-use Rattle.ds_model.specs.Refusals.{missing_refusal}
-use Rattle.ds_protocol.specs.Preparing.{ArePlansFor}
+use Rattle.ds_protocol.proofs.Words.{◌≡◌, take, drop, missing_refusal, ArePlansFor}
 use Rattle.ds_protocol.proofs.preparing.plans_of.Given as goal
 
 abbrev pub invariant-loop-branch : goal.invariant-loop-branch

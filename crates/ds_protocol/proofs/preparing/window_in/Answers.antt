@@ -1,4 +1,4 @@
-use Rattle.ds_protocol.specs.Searches.{search_parts}
+use Rattle.ds_protocol.proofs.Words.{search_parts}
 use Rattle.ds_protocol.proofs.Ends.{window_read}
 use Rattle.ds_protocol.proofs.preparing.window_in.Goals as goal
 

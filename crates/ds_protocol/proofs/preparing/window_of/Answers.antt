@@ -1,9 +1,8 @@
-use Rattle.std.proofs.Common.{arith}
-use Rattle.ds_protocol.specs.Searches.{search_parts}
+use Rattle.ds_protocol.proofs.Words.{arith, search_parts}
 use Rattle.ds_protocol.proofs.Ends.{window_unread}
-use Rattle.ds_protocol.proofs.preparing.window_of.Goals as goal
 use Rattle.ds_protocol.proofs.preparing.window_of.Goals.{in_default-via-then-branches-lt1}
 use Rattle.ds_protocol.proofs.preparing.window_of.Goals.{in_default-via-else-branches-lt1+else-branches-lt2}
+use Rattle.ds_protocol.proofs.preparing.window_of.Goals as goal
 
 pub returns-in_default-clause-ok : goal.returns-in_default-clause-ok
 returns-in_default-clause-ok c =

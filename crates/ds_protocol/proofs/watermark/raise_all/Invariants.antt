@@ -1,6 +1,5 @@
 -- The others so far are taken in.
-use Rattle.std.proofs.Common.{◌≡◌, take}
-use Rattle.ds_model.specs.Sessions.{greater_counts}
+use Rattle.ds_protocol.proofs.Words.{◌≡◌, take, greater_counts}
 use Rattle.ds_protocol.proofs.watermark.raise_all.Given as goal
 
 abbrev pub invariant-loop-i : goal.invariant-loop-i

@@ -1,5 +1,4 @@
-use Rattle.std.proofs.Common.{◌≡◌}
-use Rattle.std.specs.Prelude.{replicate}
+use Rattle.ds_protocol.proofs.Words.{◌≡◌, replicate}
 use Rattle.ds_protocol.proofs.watermark.Watermark.first.Given as goal
 
 abbrev pub invariant-loop-shard : goal.invariant-loop-shard
