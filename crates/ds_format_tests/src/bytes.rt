@@ -146,12 +146,6 @@ fn numbers_agree(alloc: Global, rows: &[(i64, bool, &[u8])]) -> Result<bool, NoM
     Ok(true)
 }
 
-#[test]
-fn writes_and_reads_numbers(rt: HostRuntime) -> Result<(), Fail> {
-    assert!(rt; numbers_agree(rt.alloc(), &NUMBERS)?);
-    Ok(())
-}
-
 /// Texts, their directions and their bytes.
 const SEQUENCES: [(&[u8], bool, &[u8]); 6] = [
     (b"a", false, b"\x40a\x00\x01"),
@@ -183,12 +177,6 @@ fn sequences_agree(alloc: Global, rows: &[(&[u8], bool, &[u8])]) -> Result<bool,
         }
     }
     Ok(true)
-}
-
-#[test]
-fn writes_and_reads_sequences(rt: HostRuntime) -> Result<(), Fail> {
-    assert!(rt; sequences_agree(rt.alloc(), &SEQUENCES)?);
-    Ok(())
 }
 
 fn task_agrees(
@@ -233,15 +221,6 @@ fn writes_and_reads_keys(rt: HostRuntime) -> Result<(), Fail> {
     Ok(())
 }
 
-#[test]
-fn writes_and_reads_other_values(rt: HostRuntime) -> Result<(), Fail> {
-    let alloc = rt.alloc();
-    assert!(rt; agrees(alloc, &IndexValue::Null, false, b"\x10")?);
-    assert!(rt; agrees(alloc, &IndexValue::Bool(false), false, b"\x30\x00")?);
-    assert!(rt; agrees(alloc, &IndexValue::Bool(true), true, b"\xcf\xfe")?);
-    Ok(())
-}
-
 /// Why bytes are none, and the bytes.
 type Row = (&'static str, &'static [u8]);
 
@@ -263,12 +242,6 @@ fn first_value<'a>(alloc: Global, rows: &'a [Row]) -> Result<Option<&'a str>, No
         }
     }
     Ok(None)
-}
-
-#[test]
-fn refuses_what_is_no_value(rt: HostRuntime) -> Result<(), Fail> {
-    assert_eq!(rt; first_value(rt.alloc(), &NO_VALUES)?, None);
-    Ok(())
 }
 
 const NO_KEYS: [Row; 12] = [
@@ -318,7 +291,19 @@ fn first_key<'a>(alloc: Global, rows: &'a [Row]) -> Result<Option<&'a str>, NoMe
 }
 
 #[test]
-fn refuses_what_is_no_key(rt: HostRuntime) -> Result<(), Fail> {
+fn values_are_written_and_read(rt: HostRuntime) -> Result<(), Fail> {
+    let alloc = rt.alloc();
+    assert!(rt; numbers_agree(alloc, &NUMBERS)?);
+    assert!(rt; sequences_agree(alloc, &SEQUENCES)?);
+    assert!(rt; agrees(alloc, &IndexValue::Null, false, b"\x10")?);
+    assert!(rt; agrees(alloc, &IndexValue::Bool(false), false, b"\x30\x00")?);
+    assert!(rt; agrees(alloc, &IndexValue::Bool(true), true, b"\xcf\xfe")?);
+    Ok(())
+}
+
+#[test]
+fn what_is_none_is_refused(rt: HostRuntime) -> Result<(), Fail> {
+    assert_eq!(rt; first_value(rt.alloc(), &NO_VALUES)?, None);
     assert_eq!(rt; first_key(rt.alloc(), &NO_KEYS)?, None);
     Ok(())
 }

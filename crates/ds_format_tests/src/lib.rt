@@ -1,10 +1,22 @@
-//! Tests of the formats: what encodings of bytes look like, what is none, the hash that tells shards apart, what a query means, what is
-//! read of a line, and what replies look like. They stand above the libraries, so that these are proved without them. It has nothing
-//! to call.
+//! Tests of the public calls of the crates that everything stands on: each call once where it succeeds, tables of limits and orders with
+//! values that were worked out by hand, and the formats: what encodings of bytes look like, what is none, the hash that tells shards
+//! apart, what a query means, what is read of a line, and what replies look like. There is no code but tests, so that the libraries are
+//! proved once.
+//!
+//! One module for each library, named for what it holds; begin with `base`. `parts` has parts of lines, and `told` tells what
+//! is read of a line.
 #![tactic(auto)]
 
 #[cfg(test)]
+mod base;
+#[cfg(test)]
 mod bytes;
+#[cfg(test)]
+mod indexdef;
+#[cfg(test)]
+mod io;
+#[cfg(test)]
+mod lanes;
 #[cfg(test)]
 mod log;
 #[cfg(test)]
@@ -18,4 +30,8 @@ mod request;
 #[cfg(test)]
 mod request_queries;
 #[cfg(test)]
+mod rounds;
+#[cfg(test)]
 mod told;
+#[cfg(test)]
+mod words;

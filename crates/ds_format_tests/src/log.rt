@@ -4,14 +4,6 @@ use ds_log::{fnv1a, shard_of};
 use std::alloc::Global;
 use std::test::Fail;
 
-#[test]
-fn hashes_as_published(rt: HostRuntime) -> Result<(), Fail> {
-    assert!(rt; fnv1a(b"") == 0xcbf2_9ce4_8422_2325);
-    assert!(rt; fnv1a(b"a") == 0xaf63_dc4c_8601_ec8c);
-    assert!(rt; fnv1a(b"foobar") == 0x8594_4171_f739_67e8);
-    Ok(())
-}
-
 fn group(alloc: Global, kind: &str, name: &str) -> Result<Key, Fail> {
     let kind = TextString::of(alloc, kind)?;
     let ident = Ident::Name(TextString::of(alloc, name)?);
@@ -31,7 +23,10 @@ fn shards_of(alloc: Global, kind: &str, name: &str) -> Result<[u32; 3], Fail> {
 }
 
 #[test]
-fn tells_shards_apart(rt: HostRuntime) -> Result<(), Fail> {
+fn hashes_tell_shards_apart(rt: HostRuntime) -> Result<(), Fail> {
+    assert!(rt; fnv1a(b"") == 0xcbf2_9ce4_8422_2325);
+    assert!(rt; fnv1a(b"a") == 0xaf63_dc4c_8601_ec8c);
+    assert!(rt; fnv1a(b"foobar") == 0x8594_4171_f739_67e8);
     assert!(rt; shards_of(rt.alloc(), "Task", "a")? == [0, 3, 2]);
     assert!(rt; shards_of(rt.alloc(), "Guestbook", "default")? == [0, 5, 2]);
     Ok(())

@@ -176,12 +176,6 @@ fn first_no_refusal<'a>(alloc: Global, lines: &'a str) -> Result<(u64, Option<&'
     Ok((number, None))
 }
 
-#[test]
-fn writes_refusals(rt: HostRuntime) -> Result<(), Fail> {
-    assert_eq!(rt; first_no_refusal(rt.alloc(), REFUSALS)?, (24, None));
-    Ok(())
-}
-
 // ---- values
 
 const ESCAPED: &str =
@@ -267,15 +261,6 @@ fn one_value(alloc: Global) -> Result<Values, Fail> {
     Ok(values)
 }
 
-#[test]
-fn shows_values(rt: HostRuntime) -> Result<(), Fail> {
-    let alloc = rt.alloc();
-    assert!(rt; shows(alloc, "p\"\\", true, indexed_values(alloc)?, ESCAPED)?);
-    assert!(rt; shows(alloc, "u", false, unindexed_values(alloc)?, BLOBS)?);
-    assert!(rt; shows(alloc, "u", false, one_value(alloc)?, ONE_VALUE)?);
-    Ok(())
-}
-
 // ---- projections
 
 const ASCENDING: &str =
@@ -353,5 +338,15 @@ fn shows_projections_by_name(rt: HostRuntime) -> Result<(), Fail> {
     assert!(rt; projects(alloc, "b  a", plain_values(alloc)?, UNORDERED)?);
     assert!(rt; projects(alloc, "b a b", plain_values(alloc)?, REPEATED)?);
     assert!(rt; projects(alloc, "z y x", byte_values(alloc)?, OF_BYTES)?);
+    Ok(())
+}
+
+#[test]
+fn replies_are_written(rt: HostRuntime) -> Result<(), Fail> {
+    let alloc = rt.alloc();
+    assert_eq!(rt; first_no_refusal(alloc, REFUSALS)?, (24, None));
+    assert!(rt; shows(alloc, "p\"\\", true, indexed_values(alloc)?, ESCAPED)?);
+    assert!(rt; shows(alloc, "u", false, unindexed_values(alloc)?, BLOBS)?);
+    assert!(rt; shows(alloc, "u", false, one_value(alloc)?, ONE_VALUE)?);
     Ok(())
 }

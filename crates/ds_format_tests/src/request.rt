@@ -268,22 +268,26 @@ fn is_told_of_nested(alloc: Global, levels: usize, want: &str) -> Result<bool, A
     is_told(alloc, line.as_str().as_bytes(), want)
 }
 
+/// All tables.
+const TABLES: [&[Case]; 4] = [&LINES, &WRITES, &QUERIES, &OTHERS];
+
+/// The first part of a table for which something else is told.
+fn first_wrong(alloc: Global) -> Result<Option<&'static str>, AllocError> {
+    for table in &TABLES {
+        if let Some(wrong) = first_wrong_of(alloc, *table)? {
+            return Ok(Some(wrong));
+        }
+    }
+    Ok(None)
+}
+
 #[test]
 fn lines_are_told(rt: HostRuntime) -> Result<(), Fail> {
     let alloc = rt.alloc();
-    assert_eq!(rt; first_wrong_of(alloc, &LINES)?, None);
+    assert_eq!(rt; first_wrong(alloc)?, None);
     assert!(rt; is_told_of_nested(alloc, 127, "0 BadRequest line")?);
     assert!(rt; is_told_of_nested(alloc, 128, "0 BadJson line")?);
     let no_text = b"{\"op\":\"settle\",\"x\":\"\xff\"}";
     assert!(rt; is_told(alloc, no_text, "0 BadJson line")?);
-    Ok(())
-}
-
-#[test]
-fn operations_are_told(rt: HostRuntime) -> Result<(), Fail> {
-    let alloc = rt.alloc();
-    assert_eq!(rt; first_wrong_of(alloc, &WRITES)?, None);
-    assert_eq!(rt; first_wrong_of(alloc, &QUERIES)?, None);
-    assert_eq!(rt; first_wrong_of(alloc, &OTHERS)?, None);
     Ok(())
 }

@@ -55,15 +55,6 @@ fn reads_in_turn(
     Ok(holds)
 }
 
-#[test]
-fn reads_in_memory(rt: HostRuntime) -> Result<(), Fail> {
-    let alloc = rt.alloc();
-    assert!(rt; reads_in_turn(alloc, 1, 0, [Ok(1), Ok(1), Ok(1)])?);
-    assert!(rt; reads_in_turn(alloc, 3, 2, [Ok(3), Err(Failed), Ok(3)])?);
-    assert!(rt; reads_in_turn(alloc, 9, 4, [Ok(4), Ok(3), Ok(0)])?);
-    Ok(())
-}
-
 // Whether a sink that takes three bytes at once, and fails at its second call, takes six.
 fn takes_six(sink: &mut MemorySink) -> bool {
     let first = sink.write(b"abcdefg") == Ok(3);
@@ -82,14 +73,6 @@ fn six_are_written(alloc: Global) -> Result<bool, AllocError> {
 fn none_are_written(alloc: Global) -> bool {
     let mut full = MemorySink::make(alloc, 0, Numbers::new(alloc));
     full.write(b"a") == Err(Failed)
-}
-
-#[test]
-fn writes_in_memory(rt: HostRuntime) -> Result<(), Fail> {
-    let alloc = rt.alloc();
-    assert!(rt; six_are_written(alloc)?);
-    assert!(rt; none_are_written(alloc));
-    Ok(())
 }
 
 // Two files, of which the second call to load one fails.
@@ -187,7 +170,7 @@ fn reads_and_writes_over_std(rt: HostRuntime) -> Result<(), Fail> {
 #[test]
 fn loads_over_std(rt: HostRuntime) -> Result<(), Fail> {
     let alloc = rt.alloc();
-    let name = "ds_foundation_tests_loads_over_std";
+    let name = "ds_format_tests_loads_over_std";
     fs::write(&rt, name, "all of it")?;
     let loaded = loads(&mut StdFiles::new(&rt), alloc, name, b"all of it");
     fs::remove_file(&rt, name)?;
@@ -203,5 +186,16 @@ fn loads_over_std(rt: HostRuntime) -> Result<(), Fail> {
     assert!(rt; too_large, "too large");
     NoGate.before(0, 1);
     NoGate.after(0, 1);
+    Ok(())
+}
+
+#[test]
+fn memory_is_read_and_written(rt: HostRuntime) -> Result<(), Fail> {
+    let alloc = rt.alloc();
+    assert!(rt; reads_in_turn(alloc, 1, 0, [Ok(1), Ok(1), Ok(1)])?);
+    assert!(rt; reads_in_turn(alloc, 3, 2, [Ok(3), Err(Failed), Ok(3)])?);
+    assert!(rt; reads_in_turn(alloc, 9, 4, [Ok(4), Ok(3), Ok(0)])?);
+    assert!(rt; six_are_written(alloc)?);
+    assert!(rt; none_are_written(alloc));
     Ok(())
 }

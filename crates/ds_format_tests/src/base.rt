@@ -205,11 +205,9 @@ fn index_values_in_order(alloc: Global) -> Result<Vec<IndexValue>, Fail> {
     Ok(values)
 }
 
-#[test]
-fn index_values_sort(rt: HostRuntime) -> Result<(), Fail> {
-    let values = index_values_in_order(rt.alloc())?;
-    assert!(rt; ascend(values.as_slice()));
-    Ok(())
+fn index_values_ascend(alloc: Global) -> Result<bool, Fail> {
+    let values = index_values_in_order(alloc)?;
+    Ok(ascend(values.as_slice()))
 }
 
 fn property(
@@ -311,6 +309,7 @@ fn copies_share(alloc: Global) -> Result<bool, Fail> {
 #[test]
 fn calls_succeed(rt: HostRuntime) -> Result<(), Fail> {
     let alloc = rt.alloc();
+    assert!(rt; index_values_ascend(alloc)?);
     assert!(rt; ancestors_are_told(alloc)?);
     assert!(rt; copies_share(alloc)?);
     assert!(rt; Value::Rating(101).is_faulty(false) && !Value::Rating(100).is_faulty(true));

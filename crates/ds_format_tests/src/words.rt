@@ -71,12 +71,6 @@ fn first_wrong<'a>(
     Ok(None)
 }
 
-#[test]
-fn reads_words_of_the_form(rt: HostRuntime) -> Result<(), Fail> {
-    assert_eq!(rt; first_wrong(rt.alloc(), &FORMS)?, None);
-    Ok(())
-}
-
 /// Words that aren't of the form, a line each; a bar ends each line.
 const NO_FORMS: &str = "--help|
 --help=1|
@@ -116,12 +110,6 @@ fn first_taken<'a>(alloc: Global, lines: &'a str) -> Result<Option<&'a str>, All
     Ok(None)
 }
 
-#[test]
-fn refuses_all_other_words(rt: HostRuntime) -> Result<(), Fail> {
-    assert_eq!(rt; first_taken(rt.alloc(), NO_FORMS)?, None);
-    Ok(())
-}
-
 /// How a run ended, and its exit number.
 const NUMBERS: [(Status, u8); 8] = [
     (Status::Done, 0),
@@ -145,6 +133,9 @@ fn first_wrong_number() -> Option<u8> {
 }
 
 #[test]
-fn ends_with_the_number_of_its_status(rt: HostRuntime) {
+fn words_and_statuses_are_told(rt: HostRuntime) -> Result<(), Fail> {
+    assert_eq!(rt; first_wrong(rt.alloc(), &FORMS)?, None);
+    assert_eq!(rt; first_taken(rt.alloc(), NO_FORMS)?, None);
     assert_eq!(rt; first_wrong_number(), None);
+    Ok(())
 }

@@ -169,6 +169,8 @@ fn reads_rounds(rt: HostRuntime) -> Result<(), Fail> {
     assert!(rt; reads_all(alloc, 1, &INPUTS)?);
     assert!(rt; reads_all(alloc, 3, &INPUTS)?);
     assert!(rt; reads_all(alloc, 99, &INPUTS)?);
+    assert!(rt; ends_a_round_at_its_bytes(alloc)?);
+    assert!(rt; reads_a_round_in_several_chunks(alloc)?);
     Ok(())
 }
 
@@ -209,22 +211,16 @@ fn reads_long_lines_and_rounds(rt: HostRuntime) -> Result<(), Fail> {
     Ok(())
 }
 
-#[test]
-fn ends_a_round_at_its_bytes(rt: HostRuntime) -> Result<(), Fail> {
-    let alloc = rt.alloc();
+fn ends_a_round_at_its_bytes(alloc: Global) -> Result<bool, AllocError> {
     let line = repeated(alloc, b"a", LONGEST, b"\n")?;
     let want = b"1:32 lines 33:2097152 bytes| ";
-    assert!(rt; reads_repeated(alloc, line.bytes(), 33, b"", want)?);
-    Ok(())
+    reads_repeated(alloc, line.bytes(), 33, b"", want)
 }
 
-#[test]
-fn reads_a_round_in_several_chunks(rt: HostRuntime) -> Result<(), Fail> {
-    let alloc = rt.alloc();
+fn reads_a_round_in_several_chunks(alloc: Global) -> Result<bool, AllocError> {
     let line = repeated(alloc, b"a", 70_000, b"\nb\n")?;
     let want = b"1:70000 bytes|b|70000 bytes|b|70000 bytes|b| ";
-    assert!(rt; reads_repeated(alloc, line.bytes(), 3, b"", want)?);
-    Ok(())
+    reads_repeated(alloc, line.bytes(), 3, b"", want)
 }
 
 /// Whether three lines are told as this where a call to read fails.

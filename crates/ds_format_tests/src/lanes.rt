@@ -32,11 +32,6 @@ fn finds_all_zeros() -> bool {
     true
 }
 
-#[test]
-fn finds_the_first_zero(rt: HostRuntime) {
-    assert!(rt; finds_all_zeros());
-}
-
 fn measures_prefixes(len: usize) -> bool
     requires { len ≤ 130 }
 {
@@ -59,11 +54,6 @@ fn measures_all_prefixes() -> bool {
         }
     }
     true
-}
-
-#[test]
-fn measures_the_common_prefix(rt: HostRuntime) {
-    assert!(rt; measures_all_prefixes());
 }
 
 /// Of so many entries one half has ended at `at`, and the other begins after it, at `next`.
@@ -99,15 +89,6 @@ fn finds_all_visible(at: u64, next: u64) -> bool {
     true
 }
 
-#[test]
-fn finds_the_first_visible(rt: HostRuntime) {
-    const TOP: u64 = 1 << 63;
-    assert!(rt; finds_all_visible(0, 1));
-    assert!(rt; finds_all_visible(TOP - 1, TOP));
-    assert!(rt; finds_all_visible(TOP, TOP + 1));
-    assert!(rt; finds_all_visible(u64::MAX - 1, u64::MAX));
-}
-
 /// Whether the first bytes are turned, and the others left.
 fn turns(source: &[u8; MOST], len: usize) -> bool
     requires { len ≤ 130 }
@@ -131,6 +112,9 @@ fn turns_all(source: &[u8; MOST]) -> bool {
     true
 }
 
+/// The lowest number of 64 bits whose highest bit is set.
+const TOP: u64 = 1 << 63;
+
 #[test]
 fn turns_bytes_round(rt: HostRuntime) {
     let mut source = [0; MOST];
@@ -138,4 +122,14 @@ fn turns_bytes_round(rt: HostRuntime) {
         source[i] = if i % 2 == 0 { i as u8 } else { 255 - i as u8 };
     }
     assert!(rt; turns_all(&source));
+}
+
+#[test]
+fn lanes_are_as_plain_loops(rt: HostRuntime) {
+    assert!(rt; finds_all_zeros());
+    assert!(rt; measures_all_prefixes());
+    assert!(rt; finds_all_visible(0, 1));
+    assert!(rt; finds_all_visible(TOP - 1, TOP));
+    assert!(rt; finds_all_visible(TOP, TOP + 1));
+    assert!(rt; finds_all_visible(u64::MAX - 1, u64::MAX));
 }
