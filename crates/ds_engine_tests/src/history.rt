@@ -20,7 +20,7 @@ use std::test::Fail;
 const ENTRIES: u64 = 1_000;
 
 /// How many of them are absorbed by the store that forgets.
-const FIRST_ENTRIES: u64 = 100;
+const FIRST_ENTRIES: usize = 100;
 
 /// The window of the store that forgets.
 const SHORT: u64 = 4;
@@ -133,48 +133,6 @@ fn agree_from<L: Ledger>(
     Ok(true)
 }
 
-/// Whether they do at every stamp of a store with these entries, the one before the first of them among them, and enough branches are
-/// asked.
-fn agree_in<L: Ledger>(
-    alloc: Global,
-    store: &Store,
-    entries: &[Entry],
-    steps: &mut Steps<L>,
-) -> Result<bool, Fail> {
-    let mut asked = served(alloc, store, steps)?;
-    agree_all_along(alloc, store, entries, asked.as_mut_slice(), steps)
-}
-
-fn agree_all_along<L: Ledger>(
-    alloc: Global,
-    store: &Store,
-    entries: &[Entry],
-    asked: &mut [Asked],
-    steps: &mut Steps<L>,
-) -> Result<bool, Fail> {
-    if asked.len() < 30 || !agree_at(alloc, store, 0, &[], asked, steps)? {
-        return Ok(false);
-    }
-    agree_from(alloc, store, entries, asked, steps)
-}
-
-fn all_agree<L: Ledger>(blank: Blank, alloc: Global) -> Result<bool, Fail>
-    requires name { blank.name ≡ L.name }
-    requires parts { blank.parts ≡ L.parts }
-    requires some { 0 < blank.parts }
-{
-    let mut steps = Steps::<L>::new(blank);
-    let entries = made_entries(alloc, ENTRIES)?;
-    let store = absorbed(alloc, entries.as_slice())?;
-    agree_in(alloc, &store, entries.as_slice(), &mut steps)
-}
-
-#[test]
-fn agrees_with_the_reference_at_every_stamp(rt: HostRuntime) -> Result<(), Fail> {
-    assert!(rt; all_agree::<Brand>(Blank::new(1), rt.alloc())?);
-    Ok(())
-}
-
 /// Whether each branch has the same rows in both stores.
 fn are_same_at<L: Ledger>(
     alloc: Global,
@@ -208,7 +166,7 @@ fn are_same_after<L: Ledger>(
     are_same_at(alloc, store, short, new, asked, steps)
 }
 
-/// The same whenever it has absorbed an entry.
+/// The same whenever it has absorbed one of the first entries.
 fn are_same_all_along<L: Ledger>(
     alloc: Global,
     store: &Store,
@@ -228,7 +186,7 @@ fn are_same_in_turn<L: Ledger>(
     asked: &[Asked],
     steps: &mut Steps<L>,
 ) -> Result<bool, Fail> {
-    for entry in entries {
+    for entry in entries.iter().take(FIRST_ENTRIES) {
         short.absorb(entry)?;
         if !are_same_after(alloc, store, short, entry.commit, asked, steps)? {
             return Ok(false);
@@ -237,29 +195,47 @@ fn are_same_in_turn<L: Ledger>(
     Ok(true)
 }
 
-fn agrees_with_the_short_one<L: Ledger>(
+/// Whether they agree at every stamp of a store with these entries, the one before the first of them among them, also with what a store
+/// gives that keeps four stamps, and enough branches are asked.
+fn agree_in<L: Ledger>(
     alloc: Global,
     store: &Store,
     entries: &[Entry],
     steps: &mut Steps<L>,
 ) -> Result<bool, Fail> {
-    let asked = served(alloc, store, steps)?;
-    are_same_all_along(alloc, store, entries, asked.as_slice(), steps)
+    let mut asked = served(alloc, store, steps)?;
+    agree_all_along(alloc, store, entries, asked.as_mut_slice(), steps)
 }
 
-fn window_agrees<L: Ledger>(blank: Blank, alloc: Global) -> Result<bool, Fail>
+fn agree_all_along<L: Ledger>(
+    alloc: Global,
+    store: &Store,
+    entries: &[Entry],
+    asked: &mut [Asked],
+    steps: &mut Steps<L>,
+) -> Result<bool, Fail> {
+    if asked.len() < 30 || !agree_at(alloc, store, 0, &[], asked, steps)? {
+        return Ok(false);
+    }
+    if !agree_from(alloc, store, entries, asked, steps)? {
+        return Ok(false);
+    }
+    are_same_all_along(alloc, store, entries, asked, steps)
+}
+
+fn all_agree<L: Ledger>(blank: Blank, alloc: Global) -> Result<bool, Fail>
     requires name { blank.name ≡ L.name }
     requires parts { blank.parts ≡ L.parts }
     requires some { 0 < blank.parts }
 {
     let mut steps = Steps::<L>::new(blank);
-    let entries = made_entries(alloc, FIRST_ENTRIES)?;
+    let entries = made_entries(alloc, ENTRIES)?;
     let store = absorbed(alloc, entries.as_slice())?;
-    agrees_with_the_short_one(alloc, &store, entries.as_slice(), &mut steps)
+    agree_in(alloc, &store, entries.as_slice(), &mut steps)
 }
 
 #[test]
-fn agrees_in_a_short_window(rt: HostRuntime) -> Result<(), Fail> {
-    assert!(rt; window_agrees::<Brand>(Blank::new(1), rt.alloc())?);
+fn agrees_with_the_reference_at_every_stamp(rt: HostRuntime) -> Result<(), Fail> {
+    assert!(rt; all_agree::<Brand>(Blank::new(1), rt.alloc())?);
     Ok(())
 }

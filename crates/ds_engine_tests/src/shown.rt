@@ -5,7 +5,7 @@ use ds_query::{Branch, Constraint, Row, Select};
 use std::alloc::Global;
 use std::test::Fail;
 
-fn show_key(key: &Key, onto: &mut String) -> Result<(), NoMemory> {
+pub(crate) fn show_key(key: &Key, onto: &mut String) -> Result<(), NoMemory> {
     for elem in key.elems().as_slice() {
         match &elem.ident {
             Ident::Name(name) => onto.push_str(name.text())?,

@@ -1,14 +1,12 @@
 //! A shard with the definitions of its composite indexes.
-ghost use Rattle.std.specs.Prelude.{◌≡◌, ◌≤◌, [], Some, IfOk, IsTrue};
-ghost use Rattle.ds_planner.specs.Suits.{suits};
+ghost use Rattle.std.specs.Prelude.{◌≡◌, ◌≤◌};
 ghost use Rattle.ds_query.specs.Lawful.{IsLawfulBranch};
 
 use ds_base::{NoMemory, TryCopy};
-use ds_engine::{EngineRefused, answer, branch_rows};
+use ds_engine::{EngineRefused, branch_rows};
 use ds_indexdef::{Defs, read_yaml};
 use ds_io::Steps;
 use ds_log::Entry;
-use ds_planner::{ScanPlan, plan};
 use ds_query::{Branch, Place, RowList, Window};
 use ds_shard::{Shard, ShardTables};
 use std::alloc::Global;
@@ -53,19 +51,6 @@ impl Store {
         })
     }
 
-    /// An empty shard without composite indexes, which keeps five stamps.
-    pub(crate) fn bare(alloc: Global) -> Result<Store, Fail>
-        ensures { IfOk result (λ s. s.definitions ≡ []) }
-    {
-        let defs = Defs::new(alloc);
-        let shard = Shard::make(alloc, &defs, 5)?;
-        Ok(Store {
-            defs,
-            window: 5,
-            shard,
-        })
-    }
-
     pub(crate) fn count(&self) -> u64 {
         self.shard.count()
     }
@@ -75,9 +60,7 @@ impl Store {
     }
 
     /// Absorbs the next entry, once more where it is refused for want of memory, which changes nothing.
-    pub(crate) fn absorb(&mut self, entry: &Entry) -> Result<(), Fail>
-        ensures { self.new.definitions ≡ self.old.definitions }
-    {
+    pub(crate) fn absorb(&mut self, entry: &Entry) -> Result<(), Fail> {
         if self.shard.count() > MOST_ENTRIES {
             return Err(Fail::new("many entries"));
         }
@@ -85,40 +68,6 @@ impl Store {
             Ok(()) => Ok(()),
             Err(_) => Ok(self.shard.absorb(entry)?),
         }
-    }
-
-    /// A plan of the branch under the definitions.
-    pub(crate) fn plan(&self, alloc: Global, branch: &Branch) -> Result<ScanPlan, Fail>
-        requires { IsLawfulBranch branch.now }
-        ensures { IfOk result (λ plan. IsTrue (suits branch.now self.now.definitions plan.scans)) }
-    {
-        match plan(alloc, branch, &self.defs) {
-            Ok(plan) => Ok(plan),
-            Err(_) => Err(Fail::new("no plan")),
-        }
-    }
-
-    /// The rows of the branch by this plan, after all entries: at most so many. Where none is asked for no step is taken.
-    pub(crate) fn rows_by<L: Ledger>(
-        &self,
-        alloc: Global,
-        branch: &Branch,
-        plan: &ScanPlan,
-        most: Option<u64>,
-        steps: &mut Steps<L>,
-    ) -> Result<RowList, Fail>
-        requires lawful { IsLawfulBranch branch.now }
-        requires suits { IsTrue (suits branch.now self.now.definitions plan.now.scans) }
-        ensures { most ≡ Some 0 → steps.new ≡ steps.old }
-    {
-        let count = self.shard.count();
-        if self.window == 0 {
-            return Err(Fail::new("no window"));
-        }
-        let tables: ShardTables<'_, L> = self.shard.tables();
-        Ok(answer(
-            alloc, &tables, count, branch, &self.defs, plan, None, None, most, steps,
-        )?)
     }
 
     /// The rows of the branch in the window, at a stamp that the shard keeps.

@@ -3,8 +3,8 @@ ghost use Rattle.std.specs.Prelude.{IfOk, IfSome};
 ghost use Rattle.ds_request.specs.Lawful.{IsLawfulCall};
 ghost use Rattle.ds_query.specs.Lawful.{IsLawfulNormal};
 
+use crate::numbered::key;
 use ds_base::limits::MAX_LINE_BYTES;
-use ds_base::{Elem, Elems, Ident, Key, TextString};
 use ds_entity::Entity;
 use ds_log::{Entry, Write, Writes};
 use ds_query::{Normal, Query, normalize};
@@ -59,17 +59,9 @@ pub(crate) fn single(alloc: Global, commit: u64, line: &str) -> Result<Entry, Fa
 pub(crate) fn entry(alloc: Global, commit: u64, writes: Vec<Write>) -> Result<Entry, Fail> {
     Ok(Entry {
         commit,
-        group: group(alloc)?,
+        group: key(alloc, "a")?,
         writes: Writes::from(writes),
     })
-}
-
-/// The key `[["T","a"]]`.
-fn group(alloc: Global) -> Result<Key, Fail> {
-    let kind = TextString::of(alloc, "T")?;
-    let ident = Ident::Name(TextString::of(alloc, "a")?);
-    let path = Elems::from(vec![in alloc; Elem { kind, ident }]?);
-    Ok(Key::new(alloc, path)?)
 }
 
 /// The query with these members, in its normal form; none where it is refused.
