@@ -1,1 +1,3 @@
 mod Windows
+pub mod Known
+pub mod ListingLaws

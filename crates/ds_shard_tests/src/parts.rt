@@ -1,23 +1,26 @@
 //! Keys, properties and definitions for the tests.
-ghost use Rattle.std.specs.Prelude.{◌≡◌, IfOk};
+ghost use Rattle.std.specs.Prelude.{◌≡◌, None, IfOk};
+ghost use Rattle.ds_log.specs.Ids.{first_unissued};
 
-use ds_base::{Column, Columns, Elem, Elems, Ident, Key, TextString, Value, Values};
+use ds_base::{Column, Columns, Elem, Elems, Ident, Key, NoMemory, TextString, Value, Values};
 use ds_entity::Property;
 use ds_indexdef::IndexDef;
 use std::alloc::{AllocError, Global};
 use std::test::Fail;
 
-pub(crate) fn named(alloc: Global, kind: &str, name: &str) -> Result<Elem, AllocError> {
-    Ok(Elem {
-        kind: TextString::of(alloc, kind)?,
-        ident: Ident::Name(TextString::of(alloc, name)?),
-    })
+fn named_path(alloc: Global, name: &str) -> Result<Elems, NoMemory>
+    ensures { IfOk result (λ path. first_unissued 0 path ≡ None) }
+{
+    let kind = TextString::of(alloc, "T")?;
+    let ident = Ident::Name(TextString::of(alloc, name)?);
+    Ok(Elems::from(vec![in alloc; Elem { kind, ident }]?))
 }
 
 /// The key [T,name].
-pub(crate) fn key(alloc: Global, name: &str) -> Result<Key, Fail> {
-    let elem = named(alloc, "T", name)?;
-    let path = Elems::from(vec![in alloc; elem]?);
+pub(crate) fn key(alloc: Global, name: &str) -> Result<Key, Fail>
+    ensures { IfOk result (λ key. first_unissued 0 key.elems ≡ None) }
+{
+    let path = named_path(alloc, name)?;
     Ok(Key::new(alloc, path)?)
 }
 

@@ -1,7 +1,7 @@
 //! The rows of small entities, byte for byte.
 ghost use Rattle.std.specs.Prelude.{◌≡◌, [], ◌∷◌, IfOk};
 
-use crate::parts::{column, definition, key, named};
+use crate::parts::{column, definition, key};
 use ds_base::{Elem, Elems, Ident, Key, TextString, Value, Values};
 use ds_entity::{Entity, Properties, Property};
 use ds_indexdef::Defs;
@@ -55,9 +55,17 @@ fn descending(alloc: Global, ancestor: bool, name: &str) -> Result<Defs, AllocEr
     Ok(defs)
 }
 
-/// The key of kind T with the id 1 under the group G named by a zero byte, in this namespace.
+/// The element of kind G named by a zero byte.
+fn group(alloc: Global) -> Result<Elem, AllocError> {
+    Ok(Elem {
+        kind: TextString::of(alloc, "G")?,
+        ident: Ident::Name(TextString::of(alloc, "\0")?),
+    })
+}
+
+/// The key of kind T with the id 1 under that group, in this namespace.
 fn child(alloc: Global, namespace: &str) -> Result<Key, Fail> {
-    let group = named(alloc, "G", "\0")?;
+    let group = group(alloc)?;
     let elem = Elem {
         kind: TextString::of(alloc, "T")?,
         ident: Ident::Id(1),
