@@ -52,12 +52,6 @@ fn first_of_tasks<'a>(alloc: Global, lines: &'a str) -> Result<Option<&'a str>, 
     Ok(first_taken(alloc, &task, lines))
 }
 
-#[test]
-fn what_is_no_cursor(rt: HostRuntime) -> Result<(), Fail> {
-    assert_eq!(rt; first_of_tasks(rt.alloc(), NO_CURSORS)?, None);
-    Ok(())
-}
-
 /// Whether the text is a cursor of another query than of this kind in this namespace, sorted by this column before the key.
 fn is_of_another(
     alloc: Global,
@@ -104,7 +98,8 @@ fn first_wrong(alloc: Global) -> Result<Option<usize>, NoMemory> {
 }
 
 #[test]
-fn what_is_of_another_query(rt: HostRuntime) -> Result<(), Fail> {
+fn what_is_no_cursor(rt: HostRuntime) -> Result<(), Fail> {
+    assert_eq!(rt; first_of_tasks(rt.alloc(), NO_CURSORS)?, None);
     assert_eq!(rt; first_wrong(rt.alloc())?, None);
     Ok(())
 }

@@ -88,12 +88,6 @@ fn tasks_agree(alloc: Global) -> Result<bool, Fail> {
     Ok(at && before)
 }
 
-#[test]
-fn of_one_kind(rt: HostRuntime) -> Result<(), Fail> {
-    assert!(rt; tasks_agree(rt.alloc())?);
-    Ok(())
-}
-
 fn tasks_in_x_agree(alloc: Global) -> Result<bool, Fail> {
     let at_a = place_of_a(alloc, "x", "Task", None)?;
     let entities = agrees_on(alloc, "x", "Task", None, false, Some(&at_a), IN_X)?;
@@ -101,23 +95,11 @@ fn tasks_in_x_agree(alloc: Global) -> Result<bool, Fail> {
     Ok(entities && keys)
 }
 
-#[test]
-fn of_a_namespace(rt: HostRuntime) -> Result<(), Fail> {
-    assert!(rt; tasks_in_x_agree(rt.alloc())?);
-    Ok(())
-}
-
 // The first page of `v` ascending ended at T/a with the value 1.
 fn values_agree(alloc: Global) -> Result<bool, Fail> {
     let at_one = place_of_a(alloc, "", "T", Some((1, false)))?;
     let by_value = Some(("v", false));
     Ok(agrees_on(alloc, "", "T", by_value, false, Some(&at_one), AT_ONE)?)
-}
-
-#[test]
-fn of_a_column(rt: HostRuntime) -> Result<(), Fail> {
-    assert!(rt; values_agree(rt.alloc())?);
-    Ok(())
 }
 
 // The newest greeting of a guestbook.
@@ -128,7 +110,10 @@ fn greetings_agree(alloc: Global) -> Result<bool, Fail> {
 }
 
 #[test]
-fn under_an_ancestor(rt: HostRuntime) -> Result<(), Fail> {
+fn cursors_are_written_and_read(rt: HostRuntime) -> Result<(), Fail> {
+    assert!(rt; tasks_agree(rt.alloc())?);
+    assert!(rt; tasks_in_x_agree(rt.alloc())?);
+    assert!(rt; values_agree(rt.alloc())?);
     assert!(rt; greetings_agree(rt.alloc())?);
     Ok(())
 }

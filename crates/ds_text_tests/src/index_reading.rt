@@ -42,8 +42,9 @@ fn first_counted_otherwise<'a>(
     None
 }
 
-/// Texts, and the line that each is refused with.
-const WRONG_LINES: [(&[u8], u64); 14] = [
+/// Texts, and the line that each is refused with; 0 where it is read.
+const LINES: [(&[u8], u64); 41] = [
+    // lines that are out of their place, or twice
     (b"kind: T", 1),
     (b"- kind: T\n", 1),
     (b"indexes :\n", 1),
@@ -70,15 +71,7 @@ const WRONG_LINES: [(&[u8], u64); 14] = [
         b"indexes:\n- kind: T\n  properties:\n  - name: a\n  x\n  - name: b\n",
         5,
     ),
-];
-
-#[test]
-fn wrong_lines_are_told(rt: HostRuntime) {
-    assert_eq!(rt; first_refused_elsewhere(rt.alloc(), &WRONG_LINES), None);
-}
-
-/// Texts with kinds and names, and the line that each is refused with; 0 where it is read.
-const NAMES: [(&[u8], u64); 13] = [
+    // kinds and names
     (b"indexes:\n- kind: \"T\"\n", 2),
     (b"indexes:\n- kind: 'T'\n", 2),
     (b"indexes:\n- kind: T#\n", 2),
@@ -104,15 +97,7 @@ const NAMES: [(&[u8], u64); 13] = [
         b"indexes:\n- kind: T\n  properties:\n  - name: a\n  - name: __key__\n    direction: desc\n",
         0,
     ),
-];
-
-#[test]
-fn names_keep_their_rules(rt: HostRuntime) {
-    assert_eq!(rt; first_refused_elsewhere(rt.alloc(), &NAMES), None);
-}
-
-/// Texts that end early, and the line that each is refused with; 0 where it is read.
-const ENDS: [(&[u8], u64); 10] = [
+    // texts that end early
     (b"", 0),
     (b"\n\n", 0),
     (b"# nothing", 0),
@@ -123,12 +108,12 @@ const ENDS: [(&[u8], u64); 10] = [
     (b"indexes:\n- kind: T\n  ancestor: no\n", 4),
     (b"indexes:\n- kind: T\n  properties:\n", 4),
     (b"indexes:\n- kind: T\n  properties:\n  - name: a", 0),
+    // bytes that are no text, in a line of their own or among others
+    (b"\xff", 1),
+    (b"indexes:\n# \xc3\n", 2),
+    (b"indexes:\n- kind: \xc3\xa9\n", 3),
+    (b"indexes:\n\n\n- kind: \xc3\n", 4),
 ];
-
-#[test]
-fn ends_are_told(rt: HostRuntime) {
-    assert_eq!(rt; first_refused_elsewhere(rt.alloc(), &ENDS), None);
-}
 
 /// Texts, and how many definitions each gives.
 const COUNTED: [(&str, usize); 8] = [
@@ -162,19 +147,7 @@ const COUNTED: [(&str, usize); 8] = [
 ];
 
 #[test]
-fn definitions_are_counted(rt: HostRuntime) {
+fn index_files_are_read(rt: HostRuntime) {
+    assert_eq!(rt; first_refused_elsewhere(rt.alloc(), &LINES), None);
     assert_eq!(rt; first_counted_otherwise(rt.alloc(), &COUNTED), None);
-}
-
-/// Bytes that are no text, in a line of their own or among others, and the line that is refused.
-const NO_TEXTS: [(&[u8], u64); 4] = [
-    (b"\xff", 1),
-    (b"indexes:\n# \xc3\n", 2),
-    (b"indexes:\n- kind: \xc3\xa9\n", 3),
-    (b"indexes:\n\n\n- kind: \xc3\n", 4),
-];
-
-#[test]
-fn bytes_are_utf8(rt: HostRuntime) {
-    assert_eq!(rt; first_refused_elsewhere(rt.alloc(), &NO_TEXTS), None);
 }

@@ -83,12 +83,6 @@ fn first_wrong(alloc: Global) -> Result<Option<&'static str>, AllocError> {
     Ok(None)
 }
 
-#[test]
-fn prints_statements(rt: HostRuntime) -> Result<(), Fail> {
-    assert_eq!(rt; first_wrong(rt.alloc())?, None);
-    Ok(())
-}
-
 const CITED: &str = "SELECT * WHERE a = :2 AND b IN (:1, 1, :2)";
 
 const CITED_PRINTED: &str = "3 SELECT * WHERE a = :1 AND b IN ( :2 , 1 , :3 )";
@@ -96,12 +90,6 @@ const CITED_PRINTED: &str = "3 SELECT * WHERE a = :1 AND b IN ( :2 , 1 , :3 )";
 fn cites_dates(alloc: Global) -> Result<bool, AllocError> {
     let given = dates(alloc)?;
     prints(alloc, CITED, &given, CITED_PRINTED)
-}
-
-#[test]
-fn cites_values_without_literals(rt: HostRuntime) -> Result<(), Fail> {
-    assert!(rt; cites_dates(rt.alloc())?);
-    Ok(())
 }
 
 /// A statement of this kind and no more.
@@ -144,12 +132,6 @@ fn kinds_are_printed(alloc: Global) -> Result<bool, AllocError> {
     Ok(true)
 }
 
-#[test]
-fn refuses_names_that_no_text_has(rt: HostRuntime) -> Result<(), Fail> {
-    assert!(rt; kinds_are_printed(rt.alloc())?);
-    Ok(())
-}
-
 /// Whether this is told of a printed statement that is read again.
 fn is_read_back(
     alloc: Global,
@@ -178,7 +160,10 @@ fn reads_back(alloc: Global, kind: &str, want: &str) -> Result<bool, AllocError>
 }
 
 #[test]
-fn reads_what_it_prints(rt: HostRuntime) -> Result<(), Fail> {
+fn statements_are_printed(rt: HostRuntime) -> Result<(), Fail> {
+    assert_eq!(rt; first_wrong(rt.alloc())?, None);
+    assert!(rt; cites_dates(rt.alloc())?);
+    assert!(rt; kinds_are_printed(rt.alloc())?);
     assert!(rt; reads_back(rt.alloc(), "a b", "*|a b|||| 0+")?);
     Ok(())
 }

@@ -63,8 +63,8 @@ fn first_wrong<'a>(
     Ok(None)
 }
 
-/// Statements, and what is told of them.
-const STATEMENTS: [(&str, &str); 13] = [
+/// Statements, and what is told of them, and texts that are none, with the byte at which each stops being one.
+const STATEMENTS: [(&str, &str); 43] = [
     (
         "SELECT * FROM Greeting WHERE ANCESTOR IS :1 ORDER BY date DESC LIMIT 1",
         "*|Greeting|/Guestbook 'default'||date-| 0+1",
@@ -90,16 +90,7 @@ const STATEMENTS: [(&str, &str); 13] = [
     ("SELECT * LIMIT 3, 5", "*|-|||| 3+5"),
     ("SELECT * LIMIT 3 OFFSET 5", "*|-|||| 5+3"),
     ("SELECT * OFFSET 2147483647", "*|-|||| 2147483647+"),
-];
-
-#[test]
-fn reads_statements(rt: HostRuntime) -> Result<(), Fail> {
-    assert_eq!(rt; first_wrong(rt.alloc(), &STATEMENTS)?, None);
-    Ok(())
-}
-
-/// Texts that are no statements, and the byte at which each stops being one.
-const WRONG: [(&str, &str); 30] = [
+    // texts that are no statements
     ("SELECT * FROM T WHERE a OR b", "at 24"),
     ("SELECT * FROM", "at 13"),
     ("", "at 0"),
@@ -132,12 +123,6 @@ const WRONG: [(&str, &str); 30] = [
     ("SELECT * AND AND AND", "at 9"),
 ];
 
-#[test]
-fn tells_where_a_text_goes_wrong(rt: HostRuntime) -> Result<(), Fail> {
-    assert_eq!(rt; first_wrong(rt.alloc(), &WRONG)?, None);
-    Ok(())
-}
-
 /// A text of many names, each with a comma behind it.
 fn many_names(alloc: Global, count: usize) -> Result<String, AllocError> {
     let mut text = String::from_str(alloc, "SELECT")?;
@@ -151,12 +136,6 @@ fn many_names_are_told(alloc: Global, count: usize, want: &str) -> Result<bool, 
     let text = many_names(alloc, count)?;
     let given = bindings(alloc)?;
     is_told(alloc, parse(alloc, text.as_str(), &given), want)
-}
-
-#[test]
-fn reads_many_names_in_one_pass(rt: HostRuntime) -> Result<(), Fail> {
-    assert!(rt; many_names_are_told(rt.alloc(), 100_000, "at 300006")?);
-    Ok(())
 }
 
 /// A key literal of so many elements, in a statement.
@@ -182,7 +161,9 @@ fn is_long_key(alloc: Global) -> Result<bool, AllocError> {
 }
 
 #[test]
-fn keys_have_at_most_100_elements(rt: HostRuntime) -> Result<(), Fail> {
+fn statements_are_read(rt: HostRuntime) -> Result<(), Fail> {
+    assert_eq!(rt; first_wrong(rt.alloc(), &STATEMENTS)?, None);
+    assert!(rt; many_names_are_told(rt.alloc(), 100_000, "at 300006")?);
     assert!(rt; is_key_too_long(rt.alloc())?);
     assert!(rt; is_long_key(rt.alloc())?);
     Ok(())
