@@ -1,10 +1,9 @@
 //! Clients of a round, and an applier, at once.
 ghost use Rattle.std.specs.Prelude.{None};
 
-use crate::serving::{STEADY, is_text, no_files, served, words_of};
-use ds_base::{ByteString, Numbers};
-use ds_io::{Failed, Gate, MemorySink, MemorySource, NoGate, Sink, Source};
-use ds_serve::{Status, serve};
+use crate::serving::{ONE_SHARD, STEADY, is_text, run_with, served, sink, source};
+use ds_io::{Failed, Gate, NoGate, Sink, Source};
+use ds_serve::Status;
 use std::alloc::{AllocError, Global};
 use std::sync::Wait;
 use std::sync::atomic::{AtomicBool, AtomicU64, Ordering};
@@ -42,35 +41,20 @@ impl Gate for Holding {
     }
 }
 
+/// A get of either client.
+const GETS: &[u8] =
+    b"{\"op\":\"get\",\"key\":[[\"T\",\"a\"]]}\n{\"client\":1,\"op\":\"get\",\"key\":[[\"T\",\"a\"]]}\n";
+
 /// Whether client 1 was answered while client 0 waited, in the same round.
 fn meets<R: Threads + Wait + Sync>(rt: &R, alloc: Global) -> Result<bool, AllocError> {
-    let text =
-        b"{\"op\":\"get\",\"key\":[[\"T\",\"a\"]]}\n{\"client\":1,\"op\":\"get\",\"key\":[[\"T\",\"a\"]]}\n";
-    let bytes = ByteString::of(alloc, text)?;
-    let words = words_of(alloc, &["--shards", "1", "--appliers", "0"])?;
-    let mut files = no_files(alloc);
-    let mut input = MemorySource::make(bytes, 1_000, Numbers::new(alloc));
-    let mut output = MemorySink::make(alloc, 1_000, Numbers::new(alloc));
+    let mut input = source(alloc, GETS, STEADY)?;
+    let mut output = sink(alloc, STEADY)?;
     let gate = Holding {
         is_answered: AtomicBool::new(false),
         has_met: AtomicBool::new(false),
     };
-    let run = serve(
-        rt,
-        alloc,
-        words.as_slice(),
-        &mut files,
-        &mut input,
-        &mut output,
-        &gate,
-    );
+    let run = run_with(rt, alloc, &ONE_SHARD, &mut input, &mut output, &gate)?;
     Ok(run.status == Status::Done && gate.has_met.load(Ordering::SeqCst))
-}
-
-#[test]
-fn answers_two_clients_at_once(rt: HostRuntime) -> Result<(), Fail> {
-    assert!(rt; meets(&rt, rt.alloc())?);
-    Ok(())
 }
 
 /// Two transactions that read and write one group, begun in one round and committed in the next.
@@ -130,12 +114,6 @@ fn one_commits<R: Threads + Wait + Sync>(
     Ok(true)
 }
 
-#[test]
-fn lets_one_of_two_rivals_commit(rt: HostRuntime) -> Result<(), Fail> {
-    assert!(rt; one_commits(&rt, rt.alloc(), 200)?);
-    Ok(())
-}
-
 /// How many global queries are asked at most.
 const QUERIES: u64 = 100_000;
 
@@ -193,28 +171,21 @@ impl Sink for Looking<'_> {
 
 /// Whether an applier applies the put's entry while a client asks.
 fn applies<R: Threads + Wait + Sync>(rt: &R, alloc: Global) -> Result<bool, AllocError> {
-    let words = words_of(alloc, &["--shards", "1", "--appliers", "1"])?;
+    let words = ["--shards", "1", "--appliers", "1"];
     let counted = AtomicU64::new(0);
-    let mut files = no_files(alloc);
     let mut input = Asking {
         asked: 0,
         counted: &counted,
     };
     let mut output = Looking { counted: &counted };
-    let run = serve(
-        rt,
-        alloc,
-        words.as_slice(),
-        &mut files,
-        &mut input,
-        &mut output,
-        &NoGate,
-    );
+    let run = run_with(rt, alloc, &words, &mut input, &mut output, &NoGate)?;
     Ok(run.status == Status::Done && counted.load(Ordering::SeqCst) == 1)
 }
 
 #[test]
-fn applies_in_the_background(rt: HostRuntime) -> Result<(), Fail> {
+fn clients_and_an_applier_work_at_once(rt: HostRuntime) -> Result<(), Fail> {
+    assert!(rt; meets(&rt, rt.alloc())?);
+    assert!(rt; one_commits(&rt, rt.alloc(), 200)?);
     assert!(rt; applies(&rt, rt.alloc())?);
     Ok(())
 }

@@ -1,5 +1,5 @@
 //! Entries that wait to be applied, and versions that have expired, without appliers.
-use crate::serving::{STEADY, ends_with, served_with, words_of};
+use crate::serving::{STEADY, ends_with, served_with};
 use ds_serve::Status;
 use std::alloc::{AllocError, Global};
 use std::sync::Wait;
@@ -91,11 +91,8 @@ fn is_answered<R: Threads + Wait + Sync>(
     alloc: Global,
     row: &Row,
 ) -> Result<bool, AllocError> {
-    let words = words_of(
-        alloc,
-        &["--shards", "1", "--appliers", "0", "--window", row.window],
-    )?;
-    let ended = served_with(rt, alloc, words.as_slice(), row.lines, STEADY)?;
+    let words = ["--shards", "1", "--appliers", "0", "--window", row.window];
+    let ended = served_with(rt, alloc, &words, row.lines, STEADY)?;
     Ok(ends_with(&ended, Status::Done, row.replies))
 }
 

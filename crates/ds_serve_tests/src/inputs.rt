@@ -1,7 +1,5 @@
 //! Runs where nothing fails: how lines and rounds are cut, and memory enough for each reply.
-use crate::serving::{
-    FIRST, Outside, REPLIES, STEADY, commits, ends_with, served, served_with, words,
-};
+use crate::serving::{FIRST, Outside, REPLIES, STEADY, commits, ends_with, served, served_with};
 use ds_serve::Status;
 use std::alloc::{AllocError, Global};
 use std::sync::Wait;
@@ -62,12 +60,8 @@ fn first_wrong<R: Threads + Wait + Sync>(
     Ok(None)
 }
 
-#[test]
-fn cuts_lines_and_rounds(rt: HostRuntime) -> Result<(), Fail> {
-    assert_eq!(rt; first_wrong(&rt, rt.alloc(), 1)?, None);
-    assert_eq!(rt; first_wrong(&rt, rt.alloc(), 1_000_000)?, None);
-    Ok(())
-}
+/// Lines of two clients.
+const SETTLES: &[u8] = b"{\"op\":\"settle\"}\n{\"client\":3,\"op\":\"settle\"}\n";
 
 /// Whether so many commits are told of a text, and the gate sums this before and after the answers.
 fn calls_the_gate<R: Threads + Wait + Sync>(
@@ -81,32 +75,13 @@ fn calls_the_gate<R: Threads + Wait + Sync>(
     Ok(commits(&ended) == Some(count) && ended.begun == sum && ended.done == sum)
 }
 
-#[test]
-fn tells_commits_and_calls_the_gate(rt: HostRuntime) -> Result<(), Fail> {
-    assert!(rt; calls_the_gate(&rt, rt.alloc(), FIRST, 1, 6)?);
-    Ok(())
-}
-
-#[test]
-fn calls_the_gate_for_each_client(rt: HostRuntime) -> Result<(), Fail> {
-    let text = b"{\"op\":\"settle\"}\n{\"client\":3,\"op\":\"settle\"}\n";
-    assert!(rt; calls_the_gate(&rt, rt.alloc(), text, 0, 3_003)?);
-    Ok(())
-}
-
 fn refuses_seventeen_shards<R: Threads + Wait + Sync>(
     rt: &R,
     alloc: Global,
 ) -> Result<bool, AllocError> {
-    let words = words(alloc, "17")?;
-    let ended = served_with(rt, alloc, words.as_slice(), FIRST, STEADY)?;
+    let words = ["--shards", "17", "--appliers", "0"];
+    let ended = served_with(rt, alloc, &words, FIRST, STEADY)?;
     Ok(commits(&ended) == Some(0) && ends_with(&ended, Status::Usage, b""))
-}
-
-#[test]
-fn begins_no_run_with_too_many_shards(rt: HostRuntime) -> Result<(), Fail> {
-    assert!(rt; refuses_seventeen_shards(&rt, rt.alloc())?);
-    Ok(())
 }
 
 /// A put of an entity of its own for each number from 1 on, each after the third of them in a round of its own.
@@ -143,7 +118,12 @@ fn answers_puts<R: Threads + Wait + Sync>(
 }
 
 #[test]
-fn has_memory_for_two_thousand_lines(rt: HostRuntime) -> Result<(), Fail> {
+fn inputs_are_answered(rt: HostRuntime) -> Result<(), Fail> {
+    assert_eq!(rt; first_wrong(&rt, rt.alloc(), 1)?, None);
+    assert_eq!(rt; first_wrong(&rt, rt.alloc(), 1_000_000)?, None);
+    assert!(rt; calls_the_gate(&rt, rt.alloc(), FIRST, 1, 6)?);
+    assert!(rt; calls_the_gate(&rt, rt.alloc(), SETTLES, 0, 3_003)?);
+    assert!(rt; refuses_seventeen_shards(&rt, rt.alloc())?);
     assert!(rt; answers_puts(&rt, rt.alloc(), 2_000)?);
     Ok(())
 }

@@ -1,9 +1,12 @@
-//! Tests of the server's calls over memory; no running code of its own.
+//! Tests of whole runs: the server's calls over memory, and the judge of a run. There is no code but tests, so that the libraries are proved
+//! once.
 //!
-//! `serving` holds what the tests share: a run over a source and a sink in memory, and how its text is compared. `inputs` are
+//! `serving` holds what the tests of the server share: a run over a source and a sink in memory, and how its text is compared. `inputs` are
 //! runs where nothing fails, `faults` those where the outside fails, `limits` long lines and rounds, and `waiting` is a source that
 //! waits for the replies to a round. `entries` are runs with entries that wait and versions that expire; in `at_once` clients and an
 //! applier are at work at once.
+//!
+//! `verdicts` has small runs with their journals: what is legal, and of each other verdict what is told of it.
 #![tactic(auto)]
 
 #[cfg(test)]
@@ -18,5 +21,7 @@ mod inputs;
 mod limits;
 #[cfg(test)]
 mod serving;
+#[cfg(test)]
+mod verdicts;
 #[cfg(test)]
 mod waiting;

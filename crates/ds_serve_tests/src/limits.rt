@@ -61,12 +61,6 @@ fn long_lines_are_answered<R: Threads + Wait + Sync>(
     Ok(true)
 }
 
-#[test]
-fn refuses_a_line_that_is_too_long(rt: HostRuntime) -> Result<(), Fail> {
-    assert!(rt; long_lines_are_answered(&rt, rt.alloc())?);
-    Ok(())
-}
-
 /// So many lines `{}`.
 fn lines(alloc: Global, count: usize) -> Result<Vec<u8>, AllocError> {
     let mut text = Vec::new(alloc);
@@ -111,9 +105,10 @@ fn ends_in_a_second_round<R: Threads + Wait + Sync>(
     Ok(unsent && ended.written.written().bytes().len() > 65_536 * 60)
 }
 
-/// The most lines of a round are written at once; with one more there is a second round, whose write is the second one.
 #[test]
-fn ends_a_round_with_its_last_line(rt: HostRuntime) -> Result<(), Fail> {
+fn long_lines_and_rounds_are_answered(rt: HostRuntime) -> Result<(), Fail> {
+    assert!(rt; long_lines_are_answered(&rt, rt.alloc())?);
+    // The most lines of a round are written at once; with one more there is a second round, whose write is the second one.
     assert!(rt; ends_with_one_round(&rt, rt.alloc())?);
     assert!(rt; ends_in_a_second_round(&rt, rt.alloc())?);
     Ok(())

@@ -1,6 +1,6 @@
 //! A run over a source and a sink in memory.
 use ds_base::{ByteString, ByteStrings, Names, Numbers};
-use ds_io::{Gate, MemoryFiles, MemorySink, MemorySource};
+use ds_io::{Gate, MemoryFiles, MemorySink, MemorySource, Sink, Source};
 use ds_serve::{Run, Status, serve};
 use std::alloc::{AllocError, Global};
 use std::sync::Wait;
@@ -97,8 +97,10 @@ fn summand(client: u32, line: u64) -> u64 {
     u64::from(client).wrapping_mul(1000).wrapping_add(line)
 }
 
-/// The words that the server is started with.
-pub(crate) fn words_of(alloc: Global, texts: &[&str]) -> Result<Vec<String>, AllocError> {
+/// The words for one shard and no appliers.
+pub(crate) const ONE_SHARD: [&str; 4] = ["--shards", "1", "--appliers", "0"];
+
+fn words_of(alloc: Global, texts: &[&str]) -> Result<Vec<String>, AllocError> {
     let mut words = Vec::new(alloc);
     for word in texts {
         words.push(String::from_str(alloc, word)?)?;
@@ -106,13 +108,7 @@ pub(crate) fn words_of(alloc: Global, texts: &[&str]) -> Result<Vec<String>, All
     Ok(words)
 }
 
-/// Those for so many shards and no appliers.
-pub(crate) fn words(alloc: Global, shards: &str) -> Result<Vec<String>, AllocError> {
-    words_of(alloc, &["--shards", shards, "--appliers", "0"])
-}
-
-/// No files.
-pub(crate) fn no_files(alloc: Global) -> MemoryFiles {
+fn no_files(alloc: Global) -> MemoryFiles {
     MemoryFiles::make(
         Names::new(alloc),
         ByteStrings::new(alloc),
@@ -120,37 +116,54 @@ pub(crate) fn no_files(alloc: Global) -> MemoryFiles {
     )
 }
 
+/// Runs a server that is started with these words, over no files.
+pub(crate) fn run_with<R: Threads + Wait + Sync, I: Source, O: Sink, G: Gate + Sync>(
+    rt: &R,
+    alloc: Global,
+    texts: &[&str],
+    input: &mut I,
+    output: &mut O,
+    gate: &G,
+) -> Result<Run, AllocError> {
+    let words = words_of(alloc, texts)?;
+    let mut files = no_files(alloc);
+    Ok(serve(rt, alloc, words.as_slice(), &mut files, input, output, gate))
+}
+
 fn only(alloc: Global, number: u64) -> Result<Numbers, AllocError> {
     Ok(Numbers::from(Vec::from_slice(alloc, &[number])?))
+}
+
+pub(crate) fn source(
+    alloc: Global,
+    text: &[u8],
+    outside: Outside,
+) -> Result<MemorySource, AllocError> {
+    let failing = only(alloc, outside.failing_read)?;
+    let bytes = ByteString::of(alloc, text)?;
+    Ok(MemorySource::make(bytes, outside.read.max(1), failing))
+}
+
+pub(crate) fn sink(alloc: Global, outside: Outside) -> Result<MemorySink, AllocError> {
+    let failing = only(alloc, outside.failing_write)?;
+    Ok(MemorySink::make(alloc, outside.written, failing))
 }
 
 /// Serves a text with these words.
 pub(crate) fn served_with<R: Threads + Wait + Sync>(
     rt: &R,
     alloc: Global,
-    words: &[String],
+    texts: &[&str],
     text: &[u8],
     outside: Outside,
 ) -> Result<Ended, AllocError> {
-    let failing_read = only(alloc, outside.failing_read)?;
-    let failing_write = only(alloc, outside.failing_write)?;
-    let bytes = ByteString::of(alloc, text)?;
-    let mut files = no_files(alloc);
-    let mut input = MemorySource::make(bytes, outside.read.max(1), failing_read);
-    let mut written = MemorySink::make(alloc, outside.written, failing_write);
+    let mut input = source(alloc, text, outside)?;
+    let mut written = sink(alloc, outside)?;
     let gate = Summing {
         begun: AtomicU64::new(0),
         done: AtomicU64::new(0),
     };
-    let run = serve(
-        rt,
-        alloc,
-        words,
-        &mut files,
-        &mut input,
-        &mut written,
-        &gate,
-    );
+    let run = run_with(rt, alloc, texts, &mut input, &mut written, &gate)?;
     Ok(Ended {
         run,
         written,
@@ -166,8 +179,7 @@ pub(crate) fn served<R: Threads + Wait + Sync>(
     text: &[u8],
     outside: Outside,
 ) -> Result<Ended, AllocError> {
-    let words = words(alloc, "1")?;
-    served_with(rt, alloc, words.as_slice(), text, outside)
+    served_with(rt, alloc, &ONE_SHARD, text, outside)
 }
 
 /// Whether the taken bytes, followed by the unsent ones, are this text.

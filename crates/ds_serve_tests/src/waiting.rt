@@ -1,9 +1,9 @@
 //! A source that gives its second round only once the sink has the replies to the first.
 ghost use Rattle.std.specs.Prelude.{None};
 
-use crate::serving::{ROUND_REPLIES, ROUNDS, no_files, words};
+use crate::serving::{ONE_SHARD, ROUND_REPLIES, ROUNDS, run_with};
 use ds_io::{Failed, NoGate, Sink, Source};
-use ds_serve::{Status, serve};
+use ds_serve::Status;
 use std::alloc::{AllocError, Global};
 use std::sync::Wait;
 use std::sync::atomic::{AtomicU64, Ordering};
@@ -70,10 +70,8 @@ impl Sink for Counting<'_> {
 
 /// Whether no call of the source fails, all is taken, and the sink is flushed once a round.
 fn waits<R: Threads + Wait + Sync>(rt: &R, alloc: Global) -> Result<bool, AllocError> {
-    let words = words(alloc, "1")?;
     let taken = AtomicU64::new(0);
     let flushes = AtomicU64::new(0);
-    let mut files = no_files(alloc);
     let mut input = Waiting {
         round: 0,
         taken: &taken,
@@ -83,15 +81,7 @@ fn waits<R: Threads + Wait + Sync>(rt: &R, alloc: Global) -> Result<bool, AllocE
         taken: &taken,
         flushes: &flushes,
     };
-    let run = serve(
-        rt,
-        alloc,
-        words.as_slice(),
-        &mut files,
-        &mut input,
-        &mut output,
-        &NoGate,
-    );
+    let run = run_with(rt, alloc, &ONE_SHARD, &mut input, &mut output, &NoGate)?;
     let counted = taken.load(Ordering::SeqCst) == 238 && flushes.load(Ordering::SeqCst) == 3;
     Ok(run.status == Status::Done && counted)
 }

@@ -15,26 +15,46 @@ fn journal_of(alloc: Global, text: &str) -> Result<Journal, NoMemory> {
     }
 }
 
-/// Whether this verdict is told of the replies to the input, with one shard and a window of 100 kept versions.
-fn tells(
+/// The input, the journal and the replies, both in parts, and the verdict with one shard and a window of 100 kept versions.
+type Run = (
+    &'static str,
+    &'static [&'static str],
+    &'static [&'static str],
+    Verdict,
+);
+
+/// The parts, one after the other.
+fn joined(alloc: Global, parts: &[&str]) -> Result<String, AllocError> {
+    let mut text = String::new(alloc);
+    for part in parts {
+        text.push_str(*part)?;
+    }
+    Ok(text)
+}
+
+/// What is told of the replies to the input.
+fn told_of(
     alloc: Global,
     input: &str,
-    journal: &str,
+    journal: &Journal,
     replies: &str,
-    wanted: Verdict,
-) -> Result<bool, NoMemory> {
-    let journal = journal_of(alloc, journal)?;
+) -> Result<Verdict, NoMemory> {
     let defs = Defs::new(alloc);
-    let told = check(
+    check(
         alloc,
         input.as_bytes(),
         1,
         100,
         &defs,
-        &journal,
+        journal,
         replies.as_bytes(),
-    )?;
-    Ok(told == wanted)
+    )
+}
+
+fn is_told(alloc: Global, run: &Run) -> Result<bool, NoMemory> {
+    let journal = journal_of(alloc, joined(alloc, run.1)?.as_str())?;
+    let replies = joined(alloc, run.2)?;
+    Ok(told_of(alloc, run.0, &journal, replies.as_str())? == run.3)
 }
 
 // ---- a put, a settle, a query
@@ -66,27 +86,6 @@ const CUT: &str =
      {\"applied\":[1],\"client\":0,\"line\":2,\"ok\":\"settle\",\"place\":1}\n\
      {\"applied\":[1],\"client\":0,\"line\":3,\"ok\":\"query\",\"results\":[{\"key\":[[\"Task\",\"a\"]],\"properties\":{\"n\":5,\
      \"s\":\"x\"}}]}";
-
-#[test]
-fn a_first_run(rt: HostRuntime) -> Result<(), Fail> {
-    let alloc = rt.alloc();
-    assert!(rt; tells(alloc, FIRST, FIRST_JOURNAL, FIRST_REPLIES, Verdict::Legal)?);
-    assert!(rt;
-        tells(
-            alloc,
-            FIRST,
-            FIRST_JOURNAL,
-            STALE,
-            Verdict::Reply { line: 3 }
-        )?
-    );
-    assert!(rt; tells(alloc, FIRST, "", FIRST_REPLIES, Verdict::Reply { line: 1 })?);
-    assert!(rt; tells(alloc, FIRST, FIRST_JOURNAL, CUT, Verdict::Count)?);
-    assert!(rt; tells(alloc, "", FIRST_JOURNAL, FIRST_REPLIES, Verdict::Count)?);
-    assert!(rt; tells(alloc, "", FIRST_JOURNAL, "", Verdict::Numbers)?);
-    assert!(rt; tells(alloc, "", "", "", Verdict::Legal)?);
-    Ok(())
-}
 
 // ---- two transactions on one group
 
@@ -138,66 +137,6 @@ const OF_ONE_TOO: &str =
 const OF_NOBODY: &str =
     "{\"client\":1,\"commit\":3,\"touched\":[],\"writes\":[{\"put\":{\"key\":[[\"C\",\"y\"]],\"properties\":{}}}]}\n";
 
-/// Whether this verdict is told where the two transactions end so, over the journal with these commits behind the first.
-fn two_tell(
-    alloc: Global,
-    second: &str,
-    third: &str,
-    zero: &str,
-    one: &str,
-    wanted: Verdict,
-) -> Result<bool, NoMemory> {
-    let journal = format!(in alloc; "{BEFORE_BOTH}{second}{third}")?;
-    let replies = format!(in alloc; "{TWO_BEFORE}{zero}{TWO_BETWEEN}{one}")?;
-    tells(alloc, TWO, journal.as_str(), replies.as_str(), wanted)
-}
-
-#[test]
-fn two_transactions(rt: HostRuntime) -> Result<(), Fail> {
-    let alloc = rt.alloc();
-    assert!(rt;
-        two_tell(
-            alloc,
-            OF_ZERO,
-            "",
-            ZERO_COMMITS,
-            ONE_CONFLICTS,
-            Verdict::Legal
-        )?
-    );
-    assert!(rt;
-        two_tell(
-            alloc,
-            OF_ONE,
-            "",
-            ZERO_CONFLICTS,
-            ONE_COMMITS,
-            Verdict::Legal
-        )?
-    );
-    assert!(rt;
-        two_tell(
-            alloc,
-            OF_ZERO,
-            OF_ONE_TOO,
-            ZERO_COMMITS,
-            ONE_COMMITS_TOO,
-            Verdict::Reply { line: 11 }
-        )?
-    );
-    assert!(rt;
-        two_tell(
-            alloc,
-            OF_ZERO,
-            OF_NOBODY,
-            ZERO_COMMITS,
-            ONE_CONFLICTS,
-            Verdict::Numbers
-        )?
-    );
-    Ok(())
-}
-
 // ---- ids
 
 const THREE: &str = "{\"op\":\"allocate_ids\",\"count\":3}\n";
@@ -220,12 +159,65 @@ const HIGH_PUT: &str =
 const HIGH_REFUSED: &str =
     "{\"client\":0,\"error\":21,\"id\":4503599627370496,\"line\":1,\"name\":\"IdNotIssued\",\"next\":4503599627370496}\n";
 
+// ---- the table
+
+const RUNS: [Run; 15] = [
+    (FIRST, &[FIRST_JOURNAL], &[FIRST_REPLIES], Verdict::Legal),
+    (
+        FIRST,
+        &[FIRST_JOURNAL],
+        &[STALE],
+        Verdict::Reply { line: 3 },
+    ),
+    (FIRST, &[], &[FIRST_REPLIES], Verdict::Reply { line: 1 }),
+    (FIRST, &[FIRST_JOURNAL], &[CUT], Verdict::Count),
+    ("", &[FIRST_JOURNAL], &[FIRST_REPLIES], Verdict::Count),
+    ("", &[FIRST_JOURNAL], &[], Verdict::Numbers),
+    ("", &[], &[], Verdict::Legal),
+    // two transactions
+    (
+        TWO,
+        &[BEFORE_BOTH, OF_ZERO],
+        &[TWO_BEFORE, ZERO_COMMITS, TWO_BETWEEN, ONE_CONFLICTS],
+        Verdict::Legal,
+    ),
+    (
+        TWO,
+        &[BEFORE_BOTH, OF_ONE],
+        &[TWO_BEFORE, ZERO_CONFLICTS, TWO_BETWEEN, ONE_COMMITS],
+        Verdict::Legal,
+    ),
+    (
+        TWO,
+        &[BEFORE_BOTH, OF_ZERO, OF_ONE_TOO],
+        &[TWO_BEFORE, ZERO_COMMITS, TWO_BETWEEN, ONE_COMMITS_TOO],
+        Verdict::Reply { line: 11 },
+    ),
+    (
+        TWO,
+        &[BEFORE_BOTH, OF_ZERO, OF_NOBODY],
+        &[TWO_BEFORE, ZERO_COMMITS, TWO_BETWEEN, ONE_CONFLICTS],
+        Verdict::Numbers,
+    ),
+    // drawn ids
+    (THREE, &[], &[THREE_FIRST], Verdict::Legal),
+    (THREE, &[], &[THREE_LATER], Verdict::Ids),
+    (HIGH, &[HIGH_JOURNAL], &[HIGH_PUT], Verdict::Ids),
+    (HIGH, &[], &[HIGH_REFUSED], Verdict::Legal),
+];
+
+/// The place of the first run of which another verdict is told.
+fn first_wrong(alloc: Global) -> Result<Option<usize>, NoMemory> {
+    for (place, run) in RUNS.iter().enumerate() {
+        if !is_told(alloc, run)? {
+            return Ok(Some(place));
+        }
+    }
+    Ok(None)
+}
+
 #[test]
-fn drawn_ids(rt: HostRuntime) -> Result<(), Fail> {
-    let alloc = rt.alloc();
-    assert!(rt; tells(alloc, THREE, "", THREE_FIRST, Verdict::Legal)?);
-    assert!(rt; tells(alloc, THREE, "", THREE_LATER, Verdict::Ids)?);
-    assert!(rt; tells(alloc, HIGH, HIGH_JOURNAL, HIGH_PUT, Verdict::Ids)?);
-    assert!(rt; tells(alloc, HIGH, "", HIGH_REFUSED, Verdict::Legal)?);
+fn runs_are_judged(rt: HostRuntime) -> Result<(), Fail> {
+    assert_eq!(rt; first_wrong(rt.alloc())?, None);
     Ok(())
 }
