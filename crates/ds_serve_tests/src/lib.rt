@@ -1,5 +1,5 @@
-//! Tests of whole runs: the server's calls over memory, and the judge of a run. There is no code but tests, so that the libraries are proved
-//! once.
+//! Tests of whole runs: the server's calls over memory, and the judge of a run. There is no code but tests, so that the libraries are
+//! proved once.
 //!
 //! `serving` holds what the tests of the server share: a run over a source and a sink in memory, and how its text is compared. `inputs` are
 //! runs where nothing fails, `faults` those where the outside fails, `limits` long lines and rounds, and `waiting` is a source that
