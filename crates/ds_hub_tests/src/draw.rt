@@ -74,14 +74,14 @@ fn two_threads<Rt: Threads + Wait + Sync>(
     Ok((end, ones, others))
 }
 
-#[test]
-fn two_threads_draw_each_number_once(rt: HostRuntime) -> Result<(), Fail> {
-    let (end, ones, others) = two_threads(&rt, rt.alloc(), 1000)?;
-    assert!(rt; end == 2001);
-    assert!(rt; ones.len() == 1000);
-    assert!(rt; others.len() == 1000);
-    assert!(rt; drew_all(1, &ones, &others, rt.alloc())?);
-    Ok(())
+// Whether two threads draw 1,000 numbers each, each of them once.
+fn each_is_drawn_once<Rt: Threads + Wait + Sync>(
+    rt: &Rt,
+    alloc: Global,
+) -> Result<bool, AllocError> {
+    let (end, ones, others) = two_threads(rt, alloc, 1000)?;
+    let once = drew_all(1, &ones, &others, alloc)?;
+    Ok(once && end == 2001 && ones.len() == 1000 && others.len() == 1000)
 }
 
 // Draws every second number, waiting for the word to come to each.
@@ -126,14 +126,6 @@ fn in_turn<Rt: Threads + Wait + Sync>(rt: &Rt, alloc: Global) -> Result<(u64, bo
     Ok((word.look(&mut seat), had_two && has_none))
 }
 
-#[test]
-fn a_draw_waits_until_the_word_comes(rt: HostRuntime) -> Result<(), Fail> {
-    let (next, were_two) = in_turn(&rt, rt.alloc())?;
-    assert!(rt; next == 201);
-    assert!(rt; were_two);
-    Ok(())
-}
-
 // Draws 5, 6 and 7 with one seat, and looks with another, which drew nothing.
 fn look_without_a_draw<R: Wait>(rt: &R, alloc: Global) -> Result<u64, AllocError> {
     let ThreeSeats {
@@ -147,7 +139,9 @@ fn look_without_a_draw<R: Wait>(rt: &R, alloc: Global) -> Result<u64, AllocError
 }
 
 #[test]
-fn a_look_shows_what_another_seat_drew(rt: HostRuntime) -> Result<(), Fail> {
+fn numbers_are_drawn_once(rt: HostRuntime) -> Result<(), Fail> {
+    assert!(rt; each_is_drawn_once(&rt, rt.alloc())?);
+    assert!(rt; in_turn(&rt, rt.alloc())? == (201, true));
     assert!(rt; look_without_a_draw(&rt, rt.alloc())? == 8);
     Ok(())
 }

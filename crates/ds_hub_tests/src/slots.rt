@@ -94,14 +94,6 @@ fn new_hub<'a, R: Wait>(rt: &'a R, alloc: Global) -> Result<TwoReaders<&'a R>, N
     two_readers(rt, rt, alloc)
 }
 
-#[test]
-fn slots_are_entered_and_left_together(rt: HostRuntime) -> Result<(), Fail> {
-    let (done, refused) = follow_two_hubs(&rt, rt.alloc())?;
-    assert!(rt; done);
-    assert!(rt; refused);
-    Ok(())
-}
-
 // Enters, and drops what it entered.
 fn drop_inside(mut slot: Slot<u64, Sum>) -> bool {
     slot.enter()
@@ -119,12 +111,6 @@ fn is_left_by_a_drop<R: Wait>(rt: &R, alloc: Global) -> Result<bool, NoMemory> {
     let second = publish_one(rt, &mut writer.writer, 4);
     let seen = look(two).1 == Some(7);
     Ok(entered && first && second && seen)
-}
-
-#[test]
-fn a_dropped_slot_leaves(rt: HostRuntime) -> Result<(), Fail> {
-    assert!(rt; is_left_by_a_drop(&rt, rt.alloc())?);
-    Ok(())
 }
 
 // A slot learns what is published, and tells it on. The writer confirms what it learnt, and what its reader knows at last.
@@ -156,12 +142,6 @@ fn learnt<R: Wait>(rt: &R, alloc: Global) -> Result<Option<u64>, NoMemory> {
         two: _two,
     } = new_hub(rt, alloc)?;
     Ok(learns(rt, &mut writer.writer, Slot::new(one)))
-}
-
-#[test]
-fn a_slot_learns_and_a_writer_confirms(rt: HostRuntime) -> Result<(), Fail> {
-    assert!(rt; learnt(&rt, rt.alloc())? == Some(1));
-    Ok(())
 }
 
 // Takes the last of two readers out, lets it look, and puts it into the place of the first, which goes behind it: how much each place
@@ -248,5 +228,13 @@ fn what_stands_for_an_operation_is_told(rt: HostRuntime) -> Result<(), Fail> {
     writer.end(&rt);
     assert!(rt; told == Some(1));
     assert!(rt; seen == Some((1, 1)));
+    Ok(())
+}
+
+#[test]
+fn slots_are_entered_and_left(rt: HostRuntime) -> Result<(), Fail> {
+    assert!(rt; follow_two_hubs(&rt, rt.alloc())? == (true, true));
+    assert!(rt; is_left_by_a_drop(&rt, rt.alloc())?);
+    assert!(rt; learnt(&rt, rt.alloc())? == Some(1));
     Ok(())
 }
