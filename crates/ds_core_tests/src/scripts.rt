@@ -14,32 +14,73 @@ use std::test::Fail;
 /// A step of a client, and the line that it opens before; none where it is empty.
 pub type Line<'a> = (u32, Step, &'a str);
 
-/// Whether a run of these steps over so many shards gives exactly these replies, one line each.
+/// Whether a run of these steps, in parts, over so many shards gives exactly these replies, one line each, in parts too. No run is over
+/// other than one to 16 shards.
 pub(crate) fn replies_are(
     alloc: Global,
     shards: u32,
-    script: &[Line<'_>],
-    expected: &str,
-) -> Result<bool, Fail>
+    script: &[&[Line<'_>]],
+    expected: &[&str],
+) -> Result<bool, Fail> {
+    if shards == 0 || shards > 16 {
+        return Ok(false);
+    }
+    let expected = joined(alloc, expected)?;
+    gives(alloc, shards, script, expected.as_str())
+}
+
+/// The parts, one after the other.
+fn joined(alloc: Global, parts: &[&str]) -> Result<String, AllocError> {
+    let mut text = String::new(alloc);
+    for part in parts {
+        text.push_str(*part)?;
+    }
+    Ok(text)
+}
+
+fn gives(alloc: Global, shards: u32, script: &[&[Line<'_>]], expected: &str) -> Result<bool, Fail>
+    requires least { 1 ≤ shards }
+    requires most { shards ≤ 16 }
+{
+    let text = text_after(alloc, shards, script)?;
+    Ok(text.bytes() == expected.as_bytes())
+}
+
+/// The replies of a run of these steps, one line each.
+fn text_after(alloc: Global, shards: u32, script: &[&[Line<'_>]]) -> Result<Buffer, Fail>
     requires least { 1 ≤ shards }
     requires most { shards ≤ 16 }
 {
     let events = events_of(alloc, shards, script)?;
     let transcript = run(alloc, events, shards, Defs::new(alloc))?;
-    let text = text_of(alloc, &transcript.replies)?;
-    Ok(text.bytes() == expected.as_bytes())
+    text_of(alloc, &transcript.replies)
 }
 
-fn events_of(alloc: Global, shards: u32, script: &[Line<'_>]) -> Result<Events, Fail>
+fn events_of(alloc: Global, shards: u32, script: &[&[Line<'_>]]) -> Result<Events, Fail>
     ensures { IfOk result (All (IsLawfulEvent shards)) }
 {
     let mut events = Events::new(alloc);
-    for line in script {
-        let (client, step, text) = *line;
-        let event = event_of(alloc, shards, client, step, text)?;
-        push(&mut events, event, shards)?;
+    for part in script {
+        add_events(alloc, shards, *part, &mut events)?;
     }
     Ok(events)
+}
+
+fn add_events(
+    alloc: Global,
+    shards: u32,
+    part: &[Line<'_>],
+    events: &mut Events,
+) -> Result<(), Fail>
+    requires { All (IsLawfulEvent shards) events.old }
+    ensures { OnOk result (All (IsLawfulEvent shards) events.new) }
+{
+    for line in part {
+        let (client, step, text) = *line;
+        let event = event_of(alloc, shards, client, step, text)?;
+        push(events, event, shards)?;
+    }
+    Ok(())
 }
 
 fn push(events: &mut Events, event: Event, shards: u32) -> Result<(), NoMemory>
