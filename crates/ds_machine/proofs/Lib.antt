@@ -1,4 +1,4 @@
-mod Comes
+mod Citing
 pub mod DuePlans
 pub mod Gatherings
 pub mod Growing
@@ -15,4 +15,5 @@ pub mod Stepped
 mod ToldPlans
 mod ToldRefusals
 mod TransactionPlans
+mod Words
 mod WriteAnswers

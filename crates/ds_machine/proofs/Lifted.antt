@@ -1,20 +1,8 @@
 -- From a plan to the reply: an answer over the journal is one over every longer journal.
-use Rattle.std.proofs.Common.{ℕ, ◌+◌, List, [], ◌∷◌, ◌++◌, length, map, Option}
-use Rattle.std.specs.Prelude.{Ok}
-use Rattle.std.specs.List.{range_with_len}
-use Rattle.ds_log.specs.declared.Commit.{Commit}
-use Rattle.ds_log.specs.Logs.{shard_list}
-use Rattle.ds_log.specs.ShardLaws.{shard_list-append, later_entries}
-use Rattle.ds_request.specs.declared.call.Call.{Call}
-use Rattle.ds_reply.specs.declared.reply.Body.{Body}
-use Rattle.ds_model.specs.Answers.{BodyAnswers}
-use Rattle.ds_model.specs.Sessions.{Session}
-use Rattle.ds_model.specs.Worlds.{shard_lists}
+use Rattle.ds_machine.proofs.Words.{ℕ, ◌+◌, List, [], ◌∷◌, ◌++◌, length, map, Option, Ok, range_with_len, Commit, shard_list}
+use Rattle.ds_machine.proofs.Words.{shard_list-append, Call, Body, BodyAnswers, Session, shard_lists, Effect, IsDue, store_after}
+use Rattle.ds_machine.proofs.Words.{session_after, StateParts, world, later_entries}
 use Rattle.ds_model.proofs.LongerJournals.{AreLonger, body-grown}
-use Rattle.ds_effects.specs.declared.effect.Effect.{Effect}
-use Rattle.ds_machine.specs.Due.{IsDue}
-use Rattle.ds_machine.specs.Effects.{store_after, session_after}
-use Rattle.ds_machine.specs.States.{StateParts, world}
 
 -- the lists of a longer journal begin with those of the journal
 pub lists-longer : (shards : ℕ) (journal more : List Commit) (numbers : List ℕ) →

@@ -1,44 +1,21 @@
--- Plans of answers that tell no number, and the common parts of others.
-use Rattle.std.proofs.Common.{◌≡◌, ◌⊎◌, inl, inr, ℕ, ◌-◌, ◌<◌, ◌≤◌, List, [], refl, ap, sym, ◌∙◌, subst, arith, Some, None, true, false}
-use Rattle.std.specs.Prelude.{Result, Ok, All}
-use Rattle.std.specs.List.{range_with_len}
-use Rattle.std.proofs.lemmas.List.{append-nil}
-use Rattle.std.proofs.lemmas.List.Elements.{All-nil}
-use Rattle.ds_indexdef.specs.declared.IndexDef.{IndexDef}
-use Rattle.ds_request.specs.declared.call.Call.{Call}
-use Rattle.ds_request.specs.declared.call.Call.TheVariants as call
+-- What is due where the store stays as it is: answers that tell at most the id counter, and refusals.
+use Rattle.ds_machine.proofs.Words.{◌≡◌, inr, ℕ, ◌<◌, ◌≤◌, [], ◌∷◌, refl, ap, sym, ◌∙◌, subst, arith, rules, Option, Some, None, true}
+use Rattle.ds_machine.proofs.Words.{false, Result, Ok, All, append-nil, All-nil, All-cons, Call, Body, CallAnswers, UnlessRefused}
+use Rattle.ds_machine.proofs.Words.{RequestAnswers, BodyAnswers, search_of, acknowledged_in, accepted_in, printed_next_in, drawn_by_call}
+use Rattle.ds_machine.proofs.Words.{refusal_of, Session, World, Effect, IsDue, IsDuePlan, IsAllowed, store_after, session_after, is_quiet}
+use Rattle.ds_machine.proofs.Words.{StoreParts, StateParts, world, AskedAnswers}
 use Rattle.ds_request.specs.declared.call.Request.{Request}
-use Rattle.ds_reply.specs.declared.reply.Body.{Body}
+use Rattle.ds_model.specs.Asked.{Search}
+use Rattle.ds_request.specs.declared.call.Call.TheVariants as call
 use Rattle.ds_reply.specs.declared.reply.Body.TheVariants as body
-use Rattle.ds_model.specs.Answers.{CallAnswers, UnlessRefused, RequestAnswers, AskedAnswers, BodyAnswers}
-use Rattle.ds_model.specs.Asked.{search_of}
-use Rattle.ds_model.specs.Legal.{acknowledged_in, accepted_in, printed_next_in, drawn_by_call}
-use Rattle.ds_model.specs.Refusals.{refusal_of}
-use Rattle.ds_model.specs.Sessions.{Session}
-use Rattle.ds_model.specs.Worlds.{World}
-use Rattle.ds_effects.specs.declared.effect.Effect.{Effect}
 use Rattle.ds_effects.specs.declared.effect.Effect.TheVariants as effect
-use Rattle.ds_machine.specs.Answered.{Tells, IsPlan}
-use Rattle.ds_protocol.specs.Refused.{is_quiet}
-use Rattle.ds_machine.specs.States.{StoreParts, StateParts, world}
 
--- ---- answers that tell no number
+-- ---- answers that tell of no commit and of no new id
 
-acknowledges-none : (b : Body) → is_quiet b ≡ true → acknowledged_in b ≡ []
-acknowledges-none (body.Put key place) quiet = cc
-acknowledges-none (body.Delete key place) quiet = cc
-acknowledges-none (body.Commit n) quiet = cc
-acknowledges-none _ quiet = refl
-
-accepts-none : (b : Body) → is_quiet b ≡ true → accepted_in b ≡ []
-accepts-none (body.Put key place) quiet = cc
-accepts-none (body.Delete key place) quiet = cc
-accepts-none _ quiet = refl
-
-prints-none : (b : Body) → is_quiet b ≡ true → printed_next_in b ≡ []
-prints-none (body.IdNotIssued id next) quiet = cc
-prints-none (body.IdsExhausted next) quiet = cc
-prints-none _ quiet = refl
+-- the answer to the call acknowledges no commit, accepts and draws no id, and prints no counter above this one
+abbrev pub KeepsStore : ℕ → Call → Body → Type 0
+KeepsStore next c b =
+    (acknowledged_in b ≡ []) × (accepted_in b ≡ []) × All (λ printed. printed ≤ next) (printed_next_in b) × (drawn_by_call c b ≡ [])
 
 draws-none : (c : Call) (b : Body) → is_quiet b ≡ true → drawn_by_call c b ≡ []
 draws-none (call.Put key true properties) (body.Put printed place) quiet = cc
@@ -46,77 +23,63 @@ draws-none (call.Put key false properties) b quiet = refl
 draws-none (call.AllocateIds count) (body.AllocateIds first printed) quiet = cc
 draws-none _ _ quiet = refl
 
-pub no_ids : (first n : ℕ) → n ≡ 0 → [] ≡ range_with_len first n
-no_ids first n is = ap (range_with_len first) (sym is)
+pub keeps-quiet : (next : ℕ) (c : Call) (b : Body) → is_quiet b ≡ true → KeepsStore next c b
+keeps-quiet next c b quiet = let kept = by b quiet in (kept.0, kept.1, kept.2, draws-none c b quiet) where
+  by : (x : Body) → is_quiet x ≡ true → (acknowledged_in x ≡ []) × (accepted_in x ≡ []) × All (λ printed. printed ≤ next) (printed_next_in x)
+  by (body.Put key place) quiet = cc
+  by _ quiet = first_of (cc, search (rules, All-nil (λ printed. printed ≤ next)))
 
--- where the store stays as it is
-pub same-tells : (st : StoreParts) (c : Call) (b : Body) → acknowledged_in b ≡ [] → accepted_in b ≡ [] → drawn_by_call c b ≡ []
-    → All (λ next. next ≤ st.next) (printed_next_in b) → Tells st st c b
-same-tells st c b acknowledges accepts draws prints = record {
-  definitions = refl;
-  shards = refl;
-  added = [];
-  journal = sym (append-nil st.journal);
-  acknowledges = acknowledges;
-  rises = omega arith;
-  draws = draws ∙ no_ids st.next (st.next - st.next) (omega arith);
-  accepts = subst (λ ids. All (λ id. id < st.next) ids) (sym accepts) (All-nil (λ id. id < st.next));
-  prints = prints;
-}
-
-pub none-printed : (st : StoreParts) (b : Body) → printed_next_in b ≡ [] → All (λ next. next ≤ st.next) (printed_next_in b)
-none-printed st b none = subst (λ ns. All (λ next. next ≤ st.next) ns) (sym none) (All-nil (λ next. next ≤ st.next))
-
-pub quiet-tells : (st : StoreParts) (c : Call) (b : Body) → is_quiet b ≡ true → Tells st st c b
-quiet-tells st c b quiet = same-tells st c b (acknowledges-none b quiet) (accepts-none b quiet) (draws-none c b quiet)
-    (none-printed st b (prints-none b quiet))
-
--- ---- answers to a request that isn't a query
-
-pub said : (w : World) (s after : Session) (line : Result Request (ℕ × Body)) (b : Body) → AskedAnswers w s line b after → after ≡ s
-    → BodyAnswers w s line b after
-said w s after line body.NoMemory answers same = same
-said w s after line _ answers same = answers
+pub printed-one : (next : ℕ) → All (λ printed. printed ≤ next) (next ∷ [])
+printed-one next = All-cons (λ printed. printed ≤ next) next [] (omega arith) (All-nil (λ printed. printed ≤ next))
 
 -- nothing refuses it before
-pub unrefused : (w : World) (definitions : List IndexDef) (client : ℕ) (s after : Session) (c : Call) (b : Body)
-    → w.definitions ≡ definitions → refusal_of definitions s c ≡ None →
-    CallAnswers w client s c b after → UnlessRefused (refusal_of w.definitions s c) s b after (CallAnswers w client s c b after)
-unrefused w definitions client s after c b same none answers =
-    subst (λ o. UnlessRefused o s b after (CallAnswers w client s c b after)) (sym (ap (λ d. refusal_of d s c) same ∙ none)) answers
+pub unrefused : (w : World) (client : ℕ) (s after : Session) (c : Call) (b : Body) → refusal_of w.definitions s c ≡ None
+    → CallAnswers w client s c b after → UnlessRefused (refusal_of w.definitions s c) s b after (CallAnswers w client s c b after)
+unrefused w client s after c b none answers =
+    subst (λ o. UnlessRefused o s b after (CallAnswers w client s c b after)) (sym none) answers
 
--- ---- refusals
+said : (w : World) (s : Session) (line : Result Request (ℕ × Body)) (b : Body) → AskedAnswers w s line b s → BodyAnswers w s line b s
+said w s line body.NoMemory answers = refl
+said w s line _ answers = answers
 
 module _ (st : StateParts) (s : Session) (client : ℕ) (c : Call) where
-  pub no_memory_plan : IsPlan st s client c body.NoMemory effect.Nothing
-  no_memory_plan = record { answers = λ window. refl; told = quiet-tells st.store c body.NoMemory refl; allowed = tt }
-
-  -- what the session before decides
-  decided : (b : Body) → is_quiet b ≡ true → search_of c ≡ None → refusal_of st.store.definitions s c ≡ Some b
-      → IsPlan st s client c b effect.Nothing
-  decided b quiet plain is = record {
-    answers = λ window. said (world st.store window) s s (Ok (record { client = client; call = c })) b
-        (subst (λ o. RequestAnswers (world st.store window) client s c o b s) (sym plain)
-        (subst (λ o. UnlessRefused o s b s (CallAnswers (world st.store window) client s c b s)) (sym is) (refl, refl))) refl;
-    told = quiet-tells st.store c b quiet;
-    allowed = tt;
+  pub due_here : (b : Body) (e : Effect) → store_after e st.store ≡ st.store → KeepsStore st.store.next c b → IsAllowed e st s
+      → ((window : Option ℕ) → BodyAnswers (world st.store window) s (Ok (record { client = client; call = c })) b
+      (session_after e st.store s)) → IsDue st s client c [] b e
+  due_here b e same keeps allowed answers = record {
+    answers = λ window. rw same (answers window);
+    allowed = allowed;
+    definitions = ap (λ (x : StoreParts). x.definitions) same;
+    shards = ap (λ (x : StoreParts). x.shards) same;
+    next = ap (λ (x : StoreParts). x.next) same;
+    added = [];
+    journal = ap (λ (x : StoreParts). x.journal) same ∙ sym (append-nil st.store.journal);
+    acknowledges = keeps.0;
+    draws = keeps.3;
+    accepts = subst (All (λ id. id < st.store.next)) (sym keeps.1) (All-nil (λ id. id < st.store.next));
+    prints = keeps.2;
   }
 
-  pub refused_plan : (b : Body) → is_quiet b ≡ true → search_of c ≡ None
-      → (refusal_of st.store.definitions s c ≡ Some b) ⊎ (b ≡ body.NoMemory) → IsPlan st s client c b effect.Nothing
-  refused_plan b quiet plain (inl is) = decided b quiet plain is
-  refused_plan b quiet plain (inr is) = subst (λ v. IsPlan st s client c v effect.Nothing) (sym is) no_memory_plan
+  -- the answer to a call that nothing refuses
+  pub due_unrefused : (b : Body) (e : Effect) → store_after e st.store ≡ st.store → KeepsStore st.store.next c b → IsAllowed e st s
+      → refusal_of st.store.definitions s c ≡ None
+      → ((w : World) → UnlessRefused (refusal_of w.definitions s c) s b (session_after e st.store s)
+      (CallAnswers w client s c b (session_after e st.store s))
+      → BodyAnswers w s (Ok (record { client = client; call = c })) b (session_after e st.store s))
+      → ((window : Option ℕ) → CallAnswers (world st.store window) client s c b (session_after e st.store s))
+      → IsDuePlan st s client c [] b e
+  due_unrefused b e same keeps allowed none is_call answers = inr (due_here b e same keeps allowed (λ window.
+      is_call (world st.store window) (unrefused (world st.store window) client s (session_after e st.store s) c b none (answers window))))
 
-  -- ---- as they are told
+  -- ---- refusals
 
-  pub planned_as : (b v : Body) (e f : Effect) → b ≡ v → e ≡ f → IsPlan st s client c v f → IsPlan st s client c b e
-  planned_as b v e f same_body same_effect plan =
-      subst (λ x. IsPlan st s client c x e) (sym same_body) (subst (λ g. IsPlan st s client c v g) (sym same_effect) plan)
+  pub due_said : (b : Body) (asked : Option (Result Search Body)) → is_quiet b ≡ true → search_of c ≡ asked
+      → ((window : Option ℕ) → RequestAnswers (world st.store window) client s c asked b s) → IsDue st s client c [] b effect.Nothing
+  due_said b asked quiet is answers = due_here b effect.Nothing refl (keeps-quiet st.store.next c b quiet) tt (λ window.
+      said (world st.store window) s (Ok (record { client = client; call = c })) b
+      (subst (λ o. RequestAnswers (world st.store window) client s c o b s) (sym is) (answers window)))
 
-  pub memory_as : (b : Body) (e : Effect) → b ≡ body.NoMemory → e ≡ effect.Nothing → IsPlan st s client c b e
-  memory_as b e same_body same_effect = planned_as b body.NoMemory e effect.Nothing same_body same_effect no_memory_plan
-
-  pub refused_as : (b v : Body) (e : Effect) → b ≡ v → e ≡ effect.Nothing → is_quiet v ≡ true → search_of c ≡ None
-      → (refusal_of st.store.definitions s c ≡ Some v) ⊎ (v ≡ body.NoMemory) → IsPlan st s client c b e
-  refused_as b v e same_body same_effect quiet plain is = planned_as b v e effect.Nothing same_body same_effect
-      (refused_plan v quiet plain is)
+  pub due_refused : (b : Body) → is_quiet b ≡ true → search_of c ≡ None → refusal_of st.store.definitions s c ≡ Some b
+      → IsDue st s client c [] b effect.Nothing
+  due_refused b quiet plain is = due_said b None quiet plain (λ window.
+      subst (λ o. UnlessRefused o s b s (CallAnswers (world st.store window) client s c b s)) (sym is) (refl, refl))

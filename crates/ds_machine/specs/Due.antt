@@ -7,7 +7,6 @@ use Rattle.ds_request.specs.declared.call.Call.{Call}
 use Rattle.ds_request.specs.declared.call.Call.TheVariants as call
 use Rattle.ds_reply.specs.declared.reply.Body.{Body}
 use Rattle.ds_reply.specs.declared.reply.Body.TheVariants as body
-use Rattle.ds_applied.specs.AppliedLists.{entries_by}
 use Rattle.ds_model.specs.Answers.{BodyAnswers}
 use Rattle.ds_model.specs.Groups.{IsSeenPlace}
 use Rattle.ds_model.specs.Legal.{acknowledged_in, accepted_in, printed_next_in, drawn_by_call}
@@ -76,8 +75,3 @@ IsDuePlan st s client c ids said change = (said ≡ body.NoMemory) ⊎ IsDue st 
 abbrev pub IsDueFor : StateParts → Session → ℕ → Operation → GatheredParts → Body → Effect → Type 0
 IsDueFor st s client (operation.Find search) g said change = (c : Call) → IsSearchOf c search → IsDuePlan st s client c [] said change
 IsDueFor st s client o g said change = IsDuePlan st s client (call_of o) (ids_of (call_of o) g) said change
-
--- each shard's entries up to the place are among those counted
-abbrev pub AreCovering : StateParts → ℕ → List ℕ → Type 0
-AreCovering st place counts =
-    (shard : ℕ) → shard < st.applied.shards → entries_by st.store.journal st.store.shards shard place ≤ count_of counts shard

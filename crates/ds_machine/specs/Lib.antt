@@ -1,4 +1,3 @@
-pub mod Answered
 pub mod Due
 pub mod Effects
 pub mod Gathering

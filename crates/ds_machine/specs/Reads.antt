@@ -2,9 +2,8 @@
 use Rattle.std.specs.Prelude.{◌≡◌, ◌≤◌, ◌<◌, length}
 use Rattle.ds_base.specs.Keys.{KeyParts}
 use Rattle.ds_log.specs.Shards.{shard_of}
-use Rattle.ds_applied.specs.AppliedLists.{AreCounts, entries_by}
-use Rattle.ds_model.specs.Sessions.{count_of, counted_place, list_of}
-use Rattle.ds_effects.specs.declared.effect.CountsSeen.{CountsSeen}
+use Rattle.ds_applied.specs.AppliedLists.{entries_by}
+use Rattle.ds_model.specs.Sessions.{count_of, list_of}
 use Rattle.ds_effects.specs.declared.effect.GroupRead.{GroupRead}
 use Rattle.ds_machine.specs.States.{StateParts}
 
@@ -22,9 +21,3 @@ pub record IsReached (st : StateParts) (group : KeyParts) (r : GroupRead) : Type
   pub entries_are : r.entries ≡ entries_by st.store.journal st.store.shards r.shard r.place
   pub listed : r.entries ≤ length (list_of st.applied.lists r.shard)
   pub applied : r.entries ≤ count_of st.applied.counts r.shard
-
--- the counts of all shards, and the last commit that they count
-pub record AreSeen (st : StateParts) (seen : CountsSeen) : Type 0 where
-  pub counts : seen.counts ≡ st.applied.counts
-  pub listed : AreCounts st.applied.lists seen.counts
-  pub commit : seen.commit ≡ counted_place st.applied.lists seen.counts

@@ -1,5 +1,5 @@
 -- A client's open request at a step: what is known of it, and what it comes to.
-use Rattle.std.specs.Prelude.{◌≡◌, None, Some, IfSome, IsTrue, length}
+use Rattle.std.specs.Prelude.{◌≡◌, [], None, Some, IfSome, IsTrue, length}
 use Rattle.ds_log.specs.declared.Write.{Write}
 use Rattle.ds_log.specs.Ids.{first_unissued}
 use Rattle.ds_log.specs.Logs.{group_of}
@@ -18,8 +18,7 @@ use Rattle.ds_effects.specs.declared.effect.Due.{Due}
 use Rattle.ds_effects.specs.declared.effect.Plan.{Plan}
 use Rattle.ds_effects.specs.declared.gathered.Step.TheVariants as steps
 use Rattle.ds_machine.specs.declared.due.Turn.{Turn}
-use Rattle.ds_machine.specs.Answered.{IsPlan}
-use Rattle.ds_machine.specs.Due.{IsDueFor, IsGathered}
+use Rattle.ds_machine.specs.Due.{IsDueFor, IsDuePlan, IsGathered}
 use Rattle.ds_machine.specs.Missing.{IfReply, IsNext, missing, missing_write, shown}
 use Rattle.ds_machine.specs.Reads.{IsPulled}
 use Rattle.ds_machine.specs.States.{AreUpTo, StateParts, IsSession}
@@ -42,9 +41,9 @@ pub record IsTurn (st : StateParts) (t : Turn) (o : Operation) : Type 0 where
 abbrev pub IsToldIn : StateParts → Turn → Plan → Type 0
 IsToldIn st t p = IsTold st t.session.now t.gathered.now t.taken p.body p.effect
 
--- what is said and changed is an answer to the call
-abbrev pub IsPlanIn : StateParts → Turn → Call → Plan → Type 0
-IsPlanIn st t c p = IsPlan st t.session.now t.client c p.body p.effect
+-- what is said and changed is due to the call, which draws no ids
+abbrev pub IsDueIn : StateParts → Turn → Call → Plan → Type 0
+IsDueIn st t c p = IsDuePlan st t.session.now t.client c [] p.body p.effect
 
 -- it comes to the reply that is due as soon as nothing is missing, told by what was gathered, and else to the missing step
 pub record ComesTo (st : StateParts) (t : Turn) (o : Operation) (d : Due) : Type 0 where

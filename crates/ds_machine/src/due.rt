@@ -223,6 +223,7 @@ impl State {
 
     /// An apply waits for its Touch. Then it waits for an Apply, as long as its shard has an entry up to the place that isn't applied, and
     /// for a View of the shard as soon as it has none.
+    #[tactic(auto, using(crate::proofs::Citing::count_laws))]
     fn apply_due(&self, turn: &Turn, shard: u64) -> Due
         requires { IsTurn self.now turn.now (Operation.Apply shard) }
         ensures { ComesTo self.now turn.now (Operation.Apply shard) result }
@@ -246,6 +247,7 @@ impl State {
     }
 
     /// Tells whether an entry up to the place was applied for the request, and how many entries of the shard are.
+    #[tactic(auto, using(crate::proofs::Citing::outside, crate::proofs::DuePlans::apply_due))]
     fn tell_applied(&self, turn: &Turn, shard: u32, place: u64, applied: bool, count: u64) -> Plan
         requires turn { IsTurn self.now turn.now (Operation.Apply shard) }
         requires touched { turn.now.gathered.now.place ≡ Some place }

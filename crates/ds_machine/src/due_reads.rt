@@ -78,6 +78,7 @@ impl State {
     }
 
     /// Where a group stands that is read or written, as soon as that is known: at its touch place, or at that of the request's Touch.
+    #[tactic(auto, using(crate::proofs::Citing::place_laws))]
     pub(crate) fn place_due(&self, turn: &Turn, group: &Key) -> Option<u64>
         requires seen { IsSession self.now turn.now.session.now }
         requires place { IfSome turn.now.gathered.now.place (IsSeenPlace self.now.store.journal turn.now.session.now) }

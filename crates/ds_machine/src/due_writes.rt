@@ -1,5 +1,5 @@
 //! The replies to open puts and deletes, as soon as nothing is missing.
-ghost use Rattle.std.specs.Prelude.{◌≡◌, None, IfOk, IfSome};
+ghost use Rattle.std.specs.Prelude.{◌≡◌, true, false, None, IfOk, IfSome};
 ghost use Rattle.ds_base.specs.Keys.{root_of};
 ghost use Rattle.ds_log.specs.declared.Write.TheVariants as write;
 ghost use Rattle.ds_reply.specs.declared.reply.Body.TheVariants as body;
@@ -19,8 +19,7 @@ use ds_protocol::Operation;
 use std::alloc::Global;
 
 impl State {
-    /// A put waits for its Issue, where its key is incomplete, and then for a Commit outside a transaction, and for a Touch inside one. The
-    /// drawn id completes the key; it is told where none is left.
+    /// A put waits for its Issue, where its key is incomplete, and then for a Commit outside a transaction, and for a Touch inside one.
     pub(crate) fn put_due(
         &self,
         alloc: Global,
@@ -31,9 +30,26 @@ impl State {
         requires { IsTurn self.now turn.now (Operation.Put entity.now incomplete) }
         ensures { ComesTo self.now turn.now (Operation.Put entity.now incomplete) result }
     {
-        if !incomplete {
-            return self.say_put_due(alloc, turn, entity);
+        if incomplete {
+            self.put_numbered_due(alloc, turn, entity)
+        } else {
+            self.put_complete_due(alloc, turn, entity)
         }
+    }
+
+    /// A put of a complete key.
+    fn put_complete_due(&self, alloc: Global, turn: &Turn, entity: &Entity) -> Due
+        requires { IsTurn self.now turn.now (Operation.Put entity.now false) }
+        ensures { ComesTo self.now turn.now (Operation.Put entity.now false) result }
+    {
+        self.say_put_due(alloc, turn, entity)
+    }
+
+    /// A put of an incomplete key waits for its Issue. The drawn id completes the key; it is told where none is left.
+    fn put_numbered_due(&self, alloc: Global, turn: &Turn, entity: &Entity) -> Due
+        requires { IsTurn self.now turn.now (Operation.Put entity.now true) }
+        ensures { ComesTo self.now turn.now (Operation.Put entity.now true) result }
+    {
         let Some(id) = turn.gathered.first() else {
             return self.ids_due(1, turn.taken);
         };
@@ -64,6 +80,7 @@ impl State {
     }
 
     /// A delete waits for a Commit outside a transaction, and for a Touch inside one.
+    #[tactic(auto, using(crate::proofs::PutPlans::delete_due))]
     pub(crate) fn delete_due(&self, alloc: Global, turn: &Turn, key: &Key) -> Due
         requires { IsTurn self.now turn.now (Operation.Delete key.now) }
         ensures { ComesTo self.now turn.now (Operation.Delete key.now) result }

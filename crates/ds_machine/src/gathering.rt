@@ -14,6 +14,7 @@ use std::alloc::Global;
 impl State {
     /// Takes a step: an Apply applies the shard's next entry, if there is one; and the open request gathers what it calls for. A shard that
     /// isn't there has no steps, and a Commit is taken by the reply. A refusal is want of memory.
+    #[tactic(auto, using(crate::proofs::Citing::count_laws))]
     pub fn step(
         &mut self,
         alloc: Global,
@@ -45,6 +46,7 @@ impl State {
     }
 
     /// Takes a step of a client that has no request open: an Apply alone does something.
+    #[tactic(auto, using(crate::proofs::Citing::count_laws))]
     pub fn step_alone(&mut self, alloc: Global, step: Step) -> Result<(), NoMemory>
         ensures store { self.new.store ≡ self.old.store }
         ensures counts { OnOk result (self.new.applied.counts ≡ counts_by (shown self.old) step) }
@@ -149,6 +151,7 @@ impl State {
         count <= MAX_ID - self.book.next()
     }
 
+    #[tactic(auto, using(crate::proofs::Stepped::entry_gathered))]
     fn apply(
         &mut self,
         alloc: Global,

@@ -106,6 +106,7 @@ impl State {
     }
 
     /// A search made ready. It may be refused by its form, its cursors, for want of an index, or by its group.
+    #[tactic(auto, using(crate::proofs::Citing::prepared_laws))]
     fn ready_search(&self, alloc: Global, session: &Session, search: &Search) -> Result<Ready, Plan>
         requires { IsLawfulSearch search.now }
         ensures ready { IfOk result (λ r. IsReadyFor self.now session.now (Operation.Find search.now) (Some r)) }

@@ -9,7 +9,7 @@ ghost use Rattle.ds_protocol.specs.Quiet.{IsQuiet};
 ghost use Rattle.ds_protocol.specs.Searches.{IsSearchOf};
 ghost use Rattle.ds_machine.specs.Queries.{IsGroupSearch, IsPrepared, told_over};
 ghost use Rattle.ds_machine.specs.Told.{IsPlaceOf};
-ghost use Rattle.ds_machine.specs.Turns.{IsPlanIn, IsToldIn, IsTurn};
+ghost use Rattle.ds_machine.specs.Turns.{IsDueIn, IsToldIn, IsTurn};
 
 use crate::due::Turn;
 use crate::state::State;
@@ -23,6 +23,7 @@ use std::alloc::Global;
 
 impl State {
     /// What a search finds is told, whose group's shard has applied its entries up to the place.
+    #[tactic(auto, using(crate::proofs::QueryPlans::view_by_key))]
     pub(crate) fn find_in_group(
         &self,
         alloc: Global,
@@ -34,7 +35,7 @@ impl State {
         requires prepared { IsPrepared self.now turn.now.session.now search.now ready.now }
         requires reached { IsGroupSearch self.now turn.now.session.now search.now read }
         requires place { IsPlaceOf turn.now.session.now turn.now.gathered.now read.place }
-        ensures plan { (call : Call) → IsSearchOf call search.now → IsPlanIn self.now turn.now call result }
+        ensures plan { (call : Call) → IsSearchOf call search.now → IsDueIn self.now turn.now call result }
         ensures told { IsToldIn self.now turn.now result }
     {
         let Ok(visible) = self.applied.visible(alloc, read.shard, read.entries) else {
@@ -64,7 +65,7 @@ impl State {
         requires turn { IsTurn self.now turn.now (Operation.Find search.now) }
         requires prepared { IsPrepared self.now turn.now.session.now search.now ready.now }
         requires group { search.now.query.ancestor ≡ None }
-        ensures plan { (call : Call) → IsSearchOf call search.now → IsPlanIn self.now turn.now call result }
+        ensures plan { (call : Call) → IsSearchOf call search.now → IsDueIn self.now turn.now call result }
         ensures told { IsToldIn self.now turn.now result }
     {
         // the state's invariant: its shards follow the journal

@@ -4,7 +4,7 @@ ghost use Rattle.ds_base.specs.Keys.{root_of};
 ghost use Rattle.ds_request.specs.declared.call.Call.{Call};
 ghost use Rattle.ds_machine.specs.Reads.{IsPulled};
 ghost use Rattle.ds_machine.specs.Told.{IsGroupRead};
-ghost use Rattle.ds_machine.specs.Turns.{IsPlanIn, IsToldIn};
+ghost use Rattle.ds_machine.specs.Turns.{IsDueIn, IsToldIn};
 
 use crate::due::Turn;
 use crate::state::State;
@@ -15,9 +15,10 @@ use std::alloc::Global;
 
 impl State {
     /// The entity of a key is told, whose shard has applied its entries up to the place.
+    #[tactic(auto, using(crate::proofs::ReadPlans::get_due))]
     pub(crate) fn get_reached(&self, alloc: Global, turn: &Turn, key: &Key, read: GroupRead) -> Plan
         requires { IsGroupRead self.now turn.now.session.now turn.now.gathered.now (root_of key.now) read }
-        ensures plan { IsPlanIn self.now turn.now (Call.Get key.now) result }
+        ensures plan { IsDueIn self.now turn.now (Call.Get key.now) result }
         ensures told { IsToldIn self.now turn.now result }
     {
         let Ok(visible) = self.applied.visible(alloc, read.shard, read.entries) else {

@@ -40,6 +40,7 @@ impl State {
     ghost use Rattle.ds_machine.specs.States.{StateParts, IsState};
 
     /// Nothing committed. A refusal is want of memory.
+    #[tactic(auto, using(crate::proofs::Citing::first_laws))]
     pub fn make(alloc: Global, shards: u32, defs: Defs) -> Result<State, NoMemory>
         requires least { 1 ≤ shards }
         requires most { shards ≤ most_shards }

@@ -1,8 +1,9 @@
 //! What a step reads of the store, and what it changes of it.
-ghost use Rattle.std.specs.Prelude.{◌≡◌, ◌<◌, ◌&&◌, length, nat_lt, IfOk, OnOk};
-ghost use Rattle.ds_model.specs.Sessions.{count_of};
+ghost use Rattle.std.specs.Prelude.{◌≡◌, ◌<◌, ◌&&◌, true, length, nat_lt, IfOk, OnOk};
+ghost use Rattle.ds_model.specs.Sessions.{count_of, list_of};
 ghost use Rattle.ds_machine.specs.Gathering.{counts_applied, is_pending};
 ghost use Rattle.ds_machine.specs.Missing.{shown};
+ghost use Rattle.ds_machine.specs.Reads.{IsPulled};
 ghost use Rattle.ds_machine.specs.States.{AreUpTo};
 
 use crate::state::State;
@@ -29,6 +30,7 @@ impl State {
     }
 
     /// A shard applies its next entry; false where it has none, or isn't there. A refusal is want of memory.
+    #[tactic(auto, using(crate::proofs::Citing::count_laws))]
     pub fn apply_there(&mut self, alloc: Global, shard: u32) -> Result<bool, NoMemory>
         ensures applied { IfOk result (λ applied. applied ≡ (nat_lt shard self.old.store.shards && is_pending (shown self.old) shard)) }
         ensures store { self.new.store ≡ self.old.store }
@@ -39,10 +41,22 @@ impl State {
             return Ok(false);
         }
         self.pull(alloc)?;
-        if self.applied.count(shard) >= self.applied.entries(shard) {
+        if !self.has_pending(shard) {
             return Ok(false);
         }
         self.applied.apply_one(alloc, shard)?;
         Ok(true)
+    }
+
+    /// Whether a shard has an entry that isn't applied, once each commit of the journal was looked at.
+    fn has_pending(&self, shard: u32) -> bool
+        requires pulled { IsPulled self.now }
+        requires shard { shard < self.now.store.shards }
+        ensures value { result ≡ is_pending (shown self.now) shard }
+        ensures left { result ≡ true → count_of self.now.applied.counts shard < length (list_of self.now.applied.lists shard) }
+    {
+        // the state's invariant: its shards follow the journal
+        let _ = &self.shards;
+        self.applied.count(shard) < self.applied.entries(shard)
     }
 }

@@ -2,7 +2,7 @@
 ghost use Rattle.std.specs.Prelude.{◌≡◌, None, Some};
 ghost use Rattle.ds_log.specs.Conflicts.{conflict_of};
 ghost use Rattle.ds_request.specs.declared.call.Call.{Call};
-ghost use Rattle.ds_machine.specs.Turns.{ComesTo, IsCommitting, IsPlanIn, IsToldIn, IsTurn};
+ghost use Rattle.ds_machine.specs.Turns.{ComesTo, IsCommitting, IsDueIn, IsToldIn, IsTurn};
 
 use crate::due::Turn;
 use crate::state::State;
@@ -38,7 +38,7 @@ impl State {
     fn plan_serial(&self, alloc: Global, turn: &Turn, txn: &Txn) -> Plan
         requires commits { IsCommitting self.now turn.now txn.now }
         requires serial { conflict_of self.now.store.journal txn.now.touched ≡ None }
-        ensures plan { IsPlanIn self.now turn.now Call.Commit result }
+        ensures plan { IsDueIn self.now turn.now Call.Commit result }
         ensures told { IsToldIn self.now turn.now result }
     {
         let Ok(draft) = draft_of_transaction(alloc, turn.client, txn) else {
@@ -57,7 +57,7 @@ impl State {
     fn plan_conflict(&self, alloc: Global, turn: &Turn, txn: &Txn, conflict: Conflict) -> Plan
         requires commits { IsCommitting self.now turn.now txn.now }
         requires conflict { conflict_of self.now.store.journal txn.now.touched ≡ Some conflict }
-        ensures plan { IsPlanIn self.now turn.now Call.Commit result }
+        ensures plan { IsDueIn self.now turn.now Call.Commit result }
         ensures told { IsToldIn self.now turn.now result }
     {
         match copy_of(alloc, txn.group(conflict.group as usize)) {

@@ -1,4 +1,4 @@
-use Rattle.std.proofs.Common.{◌≡◌, IfOk, map, subst}
+use Rattle.ds_machine.proofs.Words.{◌≡◌, map, subst, IfOk}
 use Rattle.ds_machine.proofs.QueryPlans.{told_page}
 use Rattle.ds_machine.proofs.queries.find.Goals as goal
 

@@ -1,5 +1,4 @@
-use Rattle.std.proofs.Common.{◌≡◌, drop}
-use Rattle.ds_machine.specs.Missing.{first_uncovered, shown}
+use Rattle.ds_machine.proofs.Words.{◌≡◌, first_uncovered, shown, drop}
 use Rattle.ds_machine.proofs.state.State.uncovered.Given as goal
 
 -- the shards so far are covered
