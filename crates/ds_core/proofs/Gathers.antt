@@ -1,40 +1,25 @@
--- What an open request gathers keeps what was said legal, and says nothing.
-use Rattle.std.proofs.Common.{◌≡◌, ℕ, ◌+◌, ◌-◌, ◌<◌, ◌≤◌, [], ◌++◌, length, refl, ap, sym, ◌∙◌, subst, arith}
-use Rattle.std.proofs.Common.{Option, Some, None, get_or, true, false, Bool, cond}
-use Rattle.std.specs.Prelude.{IfSome, Ok, ◌&&◌, nat_lt, slice_set}
-use Rattle.std.specs.List.{range_with_len}
-use Rattle.std.specs.Option.{option_map}
-use Rattle.std.proofs.lemmas.List.{append-nil}
-use Rattle.ds_base.specs.Limits.{first_drawn_id}
-use Rattle.ds_request.specs.declared.call.Call.{Call}
-use Rattle.ds_request.specs.declared.call.Call.TheVariants as call
-use Rattle.ds_request.specs.declared.call.Request.{Request}
+-- What an open request gathers keeps what was said legal.
+use Rattle.ds_core.proofs.Words.{◌≡◌, ℕ, ◌+◌, ◌-◌, ◌≤◌, [], ◌++◌, length, refl, ap, sym, ◌∙◌, subst, arith, Option, Some, None, true}
+use Rattle.ds_core.proofs.Words.{false, Bool, cond, IfSome, Ok, slice_set, range_with_len, append-nil, set-get_or, first_drawn_id}
+use Rattle.ds_core.proofs.Words.{greatest_client, Call, Request, Session, Operation, IsOperationOf, call_of, ids_asked, Step, Work}
+use Rattle.ds_core.proofs.Words.{IsGathered, ids_from, ids_of, GatheredParts, draws, gathered_by, shown, Grows, IsSession, StateParts}
+use Rattle.ds_core.proofs.Words.{StoreParts, gathered_there, draws-parts, none_ids, Open, moment_of, MachineParts, IsLegal, IsOpen}
+use Rattle.ds_core.proofs.Words.{IsSameRun, held_by, just_opened, open_in, session_in, with_gathered, open_then, shown_then, SteppedTo}
+use Rattle.ds_core.proofs.Words.{course_of, stepped}
 use Rattle.ds_model.specs.Asked.{search_of}
-use Rattle.ds_model.specs.Sessions.{Session, count_of}
-use Rattle.ds_protocol.specs.declared.operations.Operation.{Operation}
-use Rattle.ds_protocol.specs.declared.operations.Operation.TheVariants as operation
-use Rattle.ds_protocol.specs.Operations.{IsOperationOf, call_of, ids_asked}
 use Rattle.ds_protocol.specs.Searches.{search_parts}
-use Rattle.ds_effects.specs.declared.gathered.Step.{Step}
-use Rattle.ds_effects.specs.declared.gathered.Step.TheVariants as steps
-use Rattle.ds_machine.specs.declared.opening.Work.{Work}
-use Rattle.ds_machine.specs.Due.{AppliedWithin, IsGathered, ids_from, ids_of}
-use Rattle.ds_effects.specs.Gathered.{GatheredParts}
-use Rattle.ds_machine.specs.Gathering.{counts_by, draws, gathered_by, gathers_entry, gathers_view, is_pending, store_by}
-use Rattle.ds_machine.specs.Missing.{shown}
-use Rattle.ds_machine.specs.States.{AreUpTo, Grows, IsSession, StateParts, StoreParts}
+use Rattle.ds_machine.specs.Due.{AppliedWithin}
+use Rattle.ds_machine.specs.Gathering.{store_by}
+use Rattle.ds_machine.specs.States.{AreUpTo}
 use Rattle.ds_machine.proofs.Gatherings.{gathered-nothing}
-use Rattle.ds_machine.proofs.Growing.{grows_planned}
-use Rattle.ds_machine.proofs.Grown.{up_to-same}
-use Rattle.ds_machine.proofs.OperationPlans.{gathered_there}
-use Rattle.ds_machine.proofs.Stepped.{drawn_ids_are, draws-parts, none_ids, step-gathered, step-grows}
-use Rattle.ds_core.specs.declared.opened.Open.{Open}
-use Rattle.ds_core.specs.Happenings.{IsSilent}
-use Rattle.ds_core.specs.Machines.{MachineParts, IsLawfulRequest, IsLegal, IsOpen, IsSameRun, IsWorkOf, held_by, just_opened}
-use Rattle.ds_core.specs.Steps.{SteppedTo, with_gathered}
-use Rattle.ds_core.proofs.Legals.{open-at, opens-many, stepped-legal, open-grown}
-use Rattle.ds_core.proofs.Turns.{asked-same}
-use Rattle.ds_core.proofs.Lists.{set-own}
+use Rattle.ds_machine.proofs.Growing.{grows_planned, looked-grows}
+use Rattle.ds_machine.proofs.Grown.{grows-same}
+use Rattle.ds_machine.proofs.Stepped.{drawn_ids_are, step-gathered, step-grows}
+use Rattle.ds_core.specs.Machines.{IsLawfulRequest, IsWorkOf}
+use Rattle.ds_request.specs.declared.call.Call.TheVariants as call
+use Rattle.ds_protocol.specs.declared.operations.Operation.TheVariants as operation
+use Rattle.ds_effects.specs.declared.gathered.Step.TheVariants as steps
+use Rattle.ds_core.proofs.Legals.{open-grown, stepped-legal}
 
 -- ---- what is gathered for an operation is gathered for each call that it is of
 
@@ -48,7 +33,7 @@ none-applied st s c o None is = tt
 none-applied st s (call.Apply shard) o (Some n) is = cc
 none-applied st s _ o (Some n) is = tt
 
-pub gathered_back : (st : StateParts) (s : Session) (o : Operation) (c : Call) (g : GatheredParts) → IsOperationOf c o
+gathered_back : (st : StateParts) (s : Session) (o : Operation) (c : Call) (g : GatheredParts) → IsOperationOf c o
     → IsGathered st s (call_of o) g → IsGathered st s c g
 gathered_back st s (operation.Find r) c g of is = record {
   place = is.place;
@@ -68,10 +53,9 @@ asked-alike (operation.Find r) c of = none-asked c (Ok (search_parts r)) of.exac
 asked-alike _ c of = ap ids_asked of
 
 -- the held ids are those from the first one on alone
-pub ids-same : (c : Call) (g h : GatheredParts) → g.first ≡ h.first → ids_of c g ≡ ids_of c h
+ids-same : (c : Call) (g h : GatheredParts) → g.first ≡ h.first → ids_of c g ≡ ids_of c h
 ids-same (call.Put key true properties) g h same = ap (ids_from 1) same
 ids-same (call.AllocateIds count) g h same = ap (ids_from count) same
-ids-same (call.Put key false properties) g h same = refl
 ids-same _ g h same = refl
 
 -- what is the same either way
@@ -79,183 +63,150 @@ same-either : {A B : Type 0} (f : A → B) (b : Bool) (x y : A) → f x ≡ f y 
 same-either f true x y same = same
 same-either f false x y same = refl
 
--- a step that draws nothing, by which the client's open request becomes this one
-pub quiet-step : (m : MachineParts) (new : StateParts) (client : ℕ) (d : Session) (none o : Option Open) → IsLegal m
-    → client < length m.sessions → new.store ≡ m.state.store → AreUpTo m.state.applied.counts new.applied.counts
-    → IsOpen new client (get_or m.sessions client d) o → held_by o ≡ held_by (get_or m.opens client none)
-    → option_map (λ p. p.request) o ≡ option_map (λ p. p.request) (get_or m.opens client none)
-    → IsLegal (record m { state = new; opens = slice_set m.opens client o })
-    × IsSameRun m (record m { state = new; opens = slice_set m.opens client o })
-    × IsSilent m (record m { state = new; opens = slice_set m.opens client o })
-quiet-step m new client d none o legal below store counts is same asked = (
-  stepped-legal m legal new client d none o below (grows_planned m.state new store counts)
-      (ap (λ (x : StoreParts). x.definitions) store) (ap (λ (x : StoreParts). x.shards) store) (ap (λ (x : StoreParts). x.journal) store)
-      0 (let e : new.store.next ≡ m.state.store.next = ap (λ (x : StoreParts). x.next) store in omega (arith, e)) is
-      (same ∙ sym (append-nil (held_by (get_or m.opens client none)))),
-  (ap (λ (x : StoreParts). x.definitions) store, ap (λ (x : StoreParts). x.shards) store),
-  record {
-    asked = asked-same m.opens client none o (let many = opens-many m.state 0 m.sessions m.opens legal.opens in omega (arith, many, below))
-        asked;
-    requests = refl;
-    replies = refl;
-  },
-)
-
 -- nothing changes but how far the journal was looked at
-pub still-step : (m : MachineParts) → IsLegal m → (client : ℕ) (d : Session) (none : Option Open) → client < length m.sessions
-    → (new : StateParts) → new.store ≡ m.state.store → AreUpTo m.state.applied.counts new.applied.counts
-    → IsLegal (record m { state = new }) × IsSameRun m (record m { state = new }) × IsSilent m (record m { state = new })
-still-step m legal client d none below new store counts =
-    let kept : slice_set m.opens client (get_or m.opens client none) ≡ m.opens = set-own m.opens client none in
-    let own = open-at m.state 0 m.sessions m.opens client d none legal.opens below in
-    let own_open : IsOpen m.state client (get_or m.sessions client d) (get_or m.opens client none) =
-    subst (λ n. IsOpen m.state n (get_or m.sessions client d) (get_or m.opens client none))
-    (let same : 0 + client ≡ client = omega arith in same) own.1 in
-    subst (λ os. IsLegal (record m { state = new; opens = os }) × IsSameRun m (record m { state = new; opens = os })
-    × IsSilent m (record m { state = new; opens = os })) kept
-    (quiet-step m new client d none (get_or m.opens client none) legal below store counts
-    (open-grown m.state new client (get_or m.sessions client d) (get_or m.opens client none) (grows_planned m.state new store counts)
-    (ap (λ (x : StoreParts). x.definitions) store) (ap (λ (x : StoreParts). x.shards) store) own_open) refl refl)
-
--- ---- a step of an open request
-
-module _ (m : MachineParts) (legal : IsLegal m) (client : ℕ) (d : Session) (none : Option Open) (below : client < length m.sessions)
-    (many : length m.state.applied.counts ≡ m.state.store.shards) (new : StateParts) (step : Step)
-    (up : AreUpTo m.state.applied.counts new.applied.counts) where
-  abbrev old : Option Open
-  old = get_or m.opens client none
-
-  abbrev s : Session
-  s = get_or m.sessions client d
-
-  own : IsSession m.state s × IsOpen m.state client s old
-  own = let is = open-at m.state 0 m.sessions m.opens client d none legal.opens below in (
-    is.0,
-    subst (λ n. IsOpen m.state n s old) (let same : 0 + client ≡ client = omega arith in same) is.1,
-  )
-
-  below_open : client < length m.opens
-  below_open = let so_many = opens-many m.state 0 m.sessions m.opens legal.opens in omega (arith, so_many, below)
-
-  abbrev Quiet : Option Open → Type 0
-  Quiet now =
-      IsLegal (record m { state = new; opens = slice_set m.opens client now })
-      × IsSameRun m (record m { state = new; opens = slice_set m.opens client now })
-      × IsSilent m (record m { state = new; opens = slice_set m.opens client now })
-
-  -- where a request is open
-  stepped_some : (o : Open) → old ≡ Some o
-      → new.store ≡ store_by m.state o.work.operation o.gathered step → new.applied.counts ≡ counts_by (shown m.state) step
-      → Quiet (Some (with_gathered (gathered_by (shown m.state) o.work.operation o.gathered step) o))
-  stepped_some o has store counts = (
-    stepped-legal m legal new client d none (Some given) below grows definitions shards journal (new.store.next - m.state.store.next)
-        (omega (arith, grows.next)) now holds,
-    (definitions, shards),
-    record {
-      asked = asked-same m.opens client none (Some given) below_open (ap (option_map (λ p. p.request)) (sym has));
-      requests = refl;
-      replies = refl;
-    },
-  ) where
-    given : Open
-    given = with_gathered (gathered_by (shown m.state) o.work.operation o.gathered step) o
-
-    was : IsOpen m.state client s (Some o)
-    was = subst (IsOpen m.state client s) has own.1
-
-    gathered : IsGathered m.state s (call_of o.work.operation) o.gathered
-    gathered = gathered_there m.state s o.work.operation o.request.call o.gathered was.4.0 was.3
-
-    grows : Grows m.state new
-    grows = step-grows m.state new s o.work.operation o.gathered (omega (arith, legal.from_first)) many own.0 step store up
-
-    definitions : new.store.definitions ≡ m.state.store.definitions
-    definitions = ap (λ (x : StoreParts). x.definitions) store
-
-    shards : new.store.shards ≡ m.state.store.shards
-    shards = ap (λ (x : StoreParts). x.shards) store
-
-    journal : new.store.journal ≡ m.state.store.journal
-    journal = ap (λ (x : StoreParts). x.journal) store
-
-    later : IsOpen new client s (Some o)
-    later = open-grown m.state new client s (Some o) grows definitions shards was
-
-    now : IsOpen new client s (Some given)
-    now = (
-      later.0,
-      later.1,
-      later.2,
-      gathered_back new s o.work.operation o.request.call (gathered_by (shown m.state) o.work.operation o.gathered step) was.4.0
-          (step-gathered m.state new s o.work.operation o.gathered (omega (arith, legal.from_first)) many own.0 step store up gathered
-          counts),
-      later.4,
+pub looked-legal : (m : MachineParts) (new : StateParts) → IsLegal m → new.store ≡ m.state.store
+    → new.applied.counts ≡ m.state.applied.counts
+    → IsLegal (record m { state = new }) × IsSameRun m (record m { state = new })
+    × (course_of (record m { state = new }) ≡ course_of m)
+looked-legal m new legal store counts =
+    let grows = looked-grows m.state new store counts in
+    let same : IsSameRun m (record m { state = new }) =
+    (ap (λ (x : StoreParts). x.definitions) store, ap (λ (x : StoreParts). x.shards) store) in
+    let next : new.store.next ≡ m.state.store.next + 0 =
+    (let e : new.store.next ≡ m.state.store.next = ap (λ (x : StoreParts). x.next) store in omega (arith, e)) in (
+      subst (λ os. IsLegal (record m { state = new; opens = os })) (set-get_or m.opens 0 None)
+          (stepped-legal m legal new 0 (omega arith) (open_in m 0) grows same (ap (λ (x : StoreParts). x.journal) store) 0 next
+          (open-grown m.state new 0 (session_in m 0) (open_in m 0) grows same.0 same.1 (legal.opens 0 (omega arith)).1)
+          (sym (append-nil (held_by (open_in m 0))))),
+      same,
+      λ i. record {
+        moment = record (moment_of m) { journal = (store i).journal; counts = counts i; next = (store i).next };
+        requests = m.requests;
+        replies = m.replies;
+      },
     )
 
-    -- the ids that it draws are held
-    holds : held_by (Some given) ≡ held_by old ++ range_with_len m.state.store.next (new.store.next - m.state.store.next)
-    holds = subst (λ p. held_by (Some given) ≡ held_by p ++ range_with_len m.state.store.next (new.store.next - m.state.store.next))
-        (sym has)
-        (by step (ap (λ (x : StoreParts). x.next) store)) where
-          quiet : (g : GatheredParts) → g.first ≡ o.gathered.first → new.store.next ≡ m.state.store.next
-              → ids_of o.request.call g
-              ≡ ids_of o.request.call o.gathered ++ range_with_len m.state.store.next (new.store.next - m.state.store.next)
-          quiet g first same =
-              ids-same o.request.call g o.gathered first
-              ∙ sym (append-nil (ids_of o.request.call o.gathered))
-              ∙ ap (λ n. ids_of o.request.call o.gathered ++ range_with_len m.state.store.next n)
-              (let e : 0 ≡ new.store.next - m.state.store.next = omega (arith, same) in e)
+-- ---- a step
 
-          by : (x : Step) → new.store.next ≡ (store_by m.state o.work.operation o.gathered x).next
-              → ids_of o.request.call (gathered_by (shown m.state) o.work.operation o.gathered x)
-              ≡ ids_of o.request.call o.gathered ++ range_with_len m.state.store.next (new.store.next - m.state.store.next)
-          by steps.Commit next = quiet (gathered_by (shown m.state) o.work.operation o.gathered steps.Commit) refl next
-          by steps.Touch next = quiet (gathered_by (shown m.state) o.work.operation o.gathered steps.Touch) refl next
-          by (steps.View shard) next = quiet (gathered_by (shown m.state) o.work.operation o.gathered (steps.View shard))
-              (same-either (λ (h : GatheredParts). h.first)
-              (nat_lt shard m.state.store.shards && gathers_view (shown m.state) o.work.operation o.gathered shard)
-              (record (o.gathered) { views = slice_set o.gathered.views shard (Some (count_of m.state.applied.counts shard)) })
-              o.gathered refl) next
-          by (steps.Apply shard) next = quiet (gathered_by (shown m.state) o.work.operation o.gathered (steps.Apply shard))
-              (same-either (λ (h : GatheredParts). h.first)
-              (nat_lt shard m.state.store.shards && is_pending (shown m.state) shard && gathers_entry o.work.operation o.gathered shard)
-              (record (o.gathered) { applied = Some (count_of m.state.applied.counts shard + 1) }) o.gathered refl) next
-          by (steps.Issue count) next = each (draws (shown m.state) o.work.operation o.gathered count) refl next where
-            each : (b : Bool) → draws (shown m.state) o.work.operation o.gathered count ≡ b
-                → new.store.next ≡ cond b (m.state.store.next + count) m.state.store.next
-                → ids_of o.request.call (cond b (record (o.gathered) { first = Some m.state.store.next }) o.gathered)
-                ≡ ids_of o.request.call o.gathered ++ range_with_len m.state.store.next (new.store.next - m.state.store.next)
-            each false unmet next = quiet o.gathered refl next
-            each true met next =
-                let parts = draws-parts (shown m.state) o.work.operation o.gathered count met in
-                drawn_ids_are o.request.call (record (o.gathered) { first = Some m.state.store.next }) m.state.store.next count refl
-                (asked-alike o.work.operation o.request.call was.4.0 ∙ sym parts.0)
-                ∙ ap (range_with_len m.state.store.next) (let e : count ≡ new.store.next - m.state.store.next = omega (arith, next) in e)
-                ∙ ap (λ ids. ids ++ range_with_len m.state.store.next (new.store.next - m.state.store.next))
-                (sym (none_ids o.request.call o.gathered parts.1))
+module _ (m : MachineParts) (legal : IsLegal m) (client : ℕ) (bound : client ≤ greatest_client)
+    (many : length m.state.applied.counts ≡ m.state.store.shards) (new : StateParts) (step : Step)
+    (up : AreUpTo m.state.applied.counts new.applied.counts) where
+  abbrev st : StateParts
+  st = m.state
 
-  pub step-legal : (now : Option Open) → SteppedTo step m.state old new now → Quiet now
-  step-legal now stepped = by old refl stepped where
-    by : (p : Option Open) → old ≡ p → SteppedTo step m.state p new now → Quiet now
-    by (Some o) has is = subst Quiet (sym is.0) (stepped_some o has is.1 is.2)
-    by None has is = subst Quiet (sym (is.0 ∙ sym has))
-        (quiet-step m new client d none old legal below is.1 up (subst (IsOpen new client s) (sym has) tt) refl refl)
+  abbrev old : Option Open
+  old = open_in m client
+
+  abbrev s : Session
+  s = session_in m client
+
+  abbrev then : Option Open → MachineParts
+  then o = record m { state = new; opens = slice_set m.opens client o }
+
+  legal-to : (p : Option Open) → old ≡ p → new.store ≡ record (st.store) { next = (shown_then (shown st) p step).next }
+      → new.applied.counts ≡ (shown_then (shown st) p step).counts → IsLegal (then (open_then (shown st) p step))
+  legal-to None has store counts =
+      stepped-legal m legal new client bound None (grows_planned st new store up)
+      (ap (λ (x : StoreParts). x.definitions) store, ap (λ (x : StoreParts). x.shards) store) (ap (λ (x : StoreParts). x.journal) store) 0
+      (let e : new.store.next ≡ st.store.next = ap (λ (x : StoreParts). x.next) store in omega (arith, e)) tt
+      (sym (ap (λ o. held_by o ++ []) has))
+  legal-to (Some o) has store counts =
+      stepped-legal m legal new client bound (Some given) grows same (ap (λ (x : StoreParts). x.journal) store)
+      (new.store.next - st.store.next) (omega (arith, grows.next)) (
+        later.0,
+        later.1,
+        later.2,
+        gathered_back new s o.work.operation o.request.call given.gathered was.4.0
+            (step-gathered st new s o.work.operation o.gathered from_first many own.0 step store up
+            (gathered_there st s o.work.operation o.request.call o.gathered was.4.0 was.3) counts),
+        later.4,
+      ) holds
+    where
+      given : Open
+      given = with_gathered (gathered_by (shown st) o.work.operation o.gathered step) o
+
+      own : IsSession st s × IsOpen st client s old
+      own = legal.opens client bound
+
+      was : IsOpen st client s (Some o)
+      was = subst (IsOpen st client s) has own.1
+
+      from_first : first_drawn_id ≤ st.store.next
+      from_first = omega (arith, legal.from_first)
+
+      grows : Grows st new
+      grows = step-grows st new s o.work.operation o.gathered from_first many own.0 step store up
+
+      same : IsSameRun m (record m { state = new })
+      same = (ap (λ (x : StoreParts). x.definitions) store, ap (λ (x : StoreParts). x.shards) store)
+
+      later : IsOpen new client s (Some o)
+      later = open-grown st new client s (Some o) grows same.0 same.1 was
+
+      -- the ids that it draws are held
+      holds : held_by (Some given) ≡ held_by old ++ range_with_len st.store.next (new.store.next - st.store.next)
+      holds = subst (λ p. held_by (Some given) ≡ held_by p ++ range_with_len st.store.next (new.store.next - st.store.next))
+          (sym has)
+          (by step (ap (λ (x : StoreParts). x.next) store)) where
+            quiet : (g : GatheredParts) → g.first ≡ o.gathered.first → new.store.next ≡ st.store.next
+                → ids_of o.request.call g
+                ≡ ids_of o.request.call o.gathered ++ range_with_len st.store.next (new.store.next - st.store.next)
+            quiet g first same =
+                ids-same o.request.call g o.gathered first
+                ∙ sym (append-nil (ids_of o.request.call o.gathered))
+                ∙ ap (λ n. ids_of o.request.call o.gathered ++ range_with_len st.store.next n)
+                (let e : 0 ≡ new.store.next - st.store.next = omega (arith, same) in e)
+
+            by : (x : Step) → new.store.next ≡ (store_by st o.work.operation o.gathered x).next
+                → ids_of o.request.call (gathered_by (shown st) o.work.operation o.gathered x)
+                ≡ ids_of o.request.call o.gathered ++ range_with_len st.store.next (new.store.next - st.store.next)
+            by steps.Commit next = quiet (gathered_by (shown st) o.work.operation o.gathered steps.Commit) refl next
+            by steps.Touch next = quiet (gathered_by (shown st) o.work.operation o.gathered steps.Touch) refl next
+            by (steps.View shard) next = quiet _ (same-either (λ (h : GatheredParts). h.first) _ _ o.gathered refl) next
+            by (steps.Apply shard) next = quiet _ (same-either (λ (h : GatheredParts). h.first) _ _ o.gathered refl) next
+            by (steps.Issue count) next = each (draws (shown st) o.work.operation o.gathered count) refl next where
+              each : (b : Bool) → draws (shown st) o.work.operation o.gathered count ≡ b
+                  → new.store.next ≡ cond b (st.store.next + count) st.store.next
+                  → ids_of o.request.call (cond b (record (o.gathered) { first = Some st.store.next }) o.gathered)
+                  ≡ ids_of o.request.call o.gathered ++ range_with_len st.store.next (new.store.next - st.store.next)
+              each false unmet next = quiet o.gathered refl next
+              each true met next =
+                  let parts = draws-parts (shown st) o.work.operation o.gathered count met in
+                  drawn_ids_are o.request.call (record (o.gathered) { first = Some st.store.next }) st.store.next count refl
+                  (asked-alike o.work.operation o.request.call was.4.0 ∙ sym parts.0)
+                  ∙ ap (range_with_len st.store.next) (let e : count ≡ new.store.next - st.store.next = omega (arith, next) in e)
+                  ∙ ap (λ ids. ids ++ range_with_len st.store.next (new.store.next - st.store.next))
+                  (sym (none_ids o.request.call o.gathered parts.1))
+
+  pub step-legal : (now : Option Open) → SteppedTo step st old new now
+      → IsLegal (then now) × IsSameRun m (then now) × (course_of (then now) ≡ stepped st.store.shards step client (course_of m))
+  step-legal now is = (
+    subst (λ o. IsLegal (then o)) (sym is.0) (legal-to old refl is.1 is.2),
+    (ap (λ (x : StoreParts). x.definitions) is.1, ap (λ (x : StoreParts). x.shards) is.1),
+    λ i. record {
+      moment = record {
+        journal = (is.1 i).journal;
+        counts = is.2 i;
+        next = (is.1 i).next;
+        sessions = m.sessions;
+        opens = slice_set m.opens client (is.0 i);
+      };
+      requests = m.requests;
+      replies = m.replies;
+    },
+  )
 
 -- a request is opened, which has gathered nothing
-pub open-step : (m : MachineParts) → IsLegal m → (client : ℕ) (d : Session) (none : Option Open) (r : Request)
-    (work : Work) → IsWorkOf m.state (get_or m.sessions client d) r.call work
-    → client < length m.sessions → length m.state.applied.counts ≡ m.state.store.shards
-    → IsLawfulRequest m.state.store.shards client r → held_by (get_or m.opens client none) ≡ []
-    → IsLegal (record m { opens = slice_set m.opens client (Some (just_opened r work m.state.store.shards)) })
-open-step m legal client d none r work of below many lawful closed =
-    let had = open-at m.state 0 m.sessions m.opens client d none legal.opens below in
-    stepped-legal m legal m.state client d none (Some (just_opened r work m.state.store.shards)) below
-    (grows_planned m.state m.state refl (up_to-same m.state.applied.counts)) refl refl refl 0 (omega arith) (
+pub open-legal : (m : MachineParts) → IsLegal m → (client : ℕ) → client ≤ greatest_client → (r : Request) (work : Work) (shards : ℕ)
+    → IsWorkOf m.state (session_in m client) r.call work → length m.state.applied.counts ≡ m.state.store.shards
+    → shards ≡ m.state.store.shards → IsLawfulRequest m.state.store.shards client r → open_in m client ≡ None
+    → IsLegal (record m { opens = slice_set m.opens client (Some (just_opened r work shards)) })
+open-legal m legal client bound r work shards of many all lawful closed =
+    stepped-legal m legal m.state client bound (Some (just_opened r work shards)) (grows-same m.state) (refl, refl) refl 0 (omega arith) (
       lawful.0,
       lawful.1,
       lawful.2,
-      gathered-nothing m.state (get_or m.sessions client d) r.call m.state.store.shards many had.0.counts_within,
+      gathered-nothing m.state (session_in m client) r.call shards (many ∙ sym all) (legal.opens client bound).0.counts_within,
       of,
     )
-    (none_ids r.call (just_opened r work m.state.store.shards).gathered refl
-    ∙ sym (append-nil (held_by (get_or m.opens client none)) ∙ closed))
+    (none_ids r.call (just_opened r work shards).gathered refl ∙ sym (ap (λ o. held_by o ++ []) closed))

@@ -1,19 +1,19 @@
 -- What has occurred stays so, and what open requests have gathered and transactions have touched comes from it still.
-use Rattle.std.proofs.Common.{◌≡◌, ◌⊎◌, inl, inr, ℕ, zero, suc, ◌+◌, ◌<◌, List, [], ◌∷◌, ◌++◌, length, map, refl, ap, sym, ◌∙◌, subst}
-use Rattle.std.proofs.Common.{arith, Option, Some, None, append_assoc}
-use Rattle.std.specs.Prelude.{IfSome, slice_get, slice_set, unwrap_or, replicate}
-use Rattle.ds_base.specs.Limits.{greatest_client}
-use Rattle.ds_request.specs.declared.call.Call.{Call}
+use Rattle.ds_core.proofs.Words.{◌≡◌, ◌⊎◌, inl, inr, ℕ, ◌+◌, ◌<◌, List, [], ◌∷◌, ◌++◌, length, refl, ap, sym, ◌∙◌, subst, arith, Bool}
+use Rattle.ds_core.proofs.Words.{true, false, Option, Some, None, cond, slice_get, slice_set, is_some, Commit, Call, count_of}
+use Rattle.ds_core.proofs.Words.{Operation, IsOperationOf, ids_asked, Step, GatheredParts, counts_by, draws, gathered_by, Shown}
+use Rattle.ds_core.proofs.Words.{StateParts, draws-parts, Open, Happening, Moment, nothing_gathered, open_of, open_then, shown_then}
+use Rattle.ds_core.proofs.Words.{IsApply, IsIssue, IsTouch, IsView, Occurs, AreWitnessed, IsGatheredThen, IsOpenThen}
+use Rattle.std.specs.Prelude.{◌&&◌, ◌==◌, nat_lt}
+use Rattle.std.proofs.lemmas.Bool.{and_parts, eqb-true, ltb-true}
+use Rattle.ds_effects.specs.Gathered.{first_place}
+use Rattle.ds_machine.specs.Gathering.{gathers_entry, gathers_view, is_pending}
+use Rattle.ds_machine.proofs.Stepped.{raised-one}
 use Rattle.ds_request.specs.declared.call.Call.TheVariants as call
-use Rattle.ds_model.specs.Groups.{place_in}
-use Rattle.ds_model.specs.Sessions.{Session, count_of, first_session, first_sessions}
-use Rattle.ds_effects.specs.Gathered.{GatheredParts}
-use Rattle.ds_protocol.specs.Operations.{ids_asked}
-use Rattle.ds_core.specs.declared.opened.Open.{Open}
-use Rattle.ds_core.specs.Happenings.{Happening}
-use Rattle.ds_core.specs.Takings.{AreTaken, IsTaken}
-use Rattle.ds_core.specs.Timelines.{AreMoves, AreTimely, AreViews, IsApply, IsIssue, IsTimely, IsTouch, IsView, Moves, Occurs}
-use Rattle.ds_core.specs.Witnesses.{AreWitnessed, IsGatheredThen, IsRaisedThen, IsTouchedThen}
+use Rattle.ds_protocol.specs.declared.operations.Operation.TheVariants as operation
+use Rattle.ds_effects.specs.declared.gathered.Step.TheVariants as steps
+use Rattle.ds_core.proofs.Gathers.{asked-alike}
+use Rattle.ds_core.proofs.Lists.{none-got, set-got}
 
 -- ---- what has occurred
 
@@ -26,136 +26,138 @@ pub occurs-last : (P : Happening → Type 0) (hs : List Happening) (h : Happenin
 occurs-last P [] h p = inl p
 occurs-last P (x ∷ hs) h p = inr (occurs-last P hs h p)
 
--- ---- lists
-
-pub some-is : {A : Type 0} (x y : A) → Some x ≡ Some y → x ≡ y
-some-is x y same = ap (λ o. unwrap_or o x) same
-
--- what stands in a list of which one item is set is that one, or stood there before
-pub set-got : {A : Type 0} (xs : List A) (i j : ℕ) (x y : A) → slice_get (slice_set xs i x) j ≡ Some y
-    → ((i ≡ j) × (x ≡ y)) ⊎ (slice_get xs j ≡ Some y)
-set-got [] i j x y got = inr got
-set-got (z ∷ zs) zero zero x y got = inl (refl, some-is x y got)
-set-got (z ∷ zs) zero (suc j) x y got = inr got
-set-got (z ∷ zs) (suc i) zero x y got = inr got
-set-got {A = A} (z ∷ zs) (suc i) (suc j) x y got = by (set-got zs i j x y got) where
-  by : ((i ≡ j) × (x ≡ y)) ⊎ (slice_get zs j ≡ Some y) → ((suc i ≡ suc j) × (x ≡ y)) ⊎ (slice_get zs j ≡ Some y)
-  by (inl both) = inl (ap suc both.0, both.1)
-  by (inr rest) = inr rest
-
--- what stands in a list of the same items is that item
-pub got-same : {A : Type 0} (n : ℕ) (x : A) (j : ℕ) (y : A) → slice_get (replicate n x) j ≡ Some y → x ≡ y
-got-same zero x j y got = cc
-got-same (suc n) x zero y got = some-is x y got
-got-same (suc n) x (suc j) y got = got-same n x j y got
-
--- counts that were all viewed
-pub viewed-got : (counts : List ℕ) (shard : ℕ) → shard < length counts
-    → slice_get (map (λ n. Some n) counts) shard ≡ Some (Some (count_of counts shard))
-viewed-got [] shard below = absurd (omega (arith, below))
-viewed-got (c ∷ cs) zero below = refl
-viewed-got (c ∷ cs) (suc shard) below = viewed-got cs shard (omega (arith, below))
-
 -- ---- what stays witnessed
 
-if-then : {X : Type 0} (P Q : X → Type 0) (o : Option X) → ((x : X) → P x → Q x) → IfSome o P → IfSome o Q
-if-then P Q None f is = tt
-if-then P Q (Some x) f is = f x is
-
-raised-more : (hs xs : List Happening) (client : ℕ) (c : Call) (o : Option ℕ) → IsRaisedThen hs client c o
-    → IsRaisedThen (hs ++ xs) client c o
-raised-more hs xs client c None is = tt
-raised-more hs xs client (call.Apply shard) (Some count) is = occurs-more (IsApply client shard count) hs xs is
-raised-more hs xs client _ (Some count) is = tt
-
-pub gathered-more : (hs xs : List Happening) (client : ℕ) (c : Call) (g : GatheredParts) → IsGatheredThen hs client c g
+gathered-more : (hs xs : List Happening) (client : ℕ) (c : Call) (g : GatheredParts) → IsGatheredThen hs client c g
     → IsGatheredThen (hs ++ xs) client c g
 gathered-more hs xs client c g is = record {
-  place = if-then (λ place. Occurs (IsTouch client place) hs) (λ place. Occurs (IsTouch client place) (hs ++ xs)) g.place
-      (λ place. occurs-more (IsTouch client place) hs xs) is.place;
-  first = if-then (λ first. Occurs (IsIssue client (ids_asked c) first) hs)
-      (λ first. Occurs (IsIssue client (ids_asked c) first) (hs ++ xs)) g.first (λ first. occurs-more (IsIssue client (ids_asked c) first)
-      hs xs) is.first;
-  applied = raised-more hs xs client c g.applied is.applied;
+  place = λ place at. occurs-more (IsTouch client place) hs xs (is.place place at);
+  first = λ first at. occurs-more (IsIssue client (ids_asked c) first) hs xs (is.first first at);
+  applied = λ shard count of at. occurs-more (IsApply client shard count) hs xs (is.applied shard count of at);
   views = λ shard count got. occurs-more (IsView client shard count) hs xs (is.views shard count got);
 }
 
-pub witnessed-more : (hs xs : List Happening) (sessions : List Session) (opens : List (Option Open)) → AreWitnessed hs sessions opens
-    → AreWitnessed (hs ++ xs) sessions opens
-witnessed-more hs xs sessions opens are = record {
-  gathered = λ client o got. gathered-more hs xs client o.request.call o.gathered (are.gathered client o got);
-  touched = λ client s got group place has. occurs-more (IsTouch client place) hs xs (are.touched client s got group place has);
-}
+open-more : (hs xs : List Happening) (client : ℕ) (o : Option Open) → IsOpenThen hs client o → IsOpenThen (hs ++ xs) client o
+open-more hs xs client None is = tt
+open-more hs xs client (Some o) is = (is.0, gathered-more hs xs client o.request.call o.gathered is.1)
 
--- one client's open request becomes another one
-pub witnessed-open : (hs : List Happening) (sessions : List Session) (opens : List (Option Open)) (client : ℕ) (o : Option Open)
-    → AreWitnessed hs sessions opens → ((p : Open) → o ≡ Some p → IsGatheredThen hs client p.request.call p.gathered)
-    → AreWitnessed hs sessions (slice_set opens client o)
-witnessed-open hs sessions opens client o are now = record {
-  gathered = λ n p got. by n p (set-got opens client n o (Some p) got);
-  touched = are.touched;
-} where
-  by : (n : ℕ) (p : Open) → ((client ≡ n) × (o ≡ Some p)) ⊎ (slice_get opens n ≡ Some (Some p))
-      → IsGatheredThen hs n p.request.call p.gathered
-  by n p (inl both) = subst (λ m. IsGatheredThen hs m p.request.call p.gathered) both.0 (now p both.1)
-  by n p (inr was) = are.gathered n p was
+pub witnessed-more : (hs xs : List Happening) (t : Moment) → AreWitnessed hs t → AreWitnessed (hs ++ xs) t
+witnessed-more hs xs t are c = (
+  open-more hs xs c (open_of t c) (are c).0,
+  λ group place has. occurs-more (IsTouch c place) hs xs ((are c).1 group place has),
+)
 
--- one client's session becomes another one
-pub witnessed-session : (hs : List Happening) (sessions : List Session) (opens : List (Option Open)) (client : ℕ) (s : Session)
-    → AreWitnessed hs sessions opens → IsTouchedThen hs client s → AreWitnessed hs (slice_set sessions client s) opens
-witnessed-session hs sessions opens client s are now = record {
-  gathered = are.gathered;
-  touched = λ n t got. by n t (set-got sessions client n s t got);
-} where
-  by : (n : ℕ) (t : Session) → ((client ≡ n) × (s ≡ t)) ⊎ (slice_get sessions n ≡ Some t) → IsTouchedThen hs n t
-  by n t (inl both) = subst (λ x. IsTouchedThen hs n x) both.1 (subst (λ m. IsTouchedThen hs m s) both.0 now)
-  by n t (inr was) = are.touched n t was
-
--- ---- a request that has gathered nothing
-
-pub nothing-gathered : (hs : List Happening) (client : ℕ) (c : Call) (shards : ℕ)
-    → IsGatheredThen hs client c (record { place = None; first = None; applied = None; views = replicate shards None })
+-- a request that has gathered nothing
+pub nothing-gathered : (hs : List Happening) (client : ℕ) (c : Call) (shards : ℕ) → IsGatheredThen hs client c (nothing_gathered shards)
 nothing-gathered hs client c shards = record {
-  place = tt;
-  first = tt;
-  applied = tt;
-  views = λ shard count got. let none : None ≡ Some count = got-same shards None shard (Some count) got in cc;
+  place = λ place at. cc;
+  first = λ first at. cc;
+  applied = λ shard count of at. cc;
+  views = λ shard count got. absurd (none-got shards shard count got);
 }
 
--- the counts that were all viewed are those at Views
-pub views-are : (hs : List Happening) (client : ℕ) (counts : List ℕ) (views : List (Option ℕ)) → map (λ n. Some n) counts ≡ views
-    → ((shard count : ℕ) → slice_get views shard ≡ Some (Some count) → Occurs (IsView client shard count) hs)
-    → AreViews hs client counts
-views-are hs client counts views same are shard below =
-    are shard (count_of counts shard) (ap (λ vs. slice_get vs shard) (sym same) ∙ viewed-got counts shard below)
+-- ---- what a step gathers
 
--- ---- nothing has happened
+-- an apply of the shard is asked for
+asks-apply : (c : Call) (o : Operation) (g : GatheredParts) (shard : ℕ) → IsOperationOf c o → gathers_entry o g shard ≡ true
+    → c ≡ call.Apply shard
+asks-apply c (operation.Apply own) g shard of is = of ∙ ap call.Apply (eqb-true own shard (and_parts (own == shard) (is_some g.place) is).0)
+asks-apply c _ g shard of is = cc
 
-pub none-witnessed : (sessions : List Session) (opens : List (Option Open)) (shards n : ℕ) → sessions ≡ first_sessions shards
-    → opens ≡ replicate n None → AreWitnessed [] sessions opens
-none-witnessed sessions opens shards n firsts closed = record {
-  gathered = λ client o got.
-      let none : None ≡ Some o = got-same n None client (Some o) (ap (λ os. slice_get os client) (sym closed) ∙ got) in cc;
-  touched = λ client s got group place has.
-      let first : first_session shards ≡ s = got-same (greatest_client + 1) (first_session shards) client s
-      (ap (λ ss. slice_get ss client) (sym firsts) ∙ got) in
-      let none : None ≡ Some place = ap (λ (t : Session). place_in t.transaction group) first ∙ has in
-      cc;
+-- a state that shows this
+abbrev as-state : Shown → StateParts
+as-state st = record {
+  store = record { definitions = []; shards = st.shards; journal = st.journal; next = st.next };
+  applied = record { shards = 0; commits = 0; lists = []; counts = st.counts };
 }
 
--- ---- one more happening
+module _ (hs : List Happening) (h : Happening) (st : Shown) (many : length st.counts ≡ st.shards) (journal : h.before.journal ≡ st.journal)
+    (counts : h.before.counts ≡ st.counts) (next : h.before.next ≡ st.next) where
+  abbrev all : List Happening
+  all = hs ++ h ∷ []
 
-pub moves-then : (shards : ℕ) (hs : List Happening) (h : Happening) → AreMoves shards hs → Moves shards h.step h.before h.after
-    → AreMoves shards (hs ++ h ∷ [])
-moves-then shards [] h are is = (is, tt)
-moves-then shards (x ∷ hs) h are is = (are.0, moves-then shards hs h are.1 is)
+  -- what the client's open request has gathered after the step comes from what happened, or from the step
+  pub gathers-then : (step : Step) (client : ℕ) (o : Option Open) → h.step ≡ step → h.client ≡ client
+      → h.after.counts ≡ counts_by st step → h.after.next ≡ (shown_then st o step).next → IsOpenThen all client o
+      → IsOpenThen all client (open_then st o step)
+  gathers-then step client None is own counted drawn was = tt
+  gathers-then step client (Some o) is own counted drawn (of, was) = (of, by step is counted drawn) where
+    g : GatheredParts
+    g = o.gathered
 
-pub taken-then : (shards : ℕ) (hs : List Happening) (h : Happening) → AreTaken shards hs → IsTaken shards h → AreTaken shards (hs ++ h ∷ [])
-taken-then shards [] h are is = (is, tt)
-taken-then shards (x ∷ hs) h are is = (are.0, taken-then shards hs h are.1 is)
+    Gathered : GatheredParts → Type 0
+    Gathered = IsGatheredThen all client o.request.call
 
-pub timely-then : (past hs : List Happening) (h : Happening) → AreTimely past hs → IsTimely (past ++ (hs ++ h ∷ [])) h.said
-    → AreTimely past (hs ++ h ∷ [])
-timely-then past [] h are is = (is, tt)
-timely-then past (x ∷ hs) h are is =
-    (are.0, timely-then (past ++ x ∷ []) hs h are.1 (subst (λ xs. IsTimely xs h.said) (sym (append_assoc past (x ∷ []) (hs ++ h ∷ []))) is))
+    touched : (n place : ℕ) (p : Option ℕ) → IsTouch client n h → (p ≡ Some place → Occurs (IsTouch client place) all)
+        → first_place n p ≡ Some place → Occurs (IsTouch client place) all
+    touched n place None at had is = let same : n ≡ place = cc in
+        subst (λ k. Occurs (IsTouch client k) all) same (occurs-last (IsTouch client n) hs h at)
+    touched n place (Some m) at had is = had is
+
+    viewed : (shard n s count : ℕ) → IsView client shard n h
+        → ((shard ≡ s) × (Some n ≡ Some count)) ⊎ (slice_get g.views s ≡ Some (Some count)) → Occurs (IsView client s count) all
+    viewed shard n s count at (inl (same, one)) = occurs-last (IsView client s count) hs h
+        (let e : n ≡ count = cc in (at.0, at.1 ∙ ap steps.View same, ap (count_of h.after.counts) (sym same) ∙ at.2 ∙ e))
+    viewed shard n s count at (inr had) = was.views s count had
+
+    by : (step : Step) → h.step ≡ step → h.after.counts ≡ counts_by st step → h.after.next ≡ (shown_then st (Some o) step).next
+        → Gathered (gathered_by st o.work.operation g step)
+    by steps.Commit is counted drawn = was
+    by steps.Touch is counted drawn = record {
+      place = λ place. touched (length st.journal) place g.place (own, is, ap (λ (cs : List Commit). length cs) journal) (was.place place);
+      first = was.first;
+      applied = was.applied;
+      views = was.views;
+    }
+    by (steps.View shard) is counted drawn = each (nat_lt shard st.shards && gathers_view st o.work.operation g shard) where
+      each : (b : Bool) → Gathered (cond b (record g { views = slice_set g.views shard (Some (count_of st.counts shard)) }) g)
+      each false = was
+      each true = record {
+        place = was.place;
+        first = was.first;
+        applied = was.applied;
+        views = λ s count got. viewed shard (count_of st.counts shard) s count (own, is, ap (λ cs. count_of cs shard) counted)
+            (set-got g.views shard s (Some (count_of st.counts shard)) (Some count) got);
+      }
+    by (steps.Issue count) is counted drawn = each (draws st o.work.operation g count) refl drawn where
+      each : (b : Bool) → draws st o.work.operation g count ≡ b → h.after.next ≡ cond b (st.next + count) st.next
+          → Gathered (cond b (record g { first = Some st.next }) g)
+      each false unmet same = was
+      each true met more = record {
+        place = was.place;
+        first = λ first at.
+            let asks : ids_asked o.request.call ≡ count = asked-alike o.work.operation o.request.call of
+            ∙ sym (draws-parts st o.work.operation g count met).0 in
+            let same : st.next ≡ first = cc in
+            subst (λ n. Occurs (IsIssue client (ids_asked o.request.call) n) all) same
+            (occurs-last (IsIssue client (ids_asked o.request.call) st.next) hs h
+            (own, is ∙ ap steps.Issue (sym asks), next, more ∙ ap (λ n. st.next + n) (sym asks)));
+        applied = was.applied;
+        views = was.views;
+      }
+    by (steps.Apply shard) is counted drawn =
+        each (nat_lt shard st.shards && is_pending st shard && gathers_entry o.work.operation g shard) refl
+      where
+        n : ℕ
+        n = count_of st.counts shard + 1
+
+        each : (b : Bool) → (nat_lt shard st.shards && is_pending st shard && gathers_entry o.work.operation g shard) ≡ b
+            → Gathered (cond b (record g { applied = Some n }) g)
+        each false unmet = was
+        each true met =
+            let a = and_parts (nat_lt shard st.shards && is_pending st shard) (gathers_entry o.work.operation g shard) met in
+            let b = and_parts (nat_lt shard st.shards) (is_pending st shard) a.0 in
+            let there : shard < st.shards = ltb-true shard st.shards b.0 in
+            let low : count_of h.before.counts shard ≡ count_of st.counts shard = ap (λ cs. count_of cs shard) counts in
+            let high : count_of h.after.counts shard ≡ n =
+            raised-one (as-state st) shard h.after.counts (omega (arith, there, many)) b.1 counted in
+            let raised : Occurs (IsApply client shard n) all =
+            occurs-last (IsApply client shard n) hs h (own, is, omega (arith, low), high) in record {
+              place = was.place;
+              first = was.first;
+              applied = λ k count asked at.
+                  let same : shard ≡ k = cc (asks-apply o.request.call o.work.operation g shard of a.1) in
+                  let many : n ≡ count = cc in
+                  subst (λ x. Occurs (IsApply client x count) all) same (subst (λ x. Occurs (IsApply client shard x) all) many raised);
+              views = was.views;
+            }

@@ -1,38 +1,26 @@
 -- Each step for which an open request waits brings it nearer to its reply.
-use Rattle.std.proofs.Common.{◌≡◌, ℕ, ◌+◌, ◌<◌, ◌≤◌, List, [], ◌∷◌, length, refl, ap, sym, ◌∙◌, subst, arith, Option, Some, None, suc, zero}
-use Rattle.std.proofs.Common.{get_or, take, drop}
-use Rattle.std.specs.Prelude.{replicate, slice_set}
+use Rattle.ds_core.proofs.Words.{◌≡◌, ℕ, ◌+◌, ◌<◌, ◌≤◌, List, [], ◌∷◌, length, refl, ap, sym, ◌∙◌, subst, arith, Option, Some, None, suc}
+use Rattle.ds_core.proofs.Words.{zero, get_or, take, replicate, slice_set, greatest_client, Session, first_session, Step, Operation}
+use Rattle.ds_core.proofs.Words.{GatheredParts, gathered_by, shown_by, Shown, missing, shown, Open, Said, moment_of, none_open, IsLegal}
+use Rattle.ds_core.proofs.Words.{IsOpen, IsSameRun, MachineParts, open_in, session_in, with_gathered, AreWaiting, Comes, IsQuiet, Takes}
+use Rattle.ds_core.proofs.Words.{WaitsFor, open_of, session_of, shown_at, Course, GoesOn, TakesAt, course_of}
+use Rattle.std.proofs.Common.{drop}
 use Rattle.std.proofs.lemmas.List.{take_all}
-use Rattle.ds_base.specs.Limits.{greatest_client}
-use Rattle.ds_model.specs.Sessions.{Session, first_session}
-use Rattle.ds_effects.specs.declared.gathered.Step.{Step}
-use Rattle.ds_effects.specs.declared.gathered.Step.TheVariants as steps
-use Rattle.ds_protocol.specs.declared.operations.Operation.{Operation}
-use Rattle.ds_effects.specs.Gathered.{GatheredParts}
-use Rattle.ds_machine.specs.Gathering.{gathered_by, shown_by}
-use Rattle.ds_machine.specs.Missing.{Shown, missing, shown}
-use Rattle.ds_machine.specs.States.{StateParts, StoreParts}
 use Rattle.ds_machine.proofs.Left.{left, waits, waits-few}
 use Rattle.ds_machine.proofs.Lowering.{step-lowers}
-use Rattle.ds_core.specs.declared.opened.Open.{Open}
-use Rattle.ds_core.specs.Happenings.{IsStill, Said, Turn, moment_of, none_open}
-use Rattle.ds_core.specs.Machines.{IsLegal, IsOpen, IsSameRun, MachineParts}
-use Rattle.ds_core.specs.Steps.{with_gathered}
-use Rattle.ds_core.specs.Takings.{Comes, IsQuiet, Takes, WaitsFor, open_of, session_of}
-use Rattle.ds_core.specs.Witnesses.{TakesAt}
-use Rattle.ds_core.proofs.OneClient.{own-at}
-use Rattle.ds_core.proofs.Places.{open-viewed}
-use Rattle.ds_core.proofs.Waiting.{shown-stepped}
-use Rattle.ds_machine.proofs.Growing.{looked-shown}
-use Rattle.ds_core.proofs.Lists.{set-again}
+use Rattle.ds_effects.specs.declared.gathered.Step.TheVariants as steps
+use Rattle.ds_core.proofs.Happened.{alone, goes-step}
+use Rattle.ds_core.proofs.Places.{open-viewed, open-within}
+use Rattle.ds_core.proofs.Taken.{takes-of}
+use Rattle.ds_core.proofs.Waiting.{happened-waiting}
 
 -- what is left of a client's open request
 abbrev pub remains : Shown → Session → Option Open → ℕ
 remains st s None = 0
 remains st s (Some o) = 1 + left st s o.work.operation o.gathered steps.Touch
 
-abbrev pub remaining : MachineParts → ℕ → ℕ
-remaining m client = remains (shown m.state) (session_of (moment_of m) client) (open_of (moment_of m) client)
+abbrev pub remaining : ℕ → Course → ℕ → ℕ
+remaining shards c client = remains (shown_at shards c.moment) (session_of c.moment client) (open_of c.moment client)
 
 -- a step that was taken leaves no less than none
 left-touch : (st : Shown) (s : Session) (o : Operation) (g : GatheredParts) (step next : Step) → missing st s o g step ≡ Some next
@@ -42,72 +30,58 @@ left-touch st s o g step next is =
     let one : waits (missing st s o g step) ≡ 1 = ap waits is in
     omega (arith, few, one)
 
-module _ (m n : MachineParts) (client : ℕ) (step : Step) (legal : IsLegal m) (bound : client ≤ greatest_client) (same : IsSameRun m n)
-    (many : length m.state.applied.counts ≡ m.state.store.shards) where
-  abbrev st : Shown
-  st = shown m.state
+module _ (m : MachineParts) (c : Course) (client : ℕ) (step : Step) (legal : IsLegal m) (bound : client ≤ greatest_client)
+    (is_at : TakesAt m.state.store.shards step client (course_of m) c) where
+  abbrev shards : ℕ
+  shards = m.state.store.shards
 
   abbrev s : Session
-  s = session_of (moment_of m) client
+  s = session_in m client
 
-  less-of : (o : Open) (said : Option Said) → open_of (moment_of m) client ≡ Some o
-      → missing st s o.work.operation o.gathered steps.Touch ≡ Some step
-      → Takes m.state.store.shards step client (Some o) said (moment_of m) (moment_of n)
-      → remaining n client < 1 + left st s o.work.operation o.gathered steps.Touch
+  less-of : (o : Open) (said : Option Said) → open_in m client ≡ Some o
+      → missing (shown m.state) s o.work.operation o.gathered steps.Touch ≡ Some step
+      → Takes shards step client (Some o) said (course_of m).moment c.moment
+      → remaining shards c client < 1 + left (shown m.state) s o.work.operation o.gathered steps.Touch
   less-of o said has waits_for takes =
-      by (missing (shown_by st o.work.operation o.gathered step) s o.work.operation (gathered_by st o.work.operation o.gathered step)
-      step) said
-      refl takes.ends takes.quiet
+      by (missing then s o.work.operation given.gathered step) said refl takes.ends takes.quiet
     where
+      counted : length m.state.applied.counts ≡ shards
+      counted = is_at.0
+
       own : IsOpen m.state client s (Some o)
-      own = subst (IsOpen m.state client s) has (own-at m legal client bound (first_session 0) None).1
+      own = subst (IsOpen m.state client s) has (legal.opens client bound).1
 
-      then : GatheredParts
-      then = gathered_by st o.work.operation o.gathered step
+      then : Shown
+      then = shown_by (shown m.state) o.work.operation o.gathered step
 
-      by : (next : Option Step) (x : Option Said) → missing (shown_by st o.work.operation o.gathered step) s o.work.operation then
-          step ≡ next
-          → Comes next (shown_by st o.work.operation o.gathered step) s step (with_gathered then o) x (open_of (moment_of n) client)
-          → (x ≡ None → IsQuiet (moment_of m) (moment_of n)) → remaining n client < 1 + left st s o.work.operation o.gathered steps.Touch
+      given : Open
+      given = with_gathered (gathered_by (shown m.state) o.work.operation o.gathered step) o
+
+      by : (next : Option Step) (x : Option Said) → missing then s o.work.operation given.gathered step ≡ next
+          → Comes next then s step given x (open_of c.moment client) → (x ≡ None → IsQuiet (course_of m).moment c.moment)
+          → remaining shards c client < 1 + left (shown m.state) s o.work.operation o.gathered steps.Touch
       by None None is comes quiet = absurd comes
       by None (Some x) is comes quiet =
-          let gone : remaining n client ≡ 0 =
-          ap (remains (shown n.state) (session_of (moment_of n) client)) comes.1 in
+          let gone : remaining shards c client ≡ 0 =
+          ap (remains (shown_at shards c.moment) (session_of c.moment client)) comes.1 in
           omega (arith, gone)
       by (Some next) x is comes quiet =
           let still = quiet comes.0 in
-          let here : remaining n client
-          ≡ 1 + left (shown_by st o.work.operation o.gathered step) s o.work.operation then steps.Touch =
-          ap (remains (shown n.state) (session_of (moment_of n) client)) comes.1
-          ∙ ap (λ t. remains t (session_of (moment_of n) client) (Some (with_gathered then o)))
-          (shown-stepped m n client step same o said takes still.0)
-          ∙ ap (λ (ss : List Session). remains (shown_by st o.work.operation o.gathered step) (get_or ss client (first_session 0))
-          (Some (with_gathered then o))) still.1 in
-          let touch = left-touch (shown_by st o.work.operation o.gathered step) s o.work.operation then step next is in
-          let lower = step-lowers st s o.work.operation o.gathered step steps.Touch (open-viewed m.state client s o own many) many
-          own.4.1.lawful legal.least own.4.1.shard waits_for in
+          let here : remaining shards c client ≡ 1 + left then s o.work.operation given.gathered steps.Touch =
+          (λ i. remains (record { shards = shards; journal = still.0 i; next = takes.next i; counts = takes.counts i })
+          (get_or (still.1 i) client (first_session 0)) (comes.1 i)) in
+          let touch = left-touch then s o.work.operation given.gathered step next is in
+          let lower = step-lowers (shown m.state) s o.work.operation o.gathered step steps.Touch
+          (open-viewed m.state client s o own counted) counted own.4.1.lawful legal.least own.4.1.shard waits_for in
           omega (arith, here, touch, lower)
 
-  pub remaining-less : TakesAt m.state.store.shards step client m n → Turn m n client None
-      → WaitsFor st s (open_of (moment_of m) client) step → remaining n client < remaining m client
-  remaining-less takes turn waits_for = by (open_of (moment_of m) client) refl waits_for
-      (takes.takes turn.said (turn.requests, turn.replies)) where
-        by : (p : Option Open) → open_of (moment_of m) client ≡ p → WaitsFor st s p step
-            → Takes m.state.store.shards step client p turn.said (moment_of m) (moment_of n) → remaining n client < remains st s p
-        by None has none taken = absurd none
-        by (Some o) has waits_for taken = less-of o turn.said has waits_for taken
-
--- nothing changes but how far the journal was looked at
-pub remaining-still : (m n : MachineParts) (client : ℕ) → IsStill m n → remaining n client ≡ remaining m client
-remaining-still m n client still =
-    subst (λ (x : MachineParts). remains (shown x.state) (session_of (moment_of x) client) (open_of (moment_of x) client) ≡ remaining m
-    client)
-    (sym still.rest) (by n.state still.store still.counts)
-  where
-    by : (st : StateParts) → st.store ≡ m.state.store → st.applied.counts ≡ m.state.applied.counts
-        → remains (shown st) (session_of (moment_of m) client) (open_of (moment_of m) client) ≡ remaining m client
-    by st store counts =
-        ap (λ t. remains t (session_of (moment_of m) client) (open_of (moment_of m) client)) (looked-shown m.state st store counts)
+  pub remaining-less : WaitsFor (shown m.state) s (open_in m client) step
+      → remaining shards c client < remaining shards (course_of m) client
+  remaining-less waits_for = by (open_in m client) refl waits_for (takes-of shards step client (course_of m) c is_at) where
+    by : (p : Option Open) → open_in m client ≡ p → WaitsFor (shown m.state) s p step
+        → Takes shards step client p is_at.1.said (course_of m).moment c.moment → remaining shards c client < remains (shown m.state) s p
+    by None has none taken = absurd none
+    by (Some o) has waits_for taken = less-of o is_at.1.said has waits_for taken
 
 -- ---- client by client
 
@@ -124,36 +98,26 @@ pub all-closed : (os : List (Option Open)) (i : ℕ) → i ≡ greatest_client +
 all-closed os i last many is =
     sym (take_all i os (omega (arith, last, many))) ∙ is ∙ ap (λ n. replicate n None) last
 
--- ---- the other clients
+-- ---- a step that was missing
 
--- a step of a client leaves the open requests of others
-pub opens-taken : (first m n o : MachineParts) (client : ℕ) {step : Step}
-    → m.opens ≡ slice_set first.opens client (open_of (moment_of m) client) → IsStill m n
-    → TakesAt n.state.store.shards step client n o → Turn n o client None
-    → o.opens ≡ slice_set first.opens client (open_of (moment_of o) client)
-opens-taken first m n o client was still takes turn =
-    (takes.takes turn.said (turn.requests, turn.replies)).others.1
-    ∙ ap (λ (x : MachineParts). slice_set x.opens client (open_of (moment_of o) client)) still.rest
-    ∙ ap (λ os. slice_set os client (open_of (moment_of o) client)) was
-    ∙ set-again first.opens client (open_of (moment_of m) client) (open_of (moment_of o) client)
+module _ (m n o : MachineParts) (client : ℕ) (step : Step) (legal : IsLegal m) (bound : client ≤ greatest_client)
+    (waiting : AreWaiting m.state.store.shards (moment_of m)) (still : course_of n ≡ course_of m) (looked : IsSameRun m n)
+    (same : IsSameRun n o) (taken : TakesAt n.state.store.shards step client (course_of n) (course_of o))
+    (waits_for : WaitsFor (shown m.state) (session_in m client) (open_in m client) step) where
+  takes : TakesAt m.state.store.shards step client (course_of m) (course_of o)
+  takes = subst (λ c. TakesAt m.state.store.shards step client c (course_of o)) still
+      (subst (λ k. TakesAt k step client (course_of n) (course_of o)) looked.1 taken)
 
--- ---- a machine that looked
-
-pub waits-still : (m n : MachineParts) (client : ℕ) (step : Step) → IsStill m n
-    → WaitsFor (shown m.state) (session_of (moment_of m) client) (open_of (moment_of m) client) step
-    → WaitsFor (shown n.state) (session_of (moment_of n) client) (open_of (moment_of n) client) step
-waits-still m n client step still waits_for =
-    subst (λ (x : MachineParts). WaitsFor (shown x.state) (session_of (moment_of x) client) (open_of (moment_of x) client) step)
-    (sym still.rest)
-    (subst (λ t. WaitsFor t (session_of (moment_of m) client) (open_of (moment_of m) client) step)
-    (sym (looked-shown m.state n.state still.store still.counts)) waits_for)
-
-pub counted-still : (m n : MachineParts) → IsStill m n → length m.state.applied.counts ≡ m.state.store.shards
-    → length n.state.applied.counts ≡ n.state.store.shards
-counted-still m n still many =
-    ap (λ (cs : List ℕ). length cs) still.counts ∙ many ∙ sym (ap (λ (x : StoreParts). x.shards) still.store)
-
-pub closed-still : (first m n : MachineParts) (client : ℕ) → m.opens ≡ slice_set first.opens client (open_of (moment_of m) client)
-    → IsStill m n → open_of (moment_of m) client ≡ None → n.opens ≡ slice_set first.opens client None
-closed-still first m n client was still none =
-    ap (λ (x : MachineParts). x.opens) still.rest ∙ was ∙ ap (slice_set first.opens client) none
+  pub step-done : AreWaiting o.state.store.shards (moment_of o) × (o.opens ≡ slice_set m.opens client (open_in o client))
+      × GoesOn m.state.store.shards (course_of m) (course_of o)
+      × (remaining o.state.store.shards (course_of o) client < remaining m.state.store.shards (course_of m) client)
+  step-done =
+      let shards = m.state.store.shards in
+      let all = sym (same.1 ∙ looked.1) in (
+        subst (λ k. AreWaiting k (moment_of o)) all
+            (happened-waiting (alone shards step client (course_of m) (course_of o) takes) (open-within m legal) waiting),
+        (takes-of shards step client (course_of m) (course_of o) takes).others.1,
+        goes-step shards step client (course_of m) (course_of o) takes waits_for,
+        subst (λ k. remaining k (course_of o) client < remaining shards (course_of m) client) all
+            (remaining-less m (course_of o) client step legal bound takes waits_for),
+      )

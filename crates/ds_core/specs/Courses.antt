@@ -2,11 +2,9 @@
 use Rattle.std.specs.Prelude.{◌≡◌, ℕ, List, [], ◌++◌, All, map}
 use Rattle.ds_core.specs.declared.event.Event.{Event}
 use Rattle.ds_core.specs.declared.event.Transcript.{Transcript}
-use Rattle.ds_core.specs.Happenings.{Follow, Happening, Moment, event_of, first_moment, moment_of, none_open, replies_in, requests_in}
-use Rattle.ds_core.specs.Machines.{MachineParts}
+use Rattle.ds_core.specs.Happenings.{Follow, Happening, Moment, event_of, first_moment, none_open, replies_in, requests_in}
 use Rattle.ds_core.specs.Takings.{AreTaken, IsMissing}
 use Rattle.ds_core.specs.Timelines.{AreMoves, AreTimely}
-use Rattle.ds_core.specs.Witnesses.{AreWitnessed}
 
 -- The events' steps happen in their order and then others, for each of which its client's open request waits, from nothing at all to the
 -- transcript's journal and no request open; and what was said, in this order, are the transcript's replies to its requests. So each request
@@ -28,19 +26,3 @@ pub record HasHappened (events : List Event) (shards : ℕ) (t : Transcript) : T
   pub takes : AreTaken shards (happenings ++ missing)
   pub moves : AreMoves shards (happenings ++ missing)
   pub timely : AreTimely [] (happenings ++ missing)
-
--- how it came to what there is and to what was said so far
-pub record IsPast (shards : ℕ) (m : MachineParts) (hs : List Happening) : Type 0 where
-  pub room : m.state.store.shards ≡ shards
-  pub follow : Follow (first_moment shards) hs (moment_of m)
-  pub requests : m.requests ≡ requests_in hs
-  pub replies : m.replies ≡ replies_in hs
-  pub takes : AreTaken shards hs
-  pub moves : AreMoves shards hs
-  pub timely : AreTimely [] hs
-  pub witnessed : AreWitnessed hs m.sessions m.opens
-
--- steps were taken that open requests had still to take
-pub record GoesOn (old new : MachineParts) : Type 0 where
-  pub more : List Happening
-  pub past : (shards : ℕ) (hs : List Happening) → IsPast shards old hs → IsPast shards new (hs ++ more) × All (IsMissing shards) more

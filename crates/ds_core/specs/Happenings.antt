@@ -1,5 +1,5 @@
 -- What happens in a run over single events: the steps that were taken, what there was before and after each, and what was said.
-use Rattle.std.specs.Prelude.{◌≡◌, ℕ, ◌+◌, List, [], ◌∷◌, ◌++◌, Option, Some, None, flat_map, map, replicate, slice_get}
+use Rattle.std.specs.Prelude.{◌≡◌, ℕ, ◌+◌, List, [], ◌∷◌, Option, Some, None, flat_map, map, replicate, slice_get}
 use Rattle.std.specs.Prelude.{slice_set, unwrap_or}
 use Rattle.std.specs.Option.{option_map}
 use Rattle.ds_base.specs.Limits.{greatest_client}
@@ -104,22 +104,3 @@ moment_of m = record {
   sessions = m.sessions;
   opens = m.opens;
 }
-
--- a client's turn, in which it may open a request, and at most one reply is given
-pub record Turn (old new : MachineParts) (client : ℕ) (begins : Option Request) : Type 0 where
-  pub said : Option Said
-  pub speaks : Speaks said (opening (asked_by (asked_of old.opens) client) begins) (asked_of old.opens) client (asked_of new.opens)
-  pub requests : new.requests ≡ old.requests ++ said_requests said
-  pub replies : new.replies ≡ old.replies ++ said_replies said
-
--- nothing is asked or said
-pub record IsSilent (old new : MachineParts) : Type 0 where
-  pub asked : asked_of new.opens ≡ asked_of old.opens
-  pub requests : new.requests ≡ old.requests
-  pub replies : new.replies ≡ old.replies
-
--- nothing changes but how far the journal was looked at
-pub record IsStill (old new : MachineParts) : Type 0 where
-  pub rest : new ≡ record old { state = new.state }
-  pub store : new.state.store ≡ old.state.store
-  pub counts : new.state.applied.counts ≡ old.state.applied.counts

@@ -1,18 +1,15 @@
 //! The machine of events: one store, and for each client what it has seen and its open request.
-ghost use Rattle.std.specs.Prelude.{◌≡◌, ◌≢◌, ◌≤◌, ◌<◌, [], false, None, Some, Option, get_or, is_some, length, slice_set};
+ghost use Rattle.std.specs.Prelude.{◌≡◌, ◌≢◌, ◌≤◌, ◌<◌, [], true, None, Some, Option, get_or, is_some, length, slice_set};
 ghost use Rattle.std.specs.Prelude.{IfOk, IfSome, OnOk, IsTrue};
 ghost use Rattle.ds_base.specs.Limits.{greatest_client, most_shards};
-ghost use Rattle.ds_model.specs.Sessions.{Session};
 ghost use Rattle.ds_effects.specs.declared.gathered.Step.{Step};
 ghost use Rattle.ds_machine.specs.Effects.{IsAllowed};
-ghost use Rattle.ds_core.specs.declared.opened.Open.{Open};
-ghost use Rattle.ds_core.specs.Courses.{IsPast};
-ghost use Rattle.ds_core.specs.Happenings.{IsSilent, Turn, moment_of};
+ghost use Rattle.ds_machine.specs.Missing.{shown};
+ghost use Rattle.ds_core.specs.Happenings.{moment_of};
+ghost use Rattle.ds_core.specs.Machines.{IsDueNow, IsLawfulEvent, IsLawfulRequest, IsLegal, IsSameRun, IsToldAs, IsToldOpen};
+ghost use Rattle.ds_core.specs.Machines.{IsWorkOf, closing, noted, open_in, parts, performed, session_in};
 ghost use Rattle.ds_core.specs.Takings.{AreWaiting};
-ghost use Rattle.ds_machine.specs.Due.{IsDuePlan};
-ghost use Rattle.ds_machine.specs.Told.{ToldAlways};
-ghost use Rattle.ds_core.specs.Machines.{IsDueTo, IsWorkOf, IsLawfulEvent, IsLawfulRequest, IsLegal, IsSameRun, noted, performed};
-ghost use Rattle.ds_core.specs.Witnesses.{EndedAt, GathersAt, HappensAt, IsToldTo, OpensAt, RepliesAt, StepsAt, TakesAt};
+ghost use Rattle.ds_core.specs.Witnesses.{Advances, HappensAt, IsPast, OpensAt, TakesAt, course_of, stepped};
 
 use crate::clients::{first_sessions, none_open};
 use crate::event::{Event, Replies, Requests, Transcript};
@@ -25,7 +22,6 @@ use ds_machine::{State, Work, is_no_memory};
 use ds_reply::{Body, Reply};
 use ds_request::Request;
 use std::alloc::{AllocError, Global};
-use std::marker::Model;
 
 /// One store, sixteen clients with their open requests, and what was asked and said so far.
 #[derive(Drop)]
@@ -33,22 +29,8 @@ pub(crate) struct Machine {
     pub(crate) state: State,
     pub(crate) sessions: Vec<Session>,
     pub(crate) opens: Vec<Option<Open>>,
-    requests: Requests,
-    replies: Replies,
-}
-
-impl Model for Machine {
-    ghost use Rattle.ds_core.specs.Machines.{MachineParts};
-
-    ghost Value = { MachineParts };
-
-    ghost view = { λ m. record {
-      state = m.state;
-      sessions = m.sessions.items;
-      opens = m.opens.items;
-      requests = m.requests;
-      replies = m.replies;
-    } };
+    pub(crate) requests: Requests,
+    pub(crate) replies: Replies,
 }
 
 impl Machine {
@@ -56,11 +38,11 @@ impl Machine {
     pub(crate) fn make(alloc: Global, shards: u32, defs: Defs) -> Result<Machine, NoMemory>
         requires least { 1 ≤ shards }
         requires most { shards ≤ most_shards }
-        ensures legal { IfOk result IsLegal }
+        ensures legal { IfOk result (λ m. IsLegal (parts m)) }
         ensures definitions { IfOk result (λ m. m.state.store.definitions ≡ defs) }
         ensures shards { IfOk result (λ m. m.state.store.shards ≡ shards) }
-        ensures past { IfOk result (λ m. IsPast shards m []) }
-        ensures waiting { IfOk result (λ m. AreWaiting m.state.store.shards (moment_of m)) }
+        ensures past { IfOk result (λ m. IsPast shards (course_of (parts m)) []) }
+        ensures waiting { IfOk result (λ m. AreWaiting shards (moment_of (parts m))) }
     {
         let state = State::make(alloc, shards, defs)?;
         let sessions = first_sessions(alloc, shards)?;
@@ -76,14 +58,12 @@ impl Machine {
 
     /// Opens the event's request, if its client has none open, and takes its step.
     pub(crate) fn event(&mut self, alloc: Global, event: Event) -> Result<(), NoMemory>
-        requires legal { IsLegal self.old }
+        requires legal { IsLegal (parts self.old) }
         requires lawful { IsLawfulEvent self.old.state.store.shards event }
-        requires waiting { AreWaiting self.old.state.store.shards (moment_of self.old) }
-        ensures legal { OnOk result (IsLegal self.new) }
-        ensures waiting { OnOk result (AreWaiting self.new.state.store.shards (moment_of self.new)) }
-        ensures same { OnOk result (IsSameRun self.old self.new) }
-        ensures turn { OnOk result (Turn self.old self.new event.client event.begins) }
-        ensures timed { OnOk result (HappensAt self.old.state.store.shards event.step event.client event.begins self.old self.new) }
+        ensures legal { OnOk result (IsLegal (parts self.new)) }
+        ensures same { OnOk result (IsSameRun (parts self.old) (parts self.new)) }
+        ensures happens { OnOk result (HappensAt self.old.state.store.shards event.step event.client event.begins
+            (course_of (parts self.old)) (course_of (parts self.new))) }
     {
         let Event {
             step,
@@ -101,13 +81,13 @@ impl Machine {
         client: u32,
         begins: Option<Request>,
     ) -> Result<(), NoMemory>
-        requires legal { IsLegal self.old }
+        requires legal { IsLegal (parts self.old) }
         requires client { client ≤ greatest_client }
         requires lawful { IfSome begins (IsLawfulRequest self.old.state.store.shards client) }
-        ensures legal { OnOk result (IsLegal self.new) }
-        ensures same { OnOk result (IsSameRun self.old self.new) }
-        ensures turn { OnOk result (Turn self.old self.new client begins) }
-        ensures timed { OnOk result (OpensAt client begins self.old self.new) }
+        ensures legal { OnOk result (IsLegal (parts self.new)) }
+        ensures same { OnOk result (IsSameRun (parts self.old) (parts self.new)) }
+        ensures opens { OnOk result (OpensAt self.old.state.store.shards client begins (course_of (parts self.old))
+            (course_of (parts self.new))) }
     {
         match begins {
             Some(request) => self.begin(alloc, client, request),
@@ -117,22 +97,21 @@ impl Machine {
 
     /// Opens a request, if its client has none open, and replies where it needs no step.
     fn begin(&mut self, alloc: Global, client: u32, request: Request) -> Result<(), NoMemory>
-        requires legal { IsLegal self.old }
+        requires legal { IsLegal (parts self.old) }
         requires client { client ≤ greatest_client }
         requires lawful { IsLawfulRequest self.old.state.store.shards client request }
-        ensures legal { OnOk result (IsLegal self.new) }
-        ensures same { OnOk result (IsSameRun self.old self.new) }
-        ensures turn { OnOk result (Turn self.old self.new client (Some request)) }
-        ensures timed { OnOk result (OpensAt client (Some request) self.old self.new) }
+        ensures legal { OnOk result (IsLegal (parts self.new)) }
+        ensures same { OnOk result (IsSameRun (parts self.old) (parts self.new)) }
+        ensures opens { OnOk result (OpensAt self.old.state.store.shards client (Some request) (course_of (parts self.old))
+            (course_of (parts self.new))) }
     {
         if self.has_open(client) {
             drop(request);
             return Ok(());
         }
-        let session = &self.sessions[client as usize];
-        match work_of(alloc, &self.state, session, client, &request.call) {
+        match work_of(alloc, &self.state, &self.sessions, client, &request.call) {
             Ok(work) => self.open(alloc, client, request, work),
-            Err(plan) => self.say_refused(alloc, client, request, plan),
+            Err(plan) => self.tell(alloc, client, request, plan),
         }
     }
 
@@ -144,15 +123,15 @@ impl Machine {
         request: Request,
         work: Work,
     ) -> Result<(), NoMemory>
-        requires legal { IsLegal self.old }
+        requires legal { IsLegal (parts self.old) }
         requires client { client ≤ greatest_client }
         requires lawful { IsLawfulRequest self.old.state.store.shards client request }
-        requires closed { get_or self.old.opens client None ≡ None }
-        requires work { (d : Session) → IsWorkOf self.old.state (get_or self.old.sessions client d) request.call work }
-        ensures legal { OnOk result (IsLegal self.new) }
-        ensures same { OnOk result (IsSameRun self.old self.new) }
-        ensures turn { OnOk result (Turn self.old self.new client (Some request)) }
-        ensures timed { OnOk result (OpensAt client (Some request) self.old self.new) }
+        requires closed { open_in (parts self.old) client ≡ None }
+        requires work { IsWorkOf self.old.state (session_in (parts self.old) client) request.call work }
+        ensures legal { OnOk result (IsLegal (parts self.new)) }
+        ensures same { OnOk result (IsSameRun (parts self.old) (parts self.new)) }
+        ensures opens { OnOk result (OpensAt self.old.state.store.shards client (Some request) (course_of (parts self.old))
+            (course_of (parts self.new))) }
     {
         let shards = self.state.shards();
         open_request(
@@ -167,12 +146,12 @@ impl Machine {
 
     /// Takes a step of a client, and replies where nothing is missing then.
     pub(crate) fn take(&mut self, alloc: Global, client: u32, step: Step) -> Result<(), NoMemory>
-        requires legal { IsLegal self.old }
+        requires legal { IsLegal (parts self.old) }
         requires client { client ≤ greatest_client }
-        ensures legal { OnOk result (IsLegal self.new) }
-        ensures same { OnOk result (IsSameRun self.old self.new) }
-        ensures turn { OnOk result (Turn self.old self.new client None) }
-        ensures timed { OnOk result (TakesAt self.old.state.store.shards step client self.old self.new) }
+        ensures legal { OnOk result (IsLegal (parts self.new)) }
+        ensures same { OnOk result (IsSameRun (parts self.old) (parts self.new)) }
+        ensures takes { OnOk result (TakesAt self.old.state.store.shards step client (course_of (parts self.old))
+            (course_of (parts self.new))) }
     {
         self.gather(alloc, client, step)?;
         self.advance(alloc, client, step)
@@ -180,13 +159,13 @@ impl Machine {
 
     /// The step, and what the client's open request gathers by it where it calls for it. A shard that isn't there has no steps.
     fn gather(&mut self, alloc: Global, client: u32, step: Step) -> Result<(), NoMemory>
-        requires legal { IsLegal self.old }
+        requires legal { IsLegal (parts self.old) }
         requires client { client ≤ greatest_client }
-        ensures legal { OnOk result (IsLegal self.new) }
-        ensures same { OnOk result (IsSameRun self.old self.new) }
-        ensures silent { OnOk result (IsSilent self.old self.new) }
-        ensures timed { OnOk result (GathersAt self.old.state.store.shards step client self.old self.new) }
-        ensures steps { OnOk result (StepsAt step client self.old self.new) }
+        ensures legal { OnOk result (IsLegal (parts self.new)) }
+        ensures same { OnOk result (IsSameRun (parts self.old) (parts self.new)) }
+        ensures counted { length self.old.state.applied.counts ≡ self.old.state.store.shards }
+        ensures stepped { OnOk result (course_of (parts self.new)
+            ≡ stepped self.old.state.store.shards step client (course_of (parts self.old))) }
     {
         // for the proof alone: it tells that there is a count for each shard
         let _shards = self.state.shards();
@@ -199,51 +178,89 @@ impl Machine {
     }
 
     /// Whether the client has a request open.
-    pub(crate) fn has_open(&self, client: u32) -> bool
-        requires client { client < length self.now.opens }
-        ensures { (e : Option Open) → result ≡ is_some (get_or self.now.opens client e) }
+    fn has_open(&self, client: u32) -> bool
+        requires client { client < length self.now.opens.items }
+        ensures { result ≡ is_some (open_in (parts self.now) client) }
     {
         self.opens[client as usize].is_some()
     }
 
     /// Replies to the client's open request, where nothing is missing.
     fn advance(&mut self, alloc: Global, client: u32, step: Step) -> Result<(), NoMemory>
-        requires legal { IsLegal self.old }
+        requires legal { IsLegal (parts self.old) }
         requires client { client ≤ greatest_client }
-        ensures legal { OnOk result (IsLegal self.new) }
-        ensures same { OnOk result (IsSameRun self.old self.new) }
-        ensures turn { OnOk result (Turn self.old self.new client None) }
-        ensures timed { OnOk result (RepliesAt step client self.old self.new) }
-        ensures ended { OnOk result (EndedAt step client self.old self.new) }
+        ensures legal { OnOk result (IsLegal (parts self.new)) }
+        ensures same { OnOk result (IsSameRun (parts self.old) (parts self.new)) }
+        ensures advances { OnOk result (Advances self.old.state.store.shards step client (course_of (parts self.old))
+            (course_of (parts self.new))) }
     {
-        let session = &self.sessions[client as usize];
-        let open = &self.opens[client as usize];
-        match due_open(alloc, &mut self.state, session, client, open, step) {
-            Some(Due::Reply(plan)) => self.say(alloc, client, plan),
+        match self.due(alloc, client, step) {
+            Some(Due::Reply(plan)) => self.tell_open(alloc, client, plan),
             Some(Due::Waits(_next)) => Ok(()),
             None => Ok(()),
         }
     }
 
-    /// Says why a request is refused at its opening.
-    fn say_refused(
+    /// What the client's open request, if it has one, comes to at a step.
+    pub(crate) fn due(&mut self, alloc: Global, client: u32, step: Step) -> Option<Due>
+        requires legal { IsLegal (parts self.old) }
+        requires client { client ≤ greatest_client }
+        ensures legal { IsLegal (parts self.new) }
+        ensures same { IsSameRun (parts self.old) (parts self.new) }
+        ensures still { course_of (parts self.new) ≡ course_of (parts self.old) }
+        ensures shown { shown self.new.state ≡ shown self.old.state }
+        ensures due { IsDueNow self.new.state (session_in (parts self.new) client) client step (open_in (parts self.new) client) result }
+        ensures was { IsDueNow self.new.state (session_in (parts self.old) client) client step (open_in (parts self.old) client) result }
+    {
+        due_open(
+            alloc,
+            &mut self.state,
+            &self.sessions,
+            &self.opens,
+            client,
+            step,
+        )
+    }
+
+    /// Says what is planned to the client's open request, which is closed.
+    fn tell_open(&mut self, alloc: Global, client: u32, plan: Plan) -> Result<(), NoMemory>
+        requires clients { client < length self.old.sessions.items }
+        requires places { client < length self.old.opens.items }
+        requires many { length self.old.requests ≡ length self.old.replies }
+        requires asked { is_some (open_in (parts self.old) client) ≡ true }
+        requires allowed { plan.body ≢ Body.NoMemory → IsAllowed plan.effect self.old.state (session_in (parts self.old) client) }
+        ensures { OnOk result (IsToldOpen client plan.body plan.effect (parts self.old) (parts self.new)) }
+    {
+        match self.close(client) {
+            Some(open) => self.tell(alloc, client, open.request, plan),
+            None => {
+                drop(plan);
+                Ok(())
+            }
+        }
+    }
+
+    /// Closes the client's open request, if there is one.
+    fn close(&mut self, client: u32) -> Option<Open>
+        requires { client < length self.old.opens.items }
+        ensures was { result ≡ open_in (parts self.old) client }
+        ensures closed { parts self.new ≡ closing client (parts self.old) }
+    {
+        self.opens[client as usize].take()
+    }
+
+    /// Says what is planned, and makes it so.
+    fn tell(
         &mut self,
         alloc: Global,
         client: u32,
         request: Request,
         plan: Plan,
     ) -> Result<(), NoMemory>
-        requires legal { IsLegal self.old }
-        requires client { client ≤ greatest_client }
-        requires lawful { IsLawfulRequest self.old.state.store.shards client request }
-        requires closed { get_or self.old.opens client None ≡ None }
-        requires due { (d : Session) → IsDuePlan self.old.state (get_or self.old.sessions client d) client request.call []
-            plan.body plan.effect }
-        requires told { (d : Session) → ToldAlways self.old.state (get_or self.old.sessions client d) plan.body plan.effect }
-        ensures legal { OnOk result (IsLegal self.new) }
-        ensures same { OnOk result (IsSameRun self.old self.new) }
-        ensures turn { OnOk result (Turn self.old self.new client (Some request)) }
-        ensures timed { OnOk result (OpensAt client (Some request) self.old self.new) }
+        requires clients { client < length self.old.sessions.items }
+        requires many { length self.old.requests ≡ length self.old.replies }
+        requires allowed { plan.body ≢ Body.NoMemory → IsAllowed plan.effect self.old.state (session_in (parts self.old) client) }
+        ensures { OnOk result (IsToldAs client request plan.body plan.effect (parts self.old) (parts self.new)) }
     {
         if is_no_memory(&plan.body) {
             drop(plan);
@@ -261,71 +278,20 @@ impl Machine {
         }
     }
 
-    /// Says what is planned, and makes it so.
-    fn say(&mut self, alloc: Global, client: u32, plan: Plan) -> Result<(), NoMemory>
-        requires legal { IsLegal self.old }
-        requires client { client ≤ greatest_client }
-        requires due { (d : Session) (e : Option Open) → IsDueTo self.old.state (get_or self.old.sessions client d) client
-            (get_or self.old.opens client e) plan.body plan.effect }
-        ensures legal { OnOk result (IsLegal self.new) }
-        ensures same { OnOk result (IsSameRun self.old self.new) }
-        ensures turn { OnOk result (Turn self.old self.new client None) }
-        ensures timed { (step : Step) → ((d : Session) (e : Option Open) → IsToldTo self.old.state (get_or self.old.sessions client d) step
-            (get_or self.old.opens client e) plan.body plan.effect) → OnOk result (RepliesAt step client self.old self.new) }
-        ensures ended { (step : Step) → ((d : Session) (e : Option Open) → IsToldTo self.old.state (get_or self.old.sessions client d) step
-            (get_or self.old.opens client e) plan.body plan.effect) → OnOk result (EndedAt step client self.old self.new) }
-    {
-        if is_no_memory(&plan.body) {
-            drop(plan);
-            return Err(AllocError);
-        }
-        let Plan { body, effect } = plan;
-        match self.perform(alloc, client, effect) {
-            Ok(()) => match self.close(client) {
-                Some(opened) => self.note_opened(client, opened, body),
-                None => {
-                    drop(body);
-                    Ok(())
-                }
-            },
-            Err(refused) => {
-                drop(body);
-                Err(refused)
-            }
-        }
-    }
-
-    /// Closes the client's open request, if there is one.
-    fn close(&mut self, client: u32) -> Option<Open>
-        requires { client < length self.old.opens }
-        ensures was { (d : Option Open) → result ≡ get_or self.old.opens client d }
-        ensures closed { self.new ≡ record self.old { opens = slice_set self.old.opens client None } }
-    {
-        self.opens[client as usize].take()
-    }
-
     /// Takes effect. A refusal is want of memory.
     fn perform(&mut self, alloc: Global, client: u32, effect: Effect) -> Result<(), NoMemory>
-        requires client { client < length self.old.sessions }
-        requires allowed { (d : Session) → IsAllowed effect self.old.state (get_or self.old.sessions client d) }
-        ensures { OnOk result ((d : Session) → self.new ≡ performed effect client d self.old) }
+        requires client { client < length self.old.sessions.items }
+        requires allowed { IsAllowed effect self.old.state (session_in (parts self.old) client) }
+        ensures { OnOk result (parts self.new ≡ performed effect client (parts self.old)) }
     {
         let session = &mut self.sessions[client as usize];
         self.state.take(alloc, session, effect)
     }
 
-    /// Puts the request that was open and its reply behind the others.
-    fn note_opened(&mut self, client: u32, opened: Open, body: Body) -> Result<(), NoMemory>
-        requires many { length self.old.requests ≡ length self.old.replies }
-        ensures { OnOk result (self.new ≡ noted client opened.request body self.old) }
-    {
-        self.note(client, opened.request, body)
-    }
-
     /// Puts a request and its reply behind the others.
     fn note(&mut self, client: u32, request: Request, body: Body) -> Result<(), NoMemory>
         requires many { length self.old.requests ≡ length self.old.replies }
-        ensures { OnOk result (self.new ≡ noted client request body self.old) }
+        ensures { OnOk result (parts self.new ≡ noted client request body (parts self.old)) }
     {
         match put(&mut self.requests, request) {
             Ok(()) => {

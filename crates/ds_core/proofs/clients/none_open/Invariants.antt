@@ -1,5 +1,4 @@
-use Rattle.std.proofs.Common.{◌≡◌, None}
-use Rattle.std.specs.Prelude.{replicate}
+use Rattle.ds_core.proofs.Words.{◌≡◌, None, replicate}
 use Rattle.ds_core.proofs.clients.none_open.Given as goal
 
 abbrev pub invariant-loop-client : goal.invariant-loop-client

@@ -1,35 +1,21 @@
-use Rattle.std.proofs.Common.{subst, Some, sym}
-use Rattle.ds_core.specs.Machines.{IsOpen, IsDueNow}
-use Rattle.ds_core.specs.Witnesses.{IsToldNow}
-use Rattle.ds_machine.proofs.OperationPlans.{gathered_there}
-use Rattle.ds_core.proofs.Ended.{due-now, told-due}
-use Rattle.ds_core.proofs.Places.{open-viewed}
+use Rattle.ds_core.proofs.Words.{subst, Some, get_or, first_session, IsDueNow, looked-shown}
+use Rattle.ds_core.proofs.Changing.{due-now}
+use Rattle.ds_core.proofs.Places.{open-ready}
 use Rattle.ds_core.proofs.opened.due_open.Goals as goal
-use Rattle.ds_machine.proofs.Growing.{looked-shown}
 
-pub due-requires-clause-work : goal.due-requires-clause-work
-due-requires-clause-work c = (subst (IsOpen c.args.state.now c.args.client c.args.session.now) c.in-Some.is c.requires.lawful).4.1
-
-pub due-requires-clause-gathered : goal.due-requires-clause-gathered
-due-requires-clause-gathered c =
-    let is = subst (IsOpen c.args.state.now c.args.client c.args.session.now) c.in-Some.is c.requires.lawful in
-    gathered_there c.args.state.now c.args.session.now c.in-Some.opened.work.operation c.in-Some.opened.request.call
-    c.in-Some.opened.gathered is.4.0 is.3
-
-pub due-requires-clause-views : goal.due-requires-clause-views
-due-requires-clause-views c =
-    open-viewed c.args.state.now c.args.client c.args.session.now c.in-Some.opened
-    (subst (IsOpen c.args.state.now c.args.client c.args.session.now) c.in-Some.is c.requires.lawful) c.shards-shards.ensures.counts
+pub due-requires : goal.due-requires
+due-requires c =
+    let ready = open-ready c.args.state.now c.args.client _ c.session_at.result.now _ c.in-Some.open.now c.session_at.ensures
+    c.in-Some.ensures c.requires.seen c.requires.lawful c.shards-shards.ensures.counts in
+    record { work = ready.work; seen = ready.seen; gathered = ready.gathered; views = ready.views }
 
 pub returns-in-Some-clause-due : goal.returns-in-Some-clause-due
 returns-in-Some-clause-due c =
-    let is = subst (IsOpen c.args.state.now c.args.client c.args.session.now) c.in-Some.is c.requires.lawful in
-    subst (λ o. IsDueNow c.due.new.self c.args.session.now c.args.client c.args.taken o (Some c.due.result)) (sym c.in-Some.is)
-    (due-now c.args.state.now c.due.new.self c.args.session.now c.args.client c.args.taken c.in-Some.opened c.due.result
-    (looked-shown c.args.state.now c.due.new.self c.due.ensures.store c.due.ensures.counts) is.4.0 c.due.ensures.plan c.due.ensures.next)
-
-pub returns-in-Some-clause-told : goal.returns-in-Some-clause-told
-returns-in-Some-clause-told c =
-    subst (λ o. IsToldNow c.due.new.self c.args.session.now c.args.taken o (Some c.due.result)) (sym c.in-Some.is)
-    (told-due c.args.state.now c.due.new.self c.args.session.now c.args.taken c.in-Some.opened c.due.result
-    (looked-shown c.args.state.now c.due.new.self c.due.ensures.store c.due.ensures.counts) c.due.ensures.told c.due.ensures.next)
+    let ready = open-ready c.args.state.now c.args.client _ c.session_at.result.now _ c.in-Some.open.now c.session_at.ensures
+    c.in-Some.ensures c.requires.seen c.requires.lawful c.shards-shards.ensures.counts in
+    subst (λ o. IsDueNow c.due.new.self (get_or c.args.sessions.now.items c.args.client (first_session 0)) c.args.client c.args.taken o
+    (Some c.due.result)) c.in-Some.ensures
+    (subst (λ s. IsDueNow c.due.new.self s c.args.client c.args.taken (Some c.in-Some.open.now) (Some c.due.result)) c.session_at.ensures
+    (due-now c.args.state.now c.due.new.self c.session_at.result.now c.args.client c.args.taken c.in-Some.open.now c.due.result
+    (looked-shown c.args.state.now c.due.new.self c.due.ensures.store c.due.ensures.counts) ready.of c.due.ensures.plan c.due.ensures.told
+    c.due.ensures.next))

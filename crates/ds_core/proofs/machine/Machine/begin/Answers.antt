@@ -1,58 +1,29 @@
-use Rattle.std.proofs.Common.{◌∙◌, subst, sym, None, Some, IsTrue, []}
-use Rattle.ds_core.specs.Machines.{MachineParts, IsWorkOf}
-use Rattle.ds_core.proofs.OneClient.{client-open}
-use Rattle.ds_core.proofs.GatheredSteps.{begun-before, called-any, called-seen, closed-one}
-use Rattle.ds_core.proofs.Taking.{opens-had}
+use Rattle.ds_core.proofs.Words.{◌∙◌, ap, sym, Some, is_some, parts, course_of}
+use Rattle.ds_core.proofs.Calls.{ok-three}
+use Rattle.ds_core.proofs.Changing.{closed-one, due_told, refused-changes, still-opens}
+use Rattle.ds_core.proofs.Legals.{as-many}
 use Rattle.ds_core.proofs.machine.Machine.begin.Goals as goal
-use Rattle.ds_machine.specs.Missing.{shown}
-use Rattle.ds_core.specs.Takings.{open_of, session_of}
-use Rattle.ds_core.specs.Happenings.{moment_of}
-use Rattle.ds_model.specs.Asked.{has_shard}
-use Rattle.ds_core.proofs.Ended.{begun-had}
-use Rattle.ds_machine.specs.Told.{ToldAlways}
-use Rattle.ds_machine.specs.Due.{IsDuePlan}
 
-pub has_open-requires : goal.has_open-requires
-has_open-requires c = record { client = client-open c.args.self.now c.requires.legal c.args.client c.requires.client }
-
-pub returns-then-has_open-clause-turn : goal.returns-then-has_open-clause-turn
-returns-then-has_open-clause-turn c =
-    begun-before c.args.self.now c.requires.legal c.args.client c.requires.client c.args.request
-    (sym (c.has_open.ensures None) ∙ c.if-has_open.true)
-
-pub returns-then-has_open-clause-timed : goal.returns-then-has_open-clause-timed
-returns-then-has_open-clause-timed c =
-    opens-had c.args.self.now c.args.client (Some c.args.request)
-    (begun-had (shown c.args.self.now.state) (session_of (moment_of c.args.self.now) c.args.client)
-    (open_of (moment_of c.args.self.now) c.args.client) c.args.request (sym (c.has_open.ensures None) ∙ c.if-has_open.true))
-
-pub work_of-requires-clause-shard : goal.work_of-requires-clause-shard
-work_of-requires-clause-shard c =
-    subst (λ (x : MachineParts). IsTrue (has_shard x.state.store.shards c.args.request.call)) (sym c.self.view_is) c.requires.lawful.2
+pub returns-then-has_open-clause-opens : goal.returns-then-has_open-clause-opens
+returns-then-has_open-clause-opens c =
+    still-opens c.args.self.now.state.store.shards c.args.client (Some c.args.request) (course_of (parts c.args.self.now))
+    (λ none. let never = sym (ap is_some none) ∙ (sym c.has_open.ensures ∙ c.if-has_open.true) in cc)
 
 pub work_of-requires-clause-seen : goal.work_of-requires-clause-seen
-work_of-requires-clause-seen c =
-    called-seen _ _ c.self.view_is c.requires.legal c.args.client c.requires.client c.index-session.result.now c.index-session.ensures
+work_of-requires-clause-seen c = (c.requires.legal.opens c.args.client c.requires.client).0
 
 pub open-requires-clause-closed : goal.open-requires-clause-closed
-open-requires-clause-closed c = closed-one _ (sym (c.has_open.ensures None) ∙ c.if-has_open.false)
+open-requires-clause-closed c = closed-one _ (sym c.has_open.ensures ∙ c.if-has_open.false)
 
-pub open-requires-clause-work : goal.open-requires-clause-work
-open-requires-clause-work c =
-    called-any _ _ c.self.view_is c.requires.legal c.args.client c.requires.client (λ st s. IsWorkOf st s c.args.request.call c.in-Ok.work)
-    c.index-session.result.now c.index-session.ensures c.in-Ok.ensures.work
+pub tell-requires-clause-many : goal.tell-requires-clause-many
+tell-requires-clause-many c = as-many (parts c.args.self.now) c.requires.legal
 
-pub say_refused-requires-clause-closed : goal.say_refused-requires-clause-closed
-say_refused-requires-clause-closed c = closed-one _ (sym (c.has_open.ensures None) ∙ c.if-has_open.false)
+pub tell-requires-clause-allowed : goal.tell-requires-clause-allowed
+tell-requires-clause-allowed c = λ told. (due_told _ _ _ _ _ _ _ told c.in-Err.ensures.refused).allowed
 
-pub say_refused-requires-clause-due : goal.say_refused-requires-clause-due
-say_refused-requires-clause-due c =
-    called-any _ _ c.self.view_is c.requires.legal c.args.client c.requires.client
-    (λ st s. IsDuePlan st s c.args.client c.args.request.call [] c.in-Err.plan.body c.in-Err.plan.effect)
-    c.index-session.result.now c.index-session.ensures c.in-Err.ensures.refused
-
-pub say_refused-requires-clause-told : goal.say_refused-requires-clause-told
-say_refused-requires-clause-told c =
-    called-any _ _ c.self.view_is c.requires.legal c.args.client c.requires.client
-    (λ st s. ToldAlways st s c.in-Err.plan.body c.in-Err.plan.effect)
-    c.index-session.result.now c.index-session.ensures c.in-Err.ensures.told
+pub returns-in-Err : goal.returns-in-Err
+returns-in-Err c =
+    let all = ok-three c.tell.result (refused-changes (parts c.args.self.now) c.requires.legal c.args.client c.requires.client
+    c.args.request (closed-one _ (sym c.has_open.ensures ∙ c.if-has_open.false)) c.in-Err.plan.body c.in-Err.plan.effect
+    (parts c.tell.new.self) c.requires.lawful.0 c.in-Err.ensures.refused c.in-Err.ensures.told) c.tell.ensures in
+    record { legal = all.0; same = all.1; opens = all.2 }

@@ -1,7 +1,4 @@
-use Rattle.std.proofs.Common.{◌≡◌, ◌+◌, None, arith, refl, subst, sym, take, suc, ◌≤◌}
-use Rattle.std.specs.Prelude.{replicate}
-use Rattle.ds_base.specs.Limits.{greatest_client}
-use Rattle.ds_core.proofs.OneClient.{client-open, many-opens}
+use Rattle.ds_core.proofs.Words.{◌≡◌, ◌+◌, None, arith, refl, subst, suc, sym, take, replicate, parts, GoesOn, course_of}
 use Rattle.ds_core.proofs.Happened.{goes-none, goes-then}
 use Rattle.ds_core.proofs.Legals.{same-run}
 use Rattle.ds_core.proofs.Remaining.{all-closed, closed-more}
@@ -13,28 +10,29 @@ loop-client-init c = record {
   same = (refl, refl);
   closed = refl;
   waiting = c.requires.waiting;
-  goes = goes-none c.args.self.now c.args.self.now refl;
+  goes = goes-none c.args.self.now.state.store.shards (course_of (parts c.args.self.now));
 }
 
 pub loop-client-preserved : goal.loop-client-preserved
 loop-client-preserved c =
-    let was = c.loop-client.self in
-    let is = c.finish_client.new.self in
+    let first = parts c.args.self.now in
+    let was = parts c.loop-client.self in
+    let is = parts c.finish_client.new.self in
     let taken = c.in_ok-finish_client.ensures in
-    let bound : c.loop-client.client ≤ greatest_client = omega arith in
     record {
       legal = taken.legal;
-      same = same-run c.args.self.now was is c.loop-client.invariant.same taken.same;
+      same = same-run first was is c.loop-client.invariant.same taken.same;
       closed = subst (λ n. take n is.opens ≡ replicate n None)
           (let more : suc c.loop-client.client ≡ c.loop-client.client + 1 = omega arith in more)
           (subst (λ os. take (suc c.loop-client.client) os ≡ replicate (suc c.loop-client.client) None) (sym taken.closed)
-          (closed-more was.opens c.loop-client.client (client-open was c.loop-client.invariant.legal c.loop-client.client bound)
+          (closed-more was.opens c.loop-client.client (omega (arith, c.loop-client.invariant.legal.places))
           c.loop-client.invariant.closed));
       waiting = taken.waiting;
-      goes = goes-then c.args.self.now was is c.loop-client.invariant.goes taken.goes;
+      goes = goes-then first.state.store.shards (course_of first) (course_of was) (course_of is) c.loop-client.invariant.goes
+          (subst (λ k. GoesOn k (course_of was) (course_of is)) c.loop-client.invariant.same.1 taken.goes);
     }
 
 pub returns-clause-closed : goal.returns-clause-closed
 returns-clause-closed c =
-    all-closed c.loop-client.self.opens c.loop-client.client (omega arith) (many-opens c.loop-client.self c.loop-client.invariant.legal)
+    all-closed c.loop-client.self.opens.items c.loop-client.client (omega arith) c.loop-client.invariant.legal.places
     c.loop-client.invariant.closed

@@ -1,38 +1,24 @@
-use Rattle.std.proofs.Common.{◌<◌, arith, length, subst, sym}
-use Rattle.ds_core.specs.Machines.{MachineParts}
-use Rattle.ds_core.proofs.Calls.{ok-then}
-use Rattle.ds_core.proofs.OneClient.{client-open}
-use Rattle.ds_core.proofs.GatheredSteps.{called-step, called-steppable}
-use Rattle.ds_core.proofs.TimedSteps.{timed-step, timed-steps}
+use Rattle.ds_core.proofs.Words.{◌≡◌, ◌∙◌, None, arith, subst, sym, IfSome, open_in, parts, session_in, IsSteppable, SteppedTo}
+use Rattle.std.proofs.lemmas.List.{get_or_default}
+use Rattle.ds_core.proofs.Calls.{ok-three}
+use Rattle.ds_core.proofs.Gathers.{step-legal}
+use Rattle.ds_core.proofs.Places.{open-steppable}
 use Rattle.ds_core.proofs.machine.Machine.gather.Goals as goal
-
-pub index_mut-requires : goal.index_mut-requires
-index_mut-requires c =
-    let there = subst (λ (x : MachineParts). c.args.client < length x.opens) (sym c.self.view_is)
-    (client-open c.args.self.now c.requires.legal c.args.client c.requires.client) in
-    omega (arith, there, c.self.inside.opens.ok.0)
 
 pub step_open-requires : goal.step_open-requires
 step_open-requires c =
-    called-steppable _ _ c.self.view_is c.requires.legal c.args.client c.requires.client c.index_mut.result.now
-    c.shards-shards.ensures.counts
-    c.index_mut.ensures.value
+    subst (λ o. IfSome o (λ p. IsSteppable c.args.self.now.state p.gathered))
+    (sym (c.index_mut.ensures.value ∙ get_or_default c.args.self.now.opens.items c.args.client c.index_mut.result.now None (omega arith)))
+    (open-steppable c.args.self.now.state c.args.client (session_in (parts c.args.self.now) c.args.client)
+    (open_in (parts c.args.self.now) c.args.client) (c.requires.legal.opens c.args.client c.requires.client).1
+    c.shards-shards.ensures.counts)
 
 pub returns : goal.returns
 returns c =
-    let stepped = called-step _ _ c.self.view_is c.requires.legal c.args.client c.requires.client c.step_open.result c.step_open.new.state
-    c.args.step
-    c.index_mut.result.now c.step_open.new.opened c.shards-shards.ensures.counts c.step_open.ensures.grows c.index_mut.ensures.value
+    let had : c.index_mut.result.now ≡ open_in (parts c.args.self.now) c.args.client = c.index_mut.ensures.value
+    ∙ get_or_default c.args.self.now.opens.items c.args.client c.index_mut.result.now None (omega arith) in
+    let all = ok-three c.step_open.result (λ is. step-legal (parts c.args.self.now) c.requires.legal c.args.client c.requires.client
+    c.shards-shards.ensures.counts c.step_open.new.state c.args.step c.step_open.ensures.grows c.step_open.new.opened
+    (subst (λ o. SteppedTo c.args.step c.args.self.now.state o c.step_open.new.state c.step_open.new.opened) had is))
     c.step_open.ensures.stepped in
-    record {
-      legal = stepped.0;
-      same = stepped.1;
-      silent = stepped.2;
-      timed = ok-then c.step_open.result (timed-step _ _ c.self.view_is c.requires.legal c.args.client c.requires.client
-          c.step_open.new.state
-          c.args.step c.index_mut.result.now c.step_open.new.opened c.shards-shards.ensures.counts c.index_mut.ensures.value)
-          c.step_open.ensures.stepped;
-      steps = ok-then c.step_open.result (timed-steps _ _ c.self.view_is c.requires.legal c.args.client c.requires.client
-          c.step_open.new.state c.args.step c.index_mut.result.now c.step_open.new.opened c.index_mut.ensures.value)
-          c.step_open.ensures.stepped;
-    }
+    record { legal = all.0; same = all.1; counted = c.shards-shards.ensures.counts; stepped = all.2 }
