@@ -9,7 +9,7 @@ use Rattle.ds_core.proofs.Words.{gathered_of}
 use Rattle.ds_entity.specs.declared.results.Seen.{Seen}
 use Rattle.ds_reply.specs.declared.reply.WriteAt.{WriteAt}
 use Rattle.ds_model.specs.Legal.{written_commit}
-use Rattle.ds_machine.specs.Told.{AreViewsOf, IsCommitBy, IsCountBy, IsPlaceOf, IsSeenBy, IsWriteAt}
+use Rattle.ds_machine.specs.Told.{AreViewsOf, IsCommitBy, IsCountBy, IsTouchedPlace, IsSeenBy, IsWriteAt}
 use Rattle.ds_core.specs.Timelines.{AreViews, IsAppliedThen, IsDrawnThen, IsPrintedThen, IsSeenThen, IsWrittenThen}
 use Rattle.ds_entity.specs.declared.results.Seen.TheVariants as seen
 use Rattle.ds_request.specs.declared.call.Call.TheVariants as call
@@ -74,7 +74,7 @@ pub record IsOwn (hs : List Happening) (s : Step) (client : ℕ) (st : Shown) (n
 
 module _ (hs : List Happening) (client : ℕ) (c : Call) (g : GatheredParts) (s : Session) (are : IsGatheredThen hs client c g)
     (touches : IsTouchedThen hs client s) where
-  place-then : (place : ℕ) → IsPlaceOf s g place → Occurs (IsTouch client place) hs
+  place-then : (place : ℕ) → IsTouchedPlace s g place → Occurs (IsTouch client place) hs
   place-then place (inl is) = are.place place is
   place-then place (inr (group, is)) = touches group place is
 

@@ -18,7 +18,7 @@ use Rattle.ds_effects.specs.Gathered.{GatheredParts}
 use Rattle.ds_machine.specs.Due.{ids_of}
 use Rattle.ds_machine.specs.Missing.{Shown, shown}
 use Rattle.ds_machine.specs.States.{StateParts}
-use Rattle.ds_machine.specs.Told.{IsPlaceOf}
+use Rattle.ds_machine.specs.Told.{IsTouchedPlace}
 use Rattle.ds_protocol.specs.Operations.{IsOperationOf, ids_asked}
 use Rattle.ds_core.specs.declared.opened.Open.{Open}
 use Rattle.ds_core.specs.Happenings.{Follow, Happening, Moment, Said, first_moment, moment_of, replies_in, requests_in, said_replies}
@@ -73,7 +73,7 @@ pub record StandsOn (client : ℕ) (step : Step) (g : GatheredParts) (x : Said) 
   pub own : x.request.client ≡ client
   pub draws : drawn_by_call x.request.call x.reply.body ≡ ids_of x.request.call g
   pub shard : OfShard x.request.call x.reply.body
-  pub touches : (group : KeyParts) (place : ℕ) → place_in later.transaction group ≡ Some place → IsPlaceOf s g place
+  pub touches : (group : KeyParts) (place : ℕ) → place_in later.transaction group ≡ Some place → IsTouchedPlace s g place
   pub added : List Commit
   pub journal : new ≡ old ++ added
   pub acknowledges : acknowledged_in x.reply.body ≡ range_with_len (length old + 1) (length added)

@@ -6,7 +6,7 @@ use Rattle.ds_machine.proofs.Words.{Transaction, Search, found, Effect, GroupRea
 use Rattle.ds_machine.proofs.Words.{with_write, shown, told_over, StateParts, is_quiet, tells_no_step, eqb-true, none-some, is_touched}
 use Rattle.ds_machine.proofs.Words.{touching_if}
 use Rattle.ds_effects.specs.declared.effect.GroupWrite.{GroupWrite}
-use Rattle.ds_machine.specs.Told.{AreNumbersOf, IsPlaceOf, IsSeenBy, IsTold, ToldAlways, is_refusal, is_silent, tells_now}
+use Rattle.ds_machine.specs.Told.{AreNumbersOf, IsTouchedPlace, IsSeenBy, IsTold, ToldAlways, is_refusal, is_silent, tells_now}
 use Rattle.ds_reply.specs.declared.reply.Body.TheVariants as body
 use Rattle.ds_reply.specs.declared.reply.WriteAt.TheVariants as stands
 use Rattle.ds_effects.specs.declared.effect.Effect.TheVariants as effect
@@ -35,9 +35,9 @@ write-place None g w p is = inl is
 write-place (Some t) g w p is = touched g w.group w.place p t.touched is
 
 module _ (s : Session) (g : GatheredParts) where
-  one_of : (group : KeyParts) (m p : ℕ) → IsPlaceOf s g m → (place_in s.transaction group ≡ Some p) ⊎ (m ≡ p) → IsPlaceOf s g p
+  one_of : (group : KeyParts) (m p : ℕ) → IsTouchedPlace s g m → (place_in s.transaction group ≡ Some p) ⊎ (m ≡ p) → IsTouchedPlace s g p
   one_of group m p place (inl is) = inr (group, is)
-  one_of group m p place (inr is) = subst (IsPlaceOf s g) is place
+  one_of group m p place (inr is) = subst (IsTouchedPlace s g) is place
 
 -- ---- refusals
 
@@ -81,7 +81,8 @@ module _ (st : StateParts) (s : Session) (b : Body) (g : GatheredParts) (step : 
     commits = commits;
   }
 
-  pub read-told : (r : GroupRead) → AreNumbersOf (shown st) s g step b → IsPlaceOf s g r.place → IsTold st s g step b (effect.ReadGroup r)
+  pub read-told : (r : GroupRead) → AreNumbersOf (shown st) s g step b → IsTouchedPlace s g r.place
+      → IsTold st s g step b (effect.ReadGroup r)
   read-told r numbers place = record {
     numbers = numbers;
     touches = λ group m is. one_of s g group r.place m place (read-place s.transaction group r.group r.place m is);
@@ -113,7 +114,8 @@ search-numbers st s g step r n w es looked b is seen = rw is (by r.statement) wh
 -- ---- writes
 
 module _ (st : StateParts) (s : Session) (g : GatheredParts) (step : Step) (key : KeyParts) where
-  pub group-told : (w : GroupWrite) → IsPlaceOf s g w.place → IsTold st s g step (body.Put key (stands.Place w.place)) (effect.WriteGroup w)
+  pub group-told : (w : GroupWrite) → IsTouchedPlace s g w.place
+      → IsTold st s g step (body.Put key (stands.Place w.place)) (effect.WriteGroup w)
   group-told w place = record {
     numbers = place;
     touches = λ k m is. one_of s g k w.place m place (write-place s.transaction k w m is);

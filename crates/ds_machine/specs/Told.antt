@@ -22,8 +22,8 @@ use Rattle.ds_machine.specs.States.{StateParts}
 use Rattle.ds_machine.specs.Missing.{Shown, shown}
 
 -- the place is that of the request's Touch, or one at which the client's transaction touched a group
-abbrev pub IsPlaceOf : Session → GatheredParts → ℕ → Type 0
-IsPlaceOf s g place = (g.place ≡ Some place) ⊎ ((group : KeyParts) × (place_in s.transaction group ≡ Some place))
+abbrev pub IsTouchedPlace : Session → GatheredParts → ℕ → Type 0
+IsTouchedPlace s g place = (g.place ≡ Some place) ⊎ ((group : KeyParts) × (place_in s.transaction group ≡ Some place))
 
 -- the counts are those of the request's Views, one for each shard
 abbrev pub AreViewsOf : GatheredParts → List ℕ → Type 0
@@ -35,12 +35,12 @@ IsCommitBy st step n = (step ≡ steps.Commit) × (n ≡ length st.journal + 1)
 
 -- where a write stands
 abbrev pub IsWriteAt : Shown → Session → GatheredParts → Step → WriteAt → Type 0
-IsWriteAt st s g step (at.Place m) = IsPlaceOf s g m
+IsWriteAt st s g step (at.Place m) = IsTouchedPlace s g m
 IsWriteAt st s g step (at.Commit n) = IsCommitBy st step n
 
 -- what a search saw
 abbrev pub IsSeenBy : Session → GatheredParts → Seen → Type 0
-IsSeenBy s g (seen.Place m) = IsPlaceOf s g m
+IsSeenBy s g (seen.Place m) = IsTouchedPlace s g m
 IsSeenBy s g (seen.Counts counts) = AreViewsOf g counts
 
 -- The entries of a shard: with true as many as the request's own Apply left applied, and with false as many as are applied, which the step,
@@ -54,7 +54,7 @@ IsCountBy st g step false count shard = (step ≡ steps.View shard) × (count �
 abbrev pub AreNumbersOf : Shown → Session → GatheredParts → Step → Body → Type 0
 AreNumbersOf st s g step (body.Put key written) = IsWriteAt st s g step written
 AreNumbersOf st s g step (body.Delete key written) = IsWriteAt st s g step written
-AreNumbersOf st s g step (body.Get entity m) = IsPlaceOf s g m
+AreNumbersOf st s g step (body.Get entity m) = IsTouchedPlace s g m
 AreNumbersOf st s g step (body.Query select results looked cursor) = IsSeenBy s g looked
 AreNumbersOf st s g step (body.Gql select results looked cursor) = IsSeenBy s g looked
 AreNumbersOf st s g step (body.Commit n) = IsCommitBy st step n
@@ -71,7 +71,7 @@ AreNumbersOf st s g step _ = ⊤
 pub record IsTold (st : StateParts) (s : Session) (g : GatheredParts) (step : Step) (said : Body) (change : Effect) : Type 0 where
   pub numbers : AreNumbersOf (shown st) s g step said
   pub touches : (group : KeyParts) (place : ℕ) → place_in (session_after change st.store s).transaction group ≡ Some place
-      → IsPlaceOf s g place
+      → IsTouchedPlace s g place
   pub commits : (step ≡ steps.Commit) ⊎ (store_after change st.store ≡ st.store)
 
 -- the read of a group for an open request that misses nothing: it may be read there, its shard has applied its entries up to there, and the
@@ -80,7 +80,7 @@ pub record IsGroupRead (st : StateParts) (s : Session) (g : GatheredParts) (grou
   pub allowed : group_refusal s.transaction (Some group) ≡ None
   pub stands : ReadsAt st.store.journal s group r.place
   pub reached : IsReached st group r
-  pub place : IsPlaceOf s g r.place
+  pub place : IsTouchedPlace s g r.place
   pub lawful : IsTrue (is_key group)
 
 -- ---- refusals

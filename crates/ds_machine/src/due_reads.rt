@@ -10,7 +10,7 @@ ghost use Rattle.ds_machine.specs.Queries.{IsPrepared};
 ghost use Rattle.ds_machine.specs.ReadDues.{IsNextRead, IsReadDue};
 ghost use Rattle.ds_machine.specs.Reads.{IsPulled};
 ghost use Rattle.ds_machine.specs.States.{IsSession};
-ghost use Rattle.ds_machine.specs.Told.{IsPlaceOf};
+ghost use Rattle.ds_machine.specs.Told.{IsTouchedPlace};
 ghost use Rattle.ds_machine.specs.Turns.{ComesTo, IsTurn};
 
 use crate::due::Turn;
@@ -84,7 +84,7 @@ impl State {
         requires place { IfSome turn.now.gathered.now.place (IsSeenPlace self.now.store.journal turn.now.session.now) }
         ensures value { result ≡ place_read turn.now.session.now turn.now.gathered.now group.now }
         ensures stands { IfSome result (λ m. ReadsAt self.now.store.journal turn.now.session.now group.now m) }
-        ensures told { IfSome result (IsPlaceOf turn.now.session.now turn.now.gathered.now) }
+        ensures told { IfSome result (IsTouchedPlace turn.now.session.now turn.now.gathered.now) }
     {
         match turn.session.touch_place(group) {
             Some(place) => Some(place),

@@ -8,7 +8,7 @@ ghost use Rattle.ds_protocol.specs.Finishing.{AreByKey};
 ghost use Rattle.ds_protocol.specs.Quiet.{IsQuiet};
 ghost use Rattle.ds_protocol.specs.Searches.{IsSearchOf};
 ghost use Rattle.ds_machine.specs.Queries.{IsGroupSearch, IsPrepared, told_over};
-ghost use Rattle.ds_machine.specs.Told.{IsPlaceOf};
+ghost use Rattle.ds_machine.specs.Told.{IsTouchedPlace};
 ghost use Rattle.ds_machine.specs.Turns.{IsDueIn, IsToldIn, IsTurn};
 
 use crate::due::Turn;
@@ -34,7 +34,7 @@ impl State {
     ) -> Plan
         requires prepared { IsPrepared self.now turn.now.session.now search.now ready.now }
         requires reached { IsGroupSearch self.now turn.now.session.now search.now read }
-        requires place { IsPlaceOf turn.now.session.now turn.now.gathered.now read.place }
+        requires place { IsTouchedPlace turn.now.session.now turn.now.gathered.now read.place }
         ensures plan { (call : Call) → IsSearchOf call search.now → IsDueIn self.now turn.now call result }
         ensures told { IsToldIn self.now turn.now result }
     {

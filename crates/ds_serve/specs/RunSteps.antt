@@ -1,4 +1,4 @@
--- What each step of a run leaves, told of the sessions before and after it: the words of the proof of the main theorem, which itself
+-- What each round of a run leaves, told of the sessions before and after it: the words of the proof of the main theorem, which itself
 -- doesn't speak of them.
 use Rattle.std.specs.Prelude.{◌≡◌, ◌⊎◌, ℕ, List, [], Bool, true, Option, Some, IfSome, IsSome, length, ⊤}
 use Rattle.std.specs.Io.KnownBytes.{Appends, Consumes}
@@ -14,9 +14,9 @@ use Rattle.ds_words.specs.declared.status.Status.{Status}
 use Rattle.ds_words.specs.declared.status.Status.TheVariants as status
 use Rattle.ds_serve.specs.declared.outcome.Run.{Run}
 use Rattle.ds_serve.specs.declared.settings.Setting.{Setting}
-use Rattle.ds_serve.specs.declared.stopped.Step.{Step}
+use Rattle.ds_serve.specs.declared.stopped.RoundOutcome.{RoundOutcome}
 use Rattle.ds_serve.specs.declared.stopped.Stopped.{Stopped}
-use Rattle.ds_serve.specs.declared.stopped.Step.TheVariants as step
+use Rattle.ds_serve.specs.declared.stopped.RoundOutcome.TheVariants as outcome
 
 -- so far the reader's rounds were read, run as these words and their file set it up, and their replies written
 pub record HasServed (words : List (List ℕ)) (content : List ℕ → Option (List ℕ)) (left_first left held_first held : Option (List ℕ))
@@ -51,27 +51,27 @@ status_of refused.ReadFault = status.ReadFault
 status_of refused.InputLimit = status.InputLimit
 status_of refused.NoMemory = status.NoMemory
 
--- what holds of how a run has stopped, where a step of it is the last one
-abbrev pub WhereStopped : (Stopped → Type 0) → Step → Type 0
-WhereStopped P step.Served = ⊤
-WhereStopped P (step.Stopped s) = P s
+-- what holds of how a run has stopped, where a round of it is the last one
+abbrev pub WhereStopped : (Stopped → Type 0) → RoundOutcome → Type 0
+WhereStopped P outcome.Served = ⊤
+WhereStopped P (outcome.Stopped s) = P s
 
--- what a step of the server leaves: the run goes on, or has stopped
-abbrev pub Leaves : List (List ℕ) → (List ℕ → Option (List ℕ)) → Step → Option (List ℕ) → Option (List ℕ) → Option (List ℕ)
+-- what a round leaves: the run goes on, or has stopped
+abbrev pub Leaves : List (List ℕ) → (List ℕ → Option (List ℕ)) → RoundOutcome → Option (List ℕ) → Option (List ℕ) → Option (List ℕ)
     → Option (List ℕ) → ReaderParts → Setting → List SessionParts → Type 0
-Leaves words content step.Served left_first left held_first held reader setting now =
+Leaves words content outcome.Served left_first left held_first held reader setting now =
     HasServed words content left_first left held_first held reader setting now
-Leaves words content (step.Stopped s) left_first left held_first held reader setting now =
+Leaves words content (outcome.Stopped s) left_first left held_first held reader setting now =
     HasStopped words content s.status left_first left held_first held s.unsent setting now
 
--- the counts of faults after a step
-abbrev pub step_read_faults : Step → ℕ → ℕ
-step_read_faults step.Served faults = faults
-step_read_faults (step.Stopped s) faults = read_faults s.status faults
+-- the counts of faults after a round
+abbrev pub round_read_faults : RoundOutcome → ℕ → ℕ
+round_read_faults outcome.Served faults = faults
+round_read_faults (outcome.Stopped s) faults = read_faults s.status faults
 
-abbrev pub step_write_faults : Step → ℕ → ℕ
-step_write_faults step.Served faults = faults
-step_write_faults (step.Stopped s) faults = write_faults s.status faults
+abbrev pub round_write_faults : RoundOutcome → ℕ → ℕ
+round_write_faults outcome.Served faults = faults
+round_write_faults (outcome.Stopped s) faults = write_faults s.status faults
 
 -- a status of a run that began to read
 abbrev pub HasBegun : Status → Type 0

@@ -5,9 +5,9 @@ ghost use Rattle.ds_rounds.specs.Reading.{first_reader};
 ghost use Rattle.ds_protocol.specs.Watermarks.{HaveCounts};
 ghost use Rattle.ds_session.specs.Runs.{AreWritten, seen_of};
 ghost use Rattle.ds_serve.specs.RunSteps.{HasBegun, HasEnded, HasServed, Leaves, WhereStopped};
-ghost use Rattle.ds_serve.specs.RunSteps.{status_of, step_read_faults, step_write_faults};
+ghost use Rattle.ds_serve.specs.RunSteps.{status_of, round_read_faults, round_write_faults};
 
-use crate::stopped::{Step, Stopped, stop_with};
+use crate::stopped::{RoundOutcome, Stopped, stop_with};
 use ds_indexdef::Defs;
 use ds_io::{Gate, Sink, Source};
 use ds_rounds::{RoundRefused, Rounds};
@@ -49,8 +49,8 @@ pub(crate) fn serve_rounds<
         match serve_round(
             rt, alloc, store, defs, rounds, sessions, input, output, gate,
         ) {
-            Step::Served => {}
-            Step::Stopped(stopped) => return stopped,
+            RoundOutcome::Served => {}
+            RoundOutcome::Stopped(stopped) => return stopped,
         }
     }
 }
@@ -73,7 +73,7 @@ fn serve_round<
     input: &mut I,
     output: &mut O,
     gate: &G,
-) -> Step
+) -> RoundOutcome
     requires definitions { defs.now ≡ J.definitions }
     requires counts { HaveCounts store.now.shards (seen_of sessions.old) }
     requires written { AreWritten sessions.old }
@@ -84,18 +84,18 @@ fn serve_round<
         (record { shards = store.now.shards; window = J.window; defs = J.definitions }) sessions.new }
     ensures counts { HaveCounts store.now.shards (seen_of sessions.new) }
     ensures written { AreWritten sessions.new }
-    ensures later { result ≡ Step.Served → rounds.old.number < rounds.new.number }
-    ensures within { result ≡ Step.Served → rounds.new.number ≤ most_input_bytes + 1 }
+    ensures later { result ≡ RoundOutcome.Served → rounds.old.number < rounds.new.number }
+    ensures within { result ≡ RoundOutcome.Served → rounds.new.number ≤ most_input_bytes + 1 }
     ensures unsent { WhereStopped (λ s. (s.status ≡ Status.WriteFault) ⊎ (s.unsent ≡ [])) result }
     ensures began { WhereStopped (λ s. HasBegun s.status) result }
-    ensures read_faults { I.faults input.new ≡ step_read_faults result (I.faults input.old) }
-    ensures write_faults { O.faults output.new ≡ step_write_faults result (O.faults output.old) }
+    ensures read_faults { I.faults input.new ≡ round_read_faults result (I.faults input.old) }
+    ensures write_faults { O.faults output.new ≡ round_write_faults result (O.faults output.old) }
 {
     match rounds.next(input) {
         Ok(Some(round)) => match run_round(rt, store, sessions, defs, round, gate) {
             Ok(()) => match write_round(sessions, output) {
-                Ok(()) => Step::Served,
-                Err(unsent) => Step::Stopped(Stopped {
+                Ok(()) => RoundOutcome::Served,
+                Err(unsent) => RoundOutcome::Stopped(Stopped {
                     status: Status::WriteFault,
                     unsent,
                 }),

@@ -12,20 +12,20 @@ pub(crate) struct Stopped {
     pub unsent: Unsent,
 }
 
-/// What one step of a run comes to.
+/// What the next round of a run comes to.
 #[derive(Drop)]
-pub(crate) enum Step {
+pub(crate) enum RoundOutcome {
     /// A round was read and run, and its replies were written.
     Served,
     /// The run has stopped.
     Stopped(Stopped),
 }
 
-/// A step with which a run stops, all of whose replies were taken.
-pub(crate) fn stop_with(alloc: Global, status: Status) -> Step
-    ensures { result ≡ Step.Stopped (record { status = status; unsent = [] }) }
+/// The run stops, and all its replies were taken.
+pub(crate) fn stop_with(alloc: Global, status: Status) -> RoundOutcome
+    ensures { result ≡ RoundOutcome.Stopped (record { status = status; unsent = [] }) }
 {
-    Step::Stopped(Stopped {
+    RoundOutcome::Stopped(Stopped {
         status,
         unsent: Unsent::none(alloc),
     })
