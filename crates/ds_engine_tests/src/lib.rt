@@ -7,8 +7,8 @@
 //! `shown` writes rows as text.
 //!
 //! `results` has which keys a query finds among entities of a list, and `views` among those of a view, by key: what is found there is
-//! proved by the laws on views. `merging` merges what two shards give into one page. `numbered` and `normals` read entities and queries
-//! from short texts.
+//! proved by the laws on views. `numbered` and `normals` read entities and queries from short texts. What several shards give is proved
+//! to be one page by the library, and tried in the tests of the store and by the examples.
 #![tactic(auto)]
 
 #[cfg(test)]
@@ -19,8 +19,6 @@ mod dice;
 mod generated;
 #[cfg(test)]
 mod history;
-#[cfg(test)]
-mod merging;
 #[cfg(test)]
 mod normals;
 #[cfg(test)]
