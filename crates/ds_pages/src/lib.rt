@@ -2,9 +2,9 @@
 //!
 //! It stands on `ds_query` (rows, branches and windows) and `ds_bytes` (the encoding of values and keys). Begin with `paging`, whose calls
 //! give the page of rows in any order; `first_rows` keeps of rows that come one by one the first of each result, `marks` tells what
-//! makes two rows one result, `joining` joins lists, `pages` skips and takes, `places` writes a row's place, and `extending` puts a branch's
-//! row into the merged columns. The definitions stand in `specs/`: `Columns` (a row's values by name), `Places` (the order of rows, as
-//! bytes), `Pages` (first occurrence and windows), `Extended` (merged columns), and `Marks`, `Slots` and `FirstRows` for the code.
+//! makes two rows one result, `joining` joins lists, `pages` skips and takes, `places` writes a row's place, and `extending` puts a
+//! branch's row into the merged columns. The definitions stand in `specs/`: `Columns` (a row's values by name), `Places` (the order of
+//! rows, as bytes), `Pages` (first occurrence and windows), `Extended` (merged columns), and `Marks`, `Slots` and `FirstRows` for the code.
 #![tactic(auto)]
 
 pub mod extending;

@@ -5,8 +5,9 @@
 //! counts the steps of those who seek in tables. Begin with `specs/`: `IndexedValues` says what the indexes hold of an
 //! entity, `Counts` how many rows it has, `Indexes` which indexes there are, `Rows` what the rows are, `Laws` what is claimed
 //! of their bytes, and `Versions` what tables stand for. `count` counts the rows and `rows` writes them, those of the composite
-//! indexes by `composite`; `fronts` writes what the rows of an index begin with; `ways` writes one row for each combination of values. `laws` has the laws as calls, and `tables` is
-//! what queries are answered from. What is proved of the definitions stands apart, in the files whose names end in `Laws`.
+//! indexes by `composite`; `fronts` writes what the rows of an index begin with; `ways` writes one row for each combination of
+//! values. `laws` has the laws as calls, and `tables` is what queries are answered from. What is proved of the definitions stands
+//! apart, in the files whose names end in `Laws`.
 #![tactic(auto)]
 
 mod composite;
