@@ -23,5 +23,5 @@ pub mod reading;
 pub mod writing;
 
 pub use lawful::{commit_is_lawful, entity_is_lawful, key_is_lawful};
-pub use reading::{JournalRefused, read_journal};
+pub use reading::{JournalRefused, read_commit, read_journal};
 pub use writing::{write_commit, write_journal};
