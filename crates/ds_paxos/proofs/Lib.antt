@@ -1,0 +1,12 @@
+mod Agreed
+mod Ballots
+mod Facts
+mod Listed
+mod Lists
+mod Moves
+mod Places
+mod Reached
+mod Safe
+mod Scenes
+mod Sent
+mod Steps
