@@ -1,0 +1,7 @@
+pub mod Batches
+mod Bodies
+mod Counters
+mod Ends
+mod Following
+pub mod Splits
+mod Walks

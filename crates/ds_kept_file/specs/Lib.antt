@@ -1,0 +1,3 @@
+pub mod Counters
+pub mod Files
+pub mod Readings
