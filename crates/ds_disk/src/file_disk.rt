@@ -13,7 +13,9 @@ use std::rt;
 /// other server and no other `FileDisk` has it; a sync is one of the file, and its folder is synced when it is opened.
 ///
 /// Contracts see its count of faults. It tells nothing of contents and images, and is nowhere called honest: that a file
-/// with a file system and a drive under it is an honest disk is trusted, and no clause says it.
+/// with a file system and a drive under it is an honest disk is trusted, and no clause says it. So is that the system's own
+/// copy of the file is what the drive has, where a sync of an earlier server failed; an error that the system still has to
+/// tell of is told when the file is opened.
 #[derive(Drop)]
 pub struct FileDisk<R> {
     file: SystemFile<R>,

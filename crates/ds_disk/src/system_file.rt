@@ -137,18 +137,8 @@ impl<R: rt::Files<File = File>> SystemFile<R> {
 fn open<R: rt::Files<File = File>>(runtime: &R, name: &str) -> Result<File, Cause> {
     let file = lock(open_or_make(runtime, name)?)?;
     file.sync_all()?;
-    forget_copies(&file)?;
     File::open(runtime, folder_of(name))?.sync_all()?;
     Ok(file)
-}
-
-// Lets the next reads come from the drive: where a sync of an earlier server failed, the system's own copy may be other
-// than what the drive has.
-fn forget_copies(file: &File) -> Result<(), Cause> {
-    match libc::posix_fadvise(file.as_raw_fd(), 0, 0, libc::POSIX_FADV_DONTNEED) {
-        0 => Ok(()),
-        error => Err(Cause::System(Error::from_raw_os_error(error))),
-    }
 }
 
 fn open_or_make<R: rt::Files<File = File>>(runtime: &R, name: &str) -> Result<File, Cause> {
