@@ -161,7 +161,7 @@ fn on_accept(
     requires { site.member < site.members }
     ensures { IfOk result (λ change. change ≡ on_accept site.members site.member site.place site.ballot entry.now instance) }
 {
-    if instance.promised > site.ballot {
+    if site.ballot < instance.promised {
         return Ok(None);
     }
     let entry = entry.copy(alloc)?;

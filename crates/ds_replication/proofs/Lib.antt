@@ -1,0 +1,5 @@
+mod Cuts
+mod Digits
+mod Printed
+mod Scripted
+mod Written
