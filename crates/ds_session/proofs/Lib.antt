@@ -27,5 +27,6 @@ pub mod StepLaws
 pub mod TellingLaws
 pub mod TextLaws
 pub mod TransactionLaws
+pub mod WideLaws
 pub mod WriteLaws
 pub mod WrittenLaws

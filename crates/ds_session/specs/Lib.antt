@@ -9,3 +9,4 @@ pub mod Sessions
 pub mod Standing
 pub mod Steps
 pub mod Touched
+pub mod Wide

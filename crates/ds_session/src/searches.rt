@@ -24,6 +24,7 @@ ghost use Rattle.ds_store.specs.Searched.{HasCounted};
 
 use crate::reads::{group_and_shard, touch_place};
 use crate::state::State;
+use crate::wide::goes_wide;
 use ds_base::{Counts, Key, NoMemory, TryCopy};
 use ds_entity::Seen;
 use ds_indexdef::Defs;
@@ -102,7 +103,7 @@ impl<J: Names> State<J> {
             window,
             plans,
         } = ready;
-        let wide = search.limit.is_none() && store.shards() > 1;
+        let wide = goes_wide(search, &self.pass);
         let asked = query(
             rt,
             store,
