@@ -1,0 +1,3 @@
+mod Images
+mod Openings
+mod Runs
