@@ -2,9 +2,9 @@
 use Rattle.std.proofs.Common.{◌≡◌, ℕ, List, Option, ◌∙◌, sym, subst}
 use Rattle.ds_indexdef.specs.declared.IndexDef.{IndexDef}
 use Rattle.ds_serve.specs.declared.outcome.Run.{Run}
-use Rattle.ds_serve.specs.declared.settings.Setting.{Setting}
+use Rattle.ds_serving.specs.declared.settings.Setting.{Setting}
 use Rattle.ds_serve.specs.RunSteps.{IsRunOf}
-use Rattle.ds_serve.specs.Settings.{AreGiven, IsSetting}
+use Rattle.ds_serving.specs.Settings.{AreGiven, IsSetting}
 
 pub same_setting : (words : List (List ℕ)) (content : List ℕ → Option (List ℕ)) (s t : Setting) → t.shards ≡ s.shards → t.window ≡ s.window
     → t.defs ≡ s.defs → IsSetting words content s → IsSetting words content t

@@ -6,7 +6,7 @@ use Rattle.ds_log.specs.declared.Commit.{Commit}
 use Rattle.ds_words.specs.declared.status.Status.{Status}
 use Rattle.ds_words.specs.declared.status.Status.TheVariants as status
 use Rattle.ds_serve.specs.Runs.{IsLegalRun}
-use Rattle.ds_serve.specs.Settings.{IsUnset}
+use Rattle.ds_serving.specs.Settings.{IsUnset}
 use Rattle.ds_serve.proofs.Ends.{ends_at_once}
 
 pub unset_ends : (words : List (List ℕ)) (content : List ℕ → Option (List ℕ)) (before after : List ℕ

@@ -1,5 +1,5 @@
 //! A run over a store: its sessions, with the appliers beside them, and its close.
-ghost use Rattle.std.specs.Prelude.{◌≡◌, ◌+◌, ◌<◌, ◌≤◌, ℕ, All, IfOk, IfSome, IsSome, length, replicate, vec_len};
+ghost use Rattle.std.specs.Prelude.{◌≡◌, ◌+◌, ◌≤◌, ℕ, All, IfSome, IsSome, length, replicate, vec_len};
 ghost use Rattle.std.specs.Vec.{vec_capacity};
 ghost use Rattle.ds_base.specs.Limits.{greatest_client};
 ghost use Rattle.ds_protocol.specs.Watermarks.{HaveCounts};
@@ -11,30 +11,19 @@ ghost use Rattle.ds_store.specs.Ending.{HaveEnded};
 ghost use Rattle.ds_store_hubs.specs.Opening.{AreBegun, AreNamesOf};
 ghost use Rattle.ds_store.specs.Passes.{nothing_seen};
 
-use crate::appliers::with_appliers;
 use crate::outcome::{Run, nothing_run};
 use crate::serving::serve_rounds;
 use crate::stopped::Stopped;
-use ds_base::NoMemory;
 use ds_indexdef::Defs;
 use ds_io::{Gate, Sink, Source};
 use ds_rounds::Rounds;
+use ds_serving::{Begun, Serving, begin};
 use ds_session::Sessions;
 use ds_store::{Closed, Made, Names, Opened, Pass, Passes, Store, make};
 use ds_words::Status;
 use std::alloc::Global;
 use std::sync::Wait;
-use std::sync::atomic::{AtomicBool, Ordering};
 use std::thread::Threads;
-
-/// What a run begins with.
-#[derive(Drop)]
-struct Begun<J: Names> {
-    sessions: Sessions<J>,
-    /// The passes of the appliers, with room for those of the sessions.
-    passes: Vec<Pass<J>>,
-    rounds: Rounds,
-}
 
 /// Makes a store of what was opened, whose names these are; serves an input with it, from the first round on; and closes it. The clients
 /// have the first of its passes, and appliers the others.
@@ -98,29 +87,16 @@ fn run_made<
         passes,
     } = made;
     match begin(alloc, store.shards(), passes) {
-        Ok(begun) => run_begun(rt, alloc, store, begun, defs, input, output, gate),
+        Ok(begun) => run_begun(rt, alloc, Ready { store, begun }, defs, input, output, gate),
         Err(_) => nothing_run(alloc, Status::NoMemory),
     }
 }
 
-/// What a run begins with, of a store with so many shards, whose passes these are. A refusal is want of memory.
-fn begin<J: Names>(alloc: Global, shards: u32, passes: Passes<J>) -> Result<Begun<J>, NoMemory>
-    requires enough { greatest_client + 1 ≤ length passes }
-    requires new { All (λ p. p ≡ nothing_seen shards) passes }
-    ensures rounds { IfOk result (λ b. b.rounds ≡ first_reader) }
-    ensures sessions { IfOk result (λ b. AreNew shards b.sessions) }
-    ensures appliers { IfOk result (λ b. All IsIdle b.passes.items) }
-    ensures all { IfOk result (λ b. vec_len b.passes + (greatest_client + 1) ≡ length passes) }
-    ensures room { IfOk result (λ b. length passes ≤ vec_capacity b.passes) }
-{
-    let mut passes = passes.into_vec();
-    let rounds = Rounds::make(alloc)?;
-    let sessions = Sessions::make(alloc, shards, &mut passes)?;
-    Ok(Begun {
-        sessions,
-        passes,
-        rounds,
-    })
+/// What a run has made before its first round.
+#[derive(Drop)]
+struct Ready<J: Names, H: Wait + Drop> {
+    store: Store<J, H>,
+    begun: Begun<J>,
 }
 
 /// Serves an input with a store, whose passes are those of the sessions and of the appliers, and closes it.
@@ -134,39 +110,37 @@ fn run_begun<
 >(
     rt: &Rt,
     alloc: Global,
-    store: Store<J, H>,
-    begun: Begun<J>,
+    ready: Ready<J, H>,
     defs: &Defs,
     input: &mut I,
     output: &mut O,
     gate: &G,
 ) -> Run
     requires definitions { defs.now ≡ J.definitions }
-    requires rounds { begun.rounds ≡ first_reader }
-    requires sessions { AreNew store.shards begun.sessions }
-    requires appliers { All IsIdle begun.passes.items }
-    requires all { vec_len begun.passes + (greatest_client + 1) ≡ store.passes }
-    requires room { store.passes ≤ vec_capacity begun.passes }
-    ensures { IsRunOf (record { shards = store.shards; window = J.window; defs = J.definitions }) (I.left input.old)
+    requires rounds { ready.begun.rounds ≡ first_reader }
+    requires sessions { AreNew ready.store.shards ready.begun.sessions }
+    requires appliers { All IsIdle ready.begun.passes.items }
+    requires all { vec_len ready.begun.passes + (greatest_client + 1) ≡ ready.store.passes }
+    requires room { ready.store.passes ≤ vec_capacity ready.begun.passes }
+    ensures { IsRunOf (record { shards = ready.store.shards; window = J.window; defs = J.definitions }) (I.left input.old)
         (I.left input.new) (O.held output.old) (O.held output.new) (I.faults input.old) (I.faults input.new) (O.faults output.old)
         (O.faults output.new) result }
 {
+    let Ready { store, begun } = ready;
     let Begun {
         mut sessions,
         mut passes,
         mut rounds,
     } = begun;
+    let serving = Serving::new(rt, &store, defs, gate);
     let stopped = serve_beside(
-        rt,
+        &serving,
         alloc,
-        &store,
-        defs,
         &mut rounds,
         &mut sessions,
         passes.as_mut_slice(),
         input,
         output,
-        gate,
     );
     sessions.end(&mut passes);
     close(rt, store, Passes::from(passes), stopped)
@@ -181,129 +155,34 @@ fn serve_beside<
     O: Sink,
     G: Gate + Sync,
 >(
-    rt: &Rt,
+    serving: &Serving<'_, J, Rt, H, G>,
     alloc: Global,
-    store: &Store<J, H>,
-    defs: &Defs,
     rounds: &mut Rounds,
     sessions: &mut Sessions<J>,
     appliers: &mut [Pass<J>],
     input: &mut I,
     output: &mut O,
-    gate: &G,
 ) -> Stopped
     requires reader { rounds.old ≡ first_reader }
-    requires definitions { defs.now ≡ J.definitions }
-    requires counts { HaveCounts store.now.shards (seen_of sessions.old) }
+    requires counts { HaveCounts serving.now.shards (seen_of sessions.old) }
     requires written { AreWritten sessions.old }
     requires idle { All IsIdle appliers.old }
-    ensures ended { HasEnded (record { shards = store.now.shards; window = J.window; defs = J.definitions }) (I.left input.old)
-        (I.left input.new) (O.held output.old) (O.held output.new) (I.faults input.old) (I.faults input.new) (O.faults output.old)
-        (O.faults output.new) sessions.old sessions.new result }
+    ensures ended { HasEnded serving.now (I.left input.old) (I.left input.new) (O.held output.old) (O.held output.new)
+        (I.faults input.old) (I.faults input.new) (O.faults output.old) (O.faults output.new) sessions.old sessions.new result }
     ensures idle { All IsIdle appliers.new }
     ensures many { length appliers.new ≡ length appliers.old }
 {
-    if appliers.is_empty() {
-        return serve_rounds(
-            rt, alloc, store, defs, rounds, sessions, input, output, gate,
-        );
-    }
-    let is_done = AtomicBool::new(false);
-    serve_until(
-        rt, alloc, store, &is_done, defs, rounds, sessions, appliers, input, output, gate,
-    )
-}
-
-/// The same, where there are some, which learn by `is_done` that the last round has ended. Where no thread can be made for them, they are
-/// called then, and end at once.
-fn serve_until<
-    J: Names + Send + Sync,
-    Rt: Threads + Wait + Sync,
-    H: Wait + Drop + Send,
-    I: Source,
-    O: Sink,
-    G: Gate + Sync,
->(
-    rt: &Rt,
-    alloc: Global,
-    store: &Store<J, H>,
-    is_done: &AtomicBool,
-    defs: &Defs,
-    rounds: &mut Rounds,
-    sessions: &mut Sessions<J>,
-    appliers: &mut [Pass<J>],
-    input: &mut I,
-    output: &mut O,
-    gate: &G,
-) -> Stopped
-    requires reader { rounds.old ≡ first_reader }
-    requires definitions { defs.now ≡ J.definitions }
-    requires counts { HaveCounts store.now.shards (seen_of sessions.old) }
-    requires written { AreWritten sessions.old }
-    requires some { 0 < length appliers.old }
-    requires idle { All IsIdle appliers.old }
-    ensures ended { HasEnded (record { shards = store.now.shards; window = J.window; defs = J.definitions }) (I.left input.old)
-        (I.left input.new) (O.held output.old) (O.held output.new) (I.faults input.old) (I.faults input.new) (O.faults output.old)
-        (O.faults output.new) sessions.old sessions.new result }
-    ensures idle { All IsIdle appliers.new }
-    ensures many { length appliers.new ≡ length appliers.old }
-{
-    with_appliers(
-        rt,
-        store,
-        is_done,
+    serving.with_appliers(
         appliers,
         &mut || -> Stopped
             requires reader { rounds.now ≡ first_reader }
-            requires definitions { defs.now ≡ J.definitions }
-            requires counts { HaveCounts store.now.shards (seen_of sessions.now) }
+            requires counts { HaveCounts serving.now.shards (seen_of sessions.now) }
             requires written { AreWritten sessions.now }
-            ensures { HasEnded (record { shards = store.entry.now.shards; window = J.window; defs = J.definitions })
-                (I.left input.entry.now) (I.left input.exit.now) (O.held output.entry.now) (O.held output.exit.now)
-                (I.faults input.entry.now) (I.faults input.exit.now) (O.faults output.entry.now) (O.faults output.exit.now)
-                sessions.entry.now sessions.exit.now result }
-        {
-            serve_to_the_end(
-                rt, alloc, store, is_done, defs, rounds, sessions, input, output, gate,
-            )
-        },
+            ensures { HasEnded serving.entry.now (I.left input.entry.now) (I.left input.exit.now) (O.held output.entry.now)
+                (O.held output.exit.now) (I.faults input.entry.now) (I.faults input.exit.now) (O.faults output.entry.now)
+                (O.faults output.exit.now) sessions.entry.now sessions.exit.now result }
+        { serve_rounds(serving, alloc, rounds, sessions, input, output) },
     )
-}
-
-/// Serves the rounds of an input, from the first one on, and tells the appliers of the end.
-fn serve_to_the_end<
-    J: Names + Send + Sync,
-    Rt: Threads + Wait + Sync,
-    H: Wait + Drop + Send,
-    I: Source,
-    O: Sink,
-    G: Gate + Sync,
->(
-    rt: &Rt,
-    alloc: Global,
-    store: &Store<J, H>,
-    is_done: &AtomicBool,
-    defs: &Defs,
-    rounds: &mut Rounds,
-    sessions: &mut Sessions<J>,
-    input: &mut I,
-    output: &mut O,
-    gate: &G,
-) -> Stopped
-    requires reader { rounds.old ≡ first_reader }
-    requires definitions { defs.now ≡ J.definitions }
-    requires counts { HaveCounts store.now.shards (seen_of sessions.old) }
-    requires written { AreWritten sessions.old }
-    ensures { HasEnded (record { shards = store.now.shards; window = J.window; defs = J.definitions }) (I.left input.old) (I.left input.new)
-        (O.held output.old) (O.held output.new) (I.faults input.old) (I.faults input.new) (O.faults output.old) (O.faults output.new)
-        sessions.old sessions.new result }
-{
-    let stopped = serve_rounds(
-        rt, alloc, store, defs, rounds, sessions, input, output, gate,
-    );
-    is_done.store(true, Ordering::SeqCst);
-    store.wake_all();
-    stopped
 }
 
 /// Closes the store with all its passes.

@@ -1,18 +1,19 @@
 //! The rounds of an input: each is read and run, and its replies are written before the next one is read.
-ghost use Rattle.std.specs.Prelude.{◌≡◌, ◌+◌, ◌<◌, ◌≤◌, ◌⊎◌, ℕ, List, Option, []};
+ghost use Rattle.std.specs.Prelude.{◌≡◌, ◌+◌, ◌<◌, ◌≤◌, ◌⊎◌, List, ℕ, Option, []};
 ghost use Rattle.ds_base.specs.Limits.{most_input_bytes};
 ghost use Rattle.ds_rounds.specs.Reading.{first_reader};
 ghost use Rattle.ds_protocol.specs.Watermarks.{HaveCounts};
 ghost use Rattle.ds_session.specs.Runs.{AreWritten, seen_of};
-ghost use Rattle.ds_serve.specs.RunSteps.{HasBegun, HasEnded, HasServed, Leaves, WhereStopped};
-ghost use Rattle.ds_serve.specs.RunSteps.{status_of, round_read_faults, round_write_faults};
+ghost use Rattle.ds_serving.specs.Rounds.{HasServed};
+ghost use Rattle.ds_serve.specs.RunSteps.{HasBegun, HasEnded, Leaves, RanFrom, WhereStopped};
+ghost use Rattle.ds_serve.specs.RunSteps.{round_read_faults, round_write_faults};
 
 use crate::stopped::{RoundOutcome, Stopped, stop_with};
-use ds_indexdef::Defs;
 use ds_io::{Gate, Sink, Source};
-use ds_rounds::{RoundRefused, Rounds};
-use ds_session::{Sessions, run_round, write_round};
-use ds_store::{Names, Store};
+use ds_rounds::Rounds;
+use ds_serving::{NextRound, Serving};
+use ds_session::{Sessions, write_round};
+use ds_store::Names;
 use ds_words::Status;
 use std::alloc::Global;
 use std::sync::Wait;
@@ -27,28 +28,21 @@ pub(crate) fn serve_rounds<
     O: Sink,
     G: Gate + Sync,
 >(
-    rt: &Rt,
+    serving: &Serving<'_, J, Rt, H, G>,
     alloc: Global,
-    store: &Store<J, H>,
-    defs: &Defs,
     rounds: &mut Rounds,
     sessions: &mut Sessions<J>,
     input: &mut I,
     output: &mut O,
-    gate: &G,
 ) -> Stopped
     requires reader { rounds.old ≡ first_reader }
-    requires definitions { defs.now ≡ J.definitions }
-    requires counts { HaveCounts store.now.shards (seen_of sessions.old) }
+    requires counts { HaveCounts serving.now.shards (seen_of sessions.old) }
     requires written { AreWritten sessions.old }
-    ensures { HasEnded (record { shards = store.now.shards; window = J.window; defs = J.definitions }) (I.left input.old) (I.left input.new)
-        (O.held output.old) (O.held output.new) (I.faults input.old) (I.faults input.new) (O.faults output.old) (O.faults output.new)
-        sessions.old sessions.new result }
+    ensures { HasEnded serving.now (I.left input.old) (I.left input.new) (O.held output.old) (O.held output.new) (I.faults input.old)
+        (I.faults input.new) (O.faults output.old) (O.faults output.new) sessions.old sessions.new result }
 {
     'serve: loop {
-        match serve_round(
-            rt, alloc, store, defs, rounds, sessions, input, output, gate,
-        ) {
+        match serve_round(serving, alloc, rounds, sessions, input, output) {
             RoundOutcome::Served => {}
             RoundOutcome::Stopped(stopped) => return stopped,
         }
@@ -64,25 +58,19 @@ fn serve_round<
     O: Sink,
     G: Gate + Sync,
 >(
-    rt: &Rt,
+    serving: &Serving<'_, J, Rt, H, G>,
     alloc: Global,
-    store: &Store<J, H>,
-    defs: &Defs,
     rounds: &mut Rounds,
     sessions: &mut Sessions<J>,
     input: &mut I,
     output: &mut O,
-    gate: &G,
 ) -> RoundOutcome
-    requires definitions { defs.now ≡ J.definitions }
-    requires counts { HaveCounts store.now.shards (seen_of sessions.old) }
+    requires counts { HaveCounts serving.now.shards (seen_of sessions.old) }
     requires written { AreWritten sessions.old }
-    ensures leaves { (words : List (List ℕ)) (content : List ℕ → Option (List ℕ)) (left held : Option (List ℕ))
-        → HasServed words content left (I.left input.old) held (O.held output.old) rounds.old
-        (record { shards = store.now.shards; window = J.window; defs = J.definitions }) sessions.old
-        → Leaves words content result left (I.left input.new) held (O.held output.new) rounds.new
-        (record { shards = store.now.shards; window = J.window; defs = J.definitions }) sessions.new }
-    ensures counts { HaveCounts store.now.shards (seen_of sessions.new) }
+    ensures leaves { (left held : Option (List ℕ))
+        → HasServed (RanFrom serving.now) left (I.left input.old) held (O.held output.old) rounds.old sessions.old
+        → Leaves serving.now result left (I.left input.new) held (O.held output.new) rounds.new sessions.new }
+    ensures counts { HaveCounts serving.now.shards (seen_of sessions.new) }
     ensures written { AreWritten sessions.new }
     ensures later { result ≡ RoundOutcome.Served → rounds.old.number < rounds.new.number }
     ensures within { result ≡ RoundOutcome.Served → rounds.new.number ≤ most_input_bytes + 1 }
@@ -91,28 +79,14 @@ fn serve_round<
     ensures read_faults { I.faults input.new ≡ round_read_faults result (I.faults input.old) }
     ensures write_faults { O.faults output.new ≡ round_write_faults result (O.faults output.old) }
 {
-    match rounds.next(input) {
-        Ok(Some(round)) => match run_round(rt, store, sessions, defs, round, gate) {
-            Ok(()) => match write_round(sessions, output) {
-                Ok(()) => RoundOutcome::Served,
-                Err(unsent) => RoundOutcome::Stopped(Stopped {
-                    status: Status::WriteFault,
-                    unsent,
-                }),
-            },
-            Err(_) => stop_with(alloc, Status::NoMemory),
+    match serving.run_next(rounds, sessions, input) {
+        NextRound::Ran => match write_round(sessions, output) {
+            Ok(()) => RoundOutcome::Served,
+            Err(unsent) => RoundOutcome::Stopped(Stopped {
+                status: Status::WriteFault,
+                unsent,
+            }),
         },
-        Ok(None) => stop_with(alloc, Status::Done),
-        Err(refused) => stop_with(alloc, status_of(refused)),
-    }
-}
-
-fn status_of(refused: RoundRefused) -> Status
-    ensures { result ≡ status_of refused }
-{
-    match refused {
-        RoundRefused::ReadFault => Status::ReadFault,
-        RoundRefused::InputLimit => Status::InputLimit,
-        RoundRefused::NoMemory => Status::NoMemory,
+        NextRound::Ended(status) => stop_with(alloc, status),
     }
 }

@@ -1,19 +1,21 @@
 //! The top call, whose clause `legal` is the main theorem.
 //!
-//! `specs/Runs` has the words of its clauses: begin there with `IsLegalRun`. `specs/Settings` has those of the words and the index file.
+//! `specs/Runs` has the words of its clauses: begin there with `IsLegalRun`; which rounds a run ran stands in
+//! `ds_serving`'s `specs/Runs`, and what the words and the index file set up in its `specs/Settings`.
 ghost use Rattle.std.specs.Prelude.{◌≡◌, ◌≤◌, ◌⊎◌, ℕ, List, Option, [], map, Some, None, IfSome, IsSome};
 ghost use Rattle.std.specs.String.{string_bytes};
 ghost use Rattle.ds_base.specs.Limits.{greatest_window, most_appliers, most_input_bytes, most_shards};
 ghost use Rattle.ds_words.specs.Form.{options_of};
-ghost use Rattle.ds_serve.specs.Runs.{HasTaken, IsBelow, IsLegalRun, IsSteady, IsUntouched, read_faults, write_faults};
+ghost use Rattle.ds_serve.specs.Runs.{HasTaken, IsBelow, IsLegalRun, IsSteady, IsUntouched};
+ghost use Rattle.ds_serving.specs.Runs.{read_faults, write_faults};
 ghost use Rattle.ds_serve.specs.RunSteps.{HasBegun};
-ghost use Rattle.ds_serve.specs.Settings.{FailedToLoad, IsFine, IsSetting, IsToldWrong, NamesWrongFile, file_faults, indexes_named};
+ghost use Rattle.ds_serving.specs.Settings.{FailedToLoad, IsFine, IsSetting, IsToldWrong, NamesWrongFile, file_faults, indexes_named};
 
 use crate::outcome::{Run, nothing_run};
 use crate::running::run_opened;
-use crate::settings::{Setting, Start, set_up};
 use ds_base::limits::MAX_CLIENT;
 use ds_io::{Files, Gate, Sink, Source};
+use ds_serving::{Setting, Start, set_up};
 use ds_store::open;
 use ds_words::Status;
 use std::alloc::Global;

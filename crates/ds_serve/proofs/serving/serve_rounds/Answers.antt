@@ -1,7 +1,8 @@
 use Rattle.std.proofs.Common.{◌∙◌, ap, arith, refl, subst, sym}
 use Rattle.ds_rounds.specs.Reading.{ReaderParts}
-use Rattle.ds_serve.specs.RunSteps.{HasServed}
-use Rattle.ds_serve.specs.Runs.{read_faults, write_faults}
+use Rattle.ds_serving.specs.Rounds.{HasServed}
+use Rattle.ds_serving.specs.Runs.{read_faults, write_faults}
+use Rattle.ds_serve.specs.RunSteps.{RanFrom}
 use Rattle.ds_serve.proofs.serving.serve_rounds.Goals as goal
 
 pub serve-init : goal.serve-init
@@ -9,9 +10,7 @@ serve-init g c =
     let left = g.I.Source.left c.args.input.now in
     let held = g.O.Sink.held c.args.output.now in
     record {
-      served = λ words content given.
-          subst (λ (r : ReaderParts). HasServed words content left left held held r
-          (record { shards = c.args.store.now.shards; window = g.J.Names.window; defs = g.J.Names.definitions }) c.args.sessions.now)
+      served = λ given. subst (λ (r : ReaderParts). HasServed (RanFrom c.args.serving.now) left left held held r c.args.sessions.now)
           (sym c.requires.reader) given;
       counts = c.requires.counts;
       written = c.requires.written;
@@ -25,7 +24,7 @@ serve-preserved g c =
     let left = g.I.Source.left c.args.input.now in
     let held = g.O.Sink.held c.args.output.now in
     record {
-      served = λ words content given. c.in-Served.ensures.leaves words content left held (c.serve.invariant.served words content given);
+      served = λ given. c.in-Served.ensures.leaves left held (c.serve.invariant.served given);
       counts = c.in-Served.ensures.counts;
       written = c.in-Served.ensures.written;
       no_read_fault = c.in-Served.ensures.read_faults ∙ c.serve.invariant.no_read_fault;
@@ -38,7 +37,7 @@ returns-in-Stopped g c =
     let left = g.I.Source.left c.args.input.now in
     let held = g.O.Sink.held c.args.output.now in
     record {
-      stopped = λ words content given. c.in-Stopped.ensures.leaves words content left held (c.serve.invariant.served words content given);
+      stopped = λ given. c.in-Stopped.ensures.leaves left held (c.serve.invariant.served given);
       unsent = c.in-Stopped.ensures.unsent;
       began = c.in-Stopped.ensures.began;
       read_fault = c.in-Stopped.ensures.read_faults ∙ ap (read_faults c.in-Stopped.stopped.status) c.serve.invariant.no_read_fault;

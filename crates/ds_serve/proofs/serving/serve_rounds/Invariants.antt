@@ -1,9 +1,10 @@
-use Rattle.std.proofs.Common.{◌≡◌, ◌+◌, ◌-◌, ◌≤◌, ℕ, List, Option}
+use Rattle.std.proofs.Common.{◌≡◌, ◌+◌, ◌-◌, ◌≤◌}
 use Rattle.ds_base.specs.Limits.{most_input_bytes}
 use Rattle.ds_rounds.specs.Reading.{first_reader}
 use Rattle.ds_protocol.specs.Watermarks.{HaveCounts}
 use Rattle.ds_session.specs.Runs.{AreWritten, seen_of}
-use Rattle.ds_serve.specs.RunSteps.{HasServed}
+use Rattle.ds_serving.specs.Rounds.{HasServed}
+use Rattle.ds_serve.specs.RunSteps.{RanFrom}
 use Rattle.ds_serve.proofs.serving.serve_rounds.Given as goal
 
 -- each round takes a line at least, and an input has no more lines than bytes and one
@@ -13,13 +14,11 @@ decreases-serve g l = most_input_bytes + 1 - l.rounds.number
 -- so far the rounds were read, run and written, and nothing failed
 abbrev pub invariant-serve : goal.invariant-serve
 invariant-serve g l = record {
-  served : (words : List (List ℕ)) (content : List ℕ → Option (List ℕ))
-      → HasServed words content (g.I.Source.left l.fn.input) (g.I.Source.left l.fn.input) (g.O.Sink.held l.fn.output)
-      (g.O.Sink.held l.fn.output) first_reader (record { shards = l.store.shards; window = g.J.Names.window; defs = g.J.Names.definitions })
-      l.fn.sessions
-      → HasServed words content (g.I.Source.left l.fn.input) (g.I.Source.left l.input) (g.O.Sink.held l.fn.output) (g.O.Sink.held l.output)
-      l.rounds (record { shards = l.store.shards; window = g.J.Names.window; defs = g.J.Names.definitions }) l.sessions;
-  counts : HaveCounts l.store.shards (seen_of l.sessions);
+  served : HasServed (RanFrom l.serving) (g.I.Source.left l.fn.input) (g.I.Source.left l.fn.input) (g.O.Sink.held l.fn.output)
+      (g.O.Sink.held l.fn.output) first_reader l.fn.sessions
+      → HasServed (RanFrom l.serving) (g.I.Source.left l.fn.input) (g.I.Source.left l.input) (g.O.Sink.held l.fn.output)
+      (g.O.Sink.held l.output) l.rounds l.sessions;
+  counts : HaveCounts l.serving.shards (seen_of l.sessions);
   written : AreWritten l.sessions;
   no_read_fault : g.I.Source.faults l.input ≡ g.I.Source.faults l.fn.input;
   no_write_fault : g.O.Sink.faults l.output ≡ g.O.Sink.faults l.fn.output;

@@ -7,9 +7,9 @@ use std::sync::Wait;
 use std::sync::atomic::{AtomicBool, Ordering};
 use std::thread::{Threads, for_each_mut, join_mut};
 
-/// Calls `work`, which sets `is_done` at its end, while each of these passes applies entries, and gives what it gave. Where no thread can
-/// be made for them, they are called once the work is done, and then end at once.
-pub(crate) fn with_appliers<
+/// Calls `work` while each of these passes applies entries, and tells them by `is_done` that it has ended. Where no thread can be made for
+/// them, they are called once the work is done, and then end at once.
+pub(crate) fn apply_beside<
     J: Names + Send + Sync,
     Rt: Threads + Wait + Sync,
     H: Wait + Drop + Send,
@@ -30,7 +30,15 @@ pub(crate) fn with_appliers<
             ensures idle { All IsIdle passes.exit.now }
             ensures many { length passes.exit.now ≡ length passes.entry.now }
         { apply_with_each(rt, store, is_done, passes) },
-        work,
+        &mut || -> T
+            requires { F.pre work.now }
+            ensures { F.step work.entry.now result work.exit.now }
+        {
+            let given = work();
+            is_done.store(true, Ordering::SeqCst);
+            store.wake_all();
+            given
+        },
     );
     given
 }

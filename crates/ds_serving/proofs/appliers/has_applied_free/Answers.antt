@@ -1,5 +1,5 @@
 use Rattle.ds_session.proofs.ClosingLaws.{idle_later}
-use Rattle.ds_serve.proofs.appliers.has_applied_free.Goals as goal
+use Rattle.ds_serving.proofs.appliers.has_applied_free.Goals as goal
 
 pub returns-in-Some : goal.returns-in-Some
 returns-in-Some g c = idle_later c.args.pass.now c.apply_if_free.new.pass c.in-Some.ensures.read c.requires.idle

@@ -4,7 +4,7 @@ ghost use Rattle.std.specs.Option.{option_map};
 ghost use Rattle.std.specs.String.{string_bytes};
 ghost use Rattle.ds_base.specs.Limits.{greatest_window, most_appliers, most_shards};
 ghost use Rattle.ds_words.specs.Form.{options_of};
-ghost use Rattle.ds_serve.specs.Settings.{AreGiven, AreRead, IsSetting, IsUnread, IsUnset, file_faults, indexes_named};
+ghost use Rattle.ds_serving.specs.Settings.{AreGiven, AreRead, IsSetting, IsUnread, IsUnset, file_faults, indexes_named};
 
 use ds_base::TextString;
 use ds_indexdef::{Defs, YamlRefused, read_yaml};
@@ -14,7 +14,7 @@ use std::alloc::Global;
 
 /// What a server is set up with.
 #[derive(Drop)]
-pub(crate) struct Setting {
+pub struct Setting {
     /// How many shards there are, 1 to 16.
     pub shards: u32,
     /// How many entries' versions a shard keeps.
@@ -25,18 +25,14 @@ pub(crate) struct Setting {
 
 /// What a run is started with.
 #[derive(Drop)]
-pub(crate) struct Start {
+pub struct Start {
     pub setting: Setting,
     /// How many background appliers there are, at most 8.
     pub appliers: u32,
 }
 
 /// Reads the words, and loads and reads the index file that they name, if they name one. A status says why the run can't begin.
-pub(crate) fn set_up<F: Files>(
-    alloc: Global,
-    words: &[String],
-    files: &mut F,
-) -> Result<Start, Status>
+pub fn set_up<F: Files>(alloc: Global, words: &[String], files: &mut F) -> Result<Start, Status>
     ensures ok { IfOk result (λ s. IsSetting (map string_bytes words.now) (F.content files.old) s.setting) }
     ensures shards { IfOk result (λ s. (1 ≤ s.setting.shards) × (s.setting.shards ≤ most_shards)) }
     ensures window { IfOk result (λ s. (1 ≤ s.setting.window) × (s.setting.window ≤ greatest_window)) }

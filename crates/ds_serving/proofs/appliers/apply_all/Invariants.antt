@@ -1,5 +1,5 @@
 use Rattle.ds_session.specs.Runs.{IsIdle}
-use Rattle.ds_serve.proofs.appliers.apply_all.Given as goal
+use Rattle.ds_serving.proofs.appliers.apply_all.Given as goal
 
 abbrev pub invariant-loop : goal.invariant-loop
 invariant-loop g l = IsIdle l.pass

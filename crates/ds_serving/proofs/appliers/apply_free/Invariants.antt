@@ -1,5 +1,5 @@
 use Rattle.ds_session.specs.Runs.{IsIdle}
-use Rattle.ds_serve.proofs.appliers.apply_free.Given as goal
+use Rattle.ds_serving.proofs.appliers.apply_free.Given as goal
 
 abbrev pub invariant-loop-shard : goal.invariant-loop-shard
 invariant-loop-shard g l = IsIdle l.pass

@@ -8,7 +8,7 @@ use Rattle.ds_words.specs.Form.{options_of}
 use Rattle.ds_words.specs.declared.options.Options.{Options}
 use Rattle.ds_words.specs.declared.status.Status.{Status}
 use Rattle.ds_words.specs.declared.status.Status.TheVariants as status
-use Rattle.ds_serve.specs.declared.settings.Setting.{Setting}
+use Rattle.ds_serving.specs.declared.settings.Setting.{Setting}
 
 -- the name of the index file, if the words name one
 abbrev pub indexes_named : List (List ℕ) → Option (List ℕ)

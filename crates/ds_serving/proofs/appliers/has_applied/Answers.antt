@@ -1,5 +1,5 @@
 use Rattle.ds_session.proofs.ClosingLaws.{idle_later}
-use Rattle.ds_serve.proofs.appliers.has_applied.Goals as goal
+use Rattle.ds_serving.proofs.appliers.has_applied.Goals as goal
 
 pub returns-in-Ok : goal.returns-in-Ok
 returns-in-Ok g c = idle_later c.args.pass.now c.apply_one.new.pass c.in-Ok.ensures.applied.read c.requires.idle

@@ -1,0 +1,44 @@
+//! What a run begins with.
+ghost use Rattle.std.specs.Prelude.{◌≡◌, ◌+◌, ◌≤◌, All, IfOk, length, replicate, vec_len};
+ghost use Rattle.std.specs.Vec.{vec_capacity};
+ghost use Rattle.ds_base.specs.Limits.{greatest_client};
+ghost use Rattle.ds_rounds.specs.Reading.{first_reader};
+ghost use Rattle.ds_session.specs.Clients.{AreNew};
+ghost use Rattle.ds_session.specs.Runs.{IsIdle};
+ghost use Rattle.ds_store.specs.Passes.{nothing_seen};
+
+use ds_base::NoMemory;
+use ds_rounds::Rounds;
+use ds_session::Sessions;
+use ds_store::{Names, Pass, Passes};
+use std::alloc::Global;
+
+/// The sessions of a run, the passes of its appliers, and the reader of its input.
+#[derive(Drop)]
+pub struct Begun<J: Names> {
+    pub sessions: Sessions<J>,
+    /// The passes of the appliers, with room for those of the sessions.
+    pub passes: Vec<Pass<J>>,
+    pub rounds: Rounds,
+}
+
+/// What a run begins with, of a store with so many shards, whose passes these are: the clients have the last sixteen of them, and appliers
+/// the others. A refusal is want of memory.
+pub fn begin<J: Names>(alloc: Global, shards: u32, passes: Passes<J>) -> Result<Begun<J>, NoMemory>
+    requires enough { greatest_client + 1 ≤ length passes }
+    requires new { All (λ p. p ≡ nothing_seen shards) passes }
+    ensures rounds { IfOk result (λ b. b.rounds ≡ first_reader) }
+    ensures sessions { IfOk result (λ b. AreNew shards b.sessions) }
+    ensures appliers { IfOk result (λ b. All IsIdle b.passes.items) }
+    ensures all { IfOk result (λ b. vec_len b.passes + (greatest_client + 1) ≡ length passes) }
+    ensures room { IfOk result (λ b. length passes ≤ vec_capacity b.passes) }
+{
+    let mut passes = passes.into_vec();
+    let rounds = Rounds::make(alloc)?;
+    let sessions = Sessions::make(alloc, shards, &mut passes)?;
+    Ok(Begun {
+        sessions,
+        passes,
+        rounds,
+    })
+}
