@@ -1,9 +1,9 @@
 //! The server: from the bytes of its input to the bytes of its output, with the main theorem.
 //!
 //! Begin with `top`: `serve` reads the words and the index file (by `ds_serving`), opens a store, and picks its names; `running` makes the
-//! store, serves its rounds with appliers beside them, and closes it at the end; `serving` has each round read and run (by `ds_serving`) and
-//! writes its replies (by `ds_session`) before the next one is read. `outcome` holds what a run gives, `stopped` how it stops. In `specs/`,
-//! `Runs` has the words of the main theorem; `RunSteps` has those of its proof.
+//! store, serves its rounds with appliers beside them, and closes it at the end; `serving` has each round read and run (by `ds_serving`)
+//! and writes its replies (by `ds_session`) before the next one is read. `outcome` holds what a run gives, `stopped` how it stops. In
+//! `specs/`, `Runs` has the words of the main theorem; `RunSteps` has those of its proof.
 #![tactic(auto)]
 
 pub mod outcome;

@@ -1,5 +1,5 @@
--- What is said of the rounds of an input so far, of the next one and of the last, whatever is said of rounds that were run: `Ran` says it of
--- these rounds, of the sessions that they left, and of the text of their replies.
+-- What is said of the rounds of an input so far, of the next one and of the last, whatever is said of rounds that were run: `Ran` says it
+-- of these rounds, of the sessions that they left, and of the text of their replies.
 use Rattle.std.specs.Prelude.{◌≡◌, ◌⊎◌, ℕ, List, [], Bool, true, Option, Some, None, Ok, Err, IfSome, length, ⊤}
 use Rattle.std.specs.Io.KnownBytes.{Appends, Consumes}
 use Rattle.ds_rounds.specs.Rounds.{NumberedLine, lines_of_round}

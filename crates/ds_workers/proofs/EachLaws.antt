@@ -16,7 +16,8 @@ each_length Holds (u ∷ xs) [] each = absurd each
 each_length Holds (u ∷ xs) (v ∷ ys) each = ap suc (each_length Holds xs ys each.1)
 
 -- with one element more, which stood behind the others before and stands there again
-pub each_and_last : {A : Type 0} (Holds : A → A → Type 0) (all xs ys now : List A) (x y : A) → all ≡ xs ++ x ∷ [] → EachOf Holds xs ys → Holds x y
-    → now ≡ ys ++ y ∷ [] → EachOf Holds all now
+pub each_and_last : {A : Type 0} (Holds : A → A → Type 0) (all xs ys now : List A) (x y : A) → all ≡ xs ++ x ∷ []
+    → EachOf Holds xs ys → Holds x y → now ≡ ys ++ y ∷ [] → EachOf Holds all now
 each_and_last Holds all xs ys now x y before each last after =
-    subst (EachOf Holds all) (sym after) (subst (λ (us : List _). EachOf Holds us (ys ++ y ∷ [])) (sym before) (each_behind Holds xs ys x y each last))
+    subst (EachOf Holds all) (sym after) (subst (λ (us : List _). EachOf Holds us (ys ++ y ∷ [])) (sym before)
+    (each_behind Holds xs ys x y each last))
