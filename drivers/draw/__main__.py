@@ -6,6 +6,7 @@ import os
 import re
 import sys
 
+import keys
 from asked import number, read_json
 from journal import Run
 from page import page
@@ -27,6 +28,7 @@ def arguments():
     parser.add_argument("replies", metavar="REPLIES", nargs="?", help="the file of their replies; of run.jsonl it is run.replies, as the driver's log has it, if it isn't given")
     parser.add_argument("--verdict", metavar="FILE", help='what an auditor says: "legal", "not legal: line N", or the JSON {"verdict":"not legal","line":N,"expected":REPLY}')
     parser.add_argument("--title", metavar="TEXT", help="what stands above the page; the name of LINES if it isn't given")
+    parser.add_argument("--about", metavar="FILE", help='JSON on a run of a test: {"sites":{"7":"test_task.py:5"},"namespace":NAME,"tests":[{"line":3,"name":NAME,"namespace":NAME}]}: which place in its source asked each line, a namespace that the page doesn\'t name, and where each test begins; of run.jsonl it is run.about, if that is there')
     parser.add_argument("--shards", metavar="N", type=int, choices=range(1, 17), help="how many shards there were, 1 to 16; told by the replies if it isn't given")
     for other in ("--indexes", "--appliers", "--window"):
         parser.add_argument(other, metavar="V", help="taken as the server takes it, and not needed")
@@ -56,12 +58,23 @@ def verdict_of(name):
     return {"verdict": found[0], "line": int(found[2]) if found[2] else number(said.get("line"), 1, 2**53), "expected": expected}
 
 
+def tests_of(given):
+    """The tests of a run as (first line, name, namespace); what is none is passed over."""
+    found = [(number(it.get("line"), 1, 2**53), it.get("name"), it.get("namespace")) for it in given if isinstance(it, dict)] if isinstance(given, list) else []
+    return [it for it in found if it[0] and isinstance(it[1], str) and isinstance(it[2], str)]
+
+
 def main():
     words = arguments()
     gc.disable()  # nothing that is made here is given up before the end
     lines, replies = content_of(words.lines), content_of(words.replies or os.path.splitext(words.lines)[0] + ".replies")
     verdict = verdict_of(words.verdict) if words.verdict else None
-    made = page({"title": words.title or os.path.basename(words.lines), "verdict": verdict, **Picture(Run(lines, replies, words.shards)).data()})
+    beside = os.path.splitext(words.lines)[0] + ".about"
+    about_file = words.about or (beside if os.path.isfile(beside) else None)
+    about = read_json(content_of(about_file).decode("utf-8", "replace")) if about_file else {}
+    tests = tests_of(about.get("tests"))
+    keys.hide([about.get("namespace"), *(namespace for _, _, namespace in tests)])
+    made = page({"title": words.title or os.path.basename(words.lines), "verdict": verdict, **Picture(Run(lines, replies, words.shards), about.get("sites"), tests).data()})
     try:
         print(made, end="", flush=True)
     except BrokenPipeError:

@@ -1,10 +1,12 @@
 """What a line asks, as far as a page shows it: a query's kind and ancestor, and a text for the eye. Nothing here raises, whatever stands there."""
+import datetime
 import json
 import re
 
 import keys
 
 TOKEN = re.compile(r"""'(?:[^']|'')*'|"[^"]*"|:[\w$.]+|[\w$.]+|\S""")
+EPOCH = datetime.datetime(1970, 1, 1)
 SIGNS = {"!=": "≠", "<=": "≤", ">=": "≥"}
 
 
@@ -22,14 +24,25 @@ def number(value, least, most):
     return value if isinstance(value, int) and not isinstance(value, bool) and least <= value <= most else None
 
 
+def _date(microseconds):
+    """A date for the eye, in UTC; None where it is none that a calendar of four digits has."""
+    if number(microseconds, -(2**63), 2**63 - 1) is None:
+        return None
+    try:
+        date = EPOCH + datetime.timedelta(microseconds=microseconds)
+    except OverflowError:
+        return None
+    return date.strftime(f"{date.year:04}-%m-%d %H:%M") + (f":{date:%S}" if date.second or date.microsecond else "") + (f".{date.microsecond:06}" if date.microsecond else "")
+
+
 def _shown(value, depth=0):
-    """A value of a filter: a key as a label, a date as its number, and so on."""
+    """A value of a filter: a key as a label, a date as a calendar has it, and so on."""
     if isinstance(value, list) and depth < 3:
         return "(" + ", ".join(_shown(it, depth + 1) for it in value[:30]) + ")"
     if isinstance(value, dict) and len(value) == 1 and depth < 3:
         (form, inner), = value.items()
         key = keys.read_key(inner) if form == "key" else None
-        return keys.label(key) if key else _shown(inner, depth + 1)
+        return keys.label(key) if key else form == "date" and _date(inner) or _shown(inner, depth + 1)
     return keys.word(value) if isinstance(value, str) else keys.cut(json.dumps(value), 40)
 
 

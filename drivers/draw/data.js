@@ -8,7 +8,7 @@ const opOf = row => run.ops[col.op[row]], nameOf = row => opOf(row).replace("_",
 const commitOf = new Map(run.commits.map(([number, row, groups, writes]) => [number, {number, row, groups, writes}]));
 const commitInRow = new Map(run.commits.map(([number, row]) => [row, number]));
 const countsIn = byRow(run.counts);
-const queryIn = new Map(run.queries.map(([row, scope, ofKind, others, meanwhile]) => [row, {scope, ofKind, others, meanwhile}]));
+const queryIn = new Map(run.queries.map(([row, scope, ofKind, others, meanwhile, commits]) => [row, {scope, ofKind, others, meanwhile, commits: commits && new Set(commits)}]));
 const isStale = row => queryIn.get(row)?.ofKind > 0;
 const rowOfLine = new Map(col.line.map((line, row) => [line, row]));
 const wrongRow = rowOfLine.get(run.verdict?.line) ?? -1;
@@ -18,6 +18,9 @@ const touchIn = byRow(spans.flatMap(span => span.touches));
 const wayIn = byRow(run.ways);
 const strongIn = byRow(run.strong);
 const missingIn = byRow(run.missing);
+const siteIn = new Map(run.sites);
+const isHeading = row => opOf(row) === "test";
+const isOwn = row => siteIn.size > 0 && !siteIn.has(row) && !isHeading(row);
 const clients = [...new Set(col.client)].sort((a, b) => a - b);
 const usedShards = run.entries.flatMap((entries, shard) => entries.length ? [shard] : []);
 
@@ -46,13 +49,16 @@ function firstWhere(high, holds, low = 0) {
 
 const writesOfKind = (number, group, wanted) => commitOf.get(number).writes.some(([, , scope, into]) => into === group && (scope === wanted || run.scopes[scope][1] === wanted));
 
-/* The entries that the query of a row missed, those of its kind first, at most so many of each. */
+/* Whether an entry that a query missed would have changed its results. */
+const changes = (query, number, group) => (!query.commits || query.commits.has(number)) && writesOfKind(number, group, query.scope);
+
+/* The entries that the query of a row missed, those that would have changed its results first, at most so many of each. */
 function missedBy(row, most) {
   const query = queryIn.get(row), [counts] = countsIn.get(row) || [], ofKind = [], others = [];
   if (!query || query.ofKind + query.others === 0) return ofKind;
   run.entries.forEach((entries, shard) => {
     for (let at = counts[shard]; at < entries.length && entries[at][0] <= col.known[row]; at++) {
-      const [number, group] = entries[at], list = writesOfKind(number, group, query.scope) ? ofKind : others;
+      const [number, group] = entries[at], list = changes(query, number, group) ? ofKind : others;
       if (list.length < most) list.push({number, group, shard, ofKind: list === ofKind});
     }
   });
@@ -76,5 +82,5 @@ const short = text => text.replace(/\b45035996\d{4}(\d{4})\b/g, "…$1");
 let searched = null;
 const searchTexts = () => searched ??= col.line.map((line, row) => {
   const written = opOf(row) === "commit" ? (commitOf.get(commitInRow.get(row))?.writes || []).map(([label]) => label).join(" ") : "";
-  return `line ${line} client ${col.client[row]} ${opOf(row)} ${col.label[row]} ${written} ${col.result[row]} ${stateOf(row)}`.toLowerCase();
+  return `line ${line} client ${col.client[row]} ${opOf(row)} ${col.label[row]} ${written} ${col.result[row]} ${stateOf(row)} ${siteIn.get(row) ?? ""}`.toLowerCase();
 });

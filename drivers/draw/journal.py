@@ -7,7 +7,7 @@ import keys
 from asked import number, read_json
 
 ROUND_LINES, ROUND_BYTES, KEPT_BYTES = 65_536, 67_108_864, 2_097_153
-OPS = ("put", "delete", "get", "query", "gql", "begin", "commit", "rollback", "settle", "apply", "allocate_ids", "?")
+OPS = ("put", "delete", "get", "query", "gql", "begin", "commit", "rollback", "settle", "apply", "allocate_ids", "?", "test")
 
 
 class Line:
@@ -25,7 +25,7 @@ class Line:
         client = number(reply.get("client"), 0, 15)
         self.client = client if client is not None else number(request.get("client"), 0, 15) or 0
         op = reply["ok"] if self.ok else request.get("op")
-        self.op = op if op in OPS else "?"
+        self.op = op if op in OPS and op != "test" else "?"
         self.commit = number(reply.get("commit"), 1, lines)
         self.place = number(reply.get("place"), 0, lines)
         counts = reply.get("applied")
@@ -43,12 +43,23 @@ class Line:
             self.group = keys.group_of(self.key) if self.key else None
 
 
+class Heading:
+    """A row above the lines of a test, with its name: it has what a line has that asks nothing, and stands with the line below it."""
+
+    op, text, answer, ok, over = "test", "", "", True, None
+    group = scope = counts = commit = place = None
+    request = reply = {}
+
+    def __init__(self, name, line):
+        self.label, self.number, self.client, self.round = name, line.number, line.client, line.round
+
+
 class Transaction:
     """From begin to its end: first and last line, the first touches as (line, group, place), the writes as (key, is it a delete)."""
 
     def __init__(self, begin):
         self.first = self.last = begin
-        self.touches, self.touched, self.writes, self.end = [], set(), [], "open"
+        self.touches, self.touched, self.writes, self.contents, self.end = [], set(), [], {}, "open"
 
     def follow(self, line):
         """Takes the next line of its client; says whether it ends the transaction."""
@@ -58,6 +69,7 @@ class Transaction:
             self.touches.append((line, line.group, line.place))
         if line.ok and line.op in ("put", "delete") and line.key:
             self.writes.append((line.key, line.op == "delete"))
+            self.contents[line.key] = content_of(line)
         if line.reply.get("name") in ("Conflict", "Expired"):
             self.end = "conflict" if line.reply["name"] == "Conflict" else "expiry"
         elif line.ok and line.op in ("commit", "rollback"):
@@ -65,11 +77,19 @@ class Transaction:
         return self.end != "open"
 
 
-class Commit:
-    """The line that was answered with the number, its writes as (key, is it a delete), and the same by entity group, in the groups' order."""
+def content_of(line):
+    """The properties that a put's line gives an entity, as the protocol has them; None of a delete."""
+    entity = line.request.get("entity")
+    properties = entity.get("properties") if isinstance(entity, dict) else None
+    return None if line.op == "delete" else properties if isinstance(properties, dict) else {}
 
-    def __init__(self, line, writes):
-        self.line, self.writes, groups = line, writes, {}
+
+class Commit:
+    """The line that was answered with the number, its writes as (key, is it a delete), and the same by entity group, in the groups' order; `contents` are
+    the properties of what it wrote by keys, None of what it deleted."""
+
+    def __init__(self, line, writes, contents):
+        self.line, self.writes, self.contents, groups = line, writes, contents, {}
         for write in writes:
             groups.setdefault(keys.group_of(write[0]), []).append(write)
         self.groups = {group: groups[group] for group in sorted(groups, key=keys.encoded)}
@@ -138,7 +158,9 @@ class Run:
                 alone = [(line.key, line.op == "delete")] if line.op in ("put", "delete") and line.key else []
                 if alone:
                     line.read_at = read_at.pop((line.client, line.key), None)
-                self.commits[line.commit] = Commit(line, transaction.writes if line.op == "commit" and transaction else alone)
+                is_whole = line.op == "commit" and transaction
+                contents = transaction.contents if is_whole else {key: content_of(line) for key, _ in alone}
+                self.commits[line.commit] = Commit(line, transaction.writes if is_whole else alone, contents)
 
 
 def read_lines(data):

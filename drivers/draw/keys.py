@@ -6,6 +6,21 @@ import functools
 import json
 
 
+_hidden = frozenset()
+
+
+def hide(namespaces):
+    """Labels don't name these namespaces from now on, as those that tests have."""
+    global _hidden
+    _hidden = frozenset(it for it in namespaces if isinstance(it, str))
+    label.cache_clear()
+
+
+def space(namespace):
+    """The words for a namespace that stand before a label: none for the default one, and for one that isn't named."""
+    return [word(namespace)] if namespace and namespace not in _hidden else []
+
+
 def read_key(value):
     """The key that a JSON value stands for; None where it is none."""
     if not isinstance(value, list):
@@ -20,6 +35,12 @@ def read_key(value):
         if isinstance(identifier, bool) or not (isinstance(identifier, int) and 0 < identifier < 2**63 or isinstance(identifier, str) and identifier):
             return None
     return namespace, tuple((kind, identifier) for kind, identifier in parts)
+
+
+def written(key):
+    """The key as the protocol writes it."""
+    namespace, path = key
+    return ([namespace] if namespace else []) + [list(pair) for pair in path]
 
 
 def group_of(key):
@@ -72,4 +93,4 @@ def label(key):
     """A key for the eye: `Guestbook main / Greeting 12`, with its namespace before it where it has one."""
     namespace, path = key
     shown = " / ".join(f"{word(kind)} {identifier if isinstance(identifier, int) else word(identifier)}" for kind, identifier in path)
-    return cut(f"{word(namespace)}: {shown}" if namespace else shown)
+    return cut(": ".join([*space(namespace), shown]))

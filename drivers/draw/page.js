@@ -32,9 +32,16 @@ function pretty(text, style = "") {
       if (inside) { inside--; made.append(token); } else { depth--; made.append(turn() + token); }
     } else if (token === ",") made.append(inside ? ", " : "," + turn());
     else if (token === ":") made.append(": ");
-    else made.append(el("span", tokens[i + 1] === ":" ? "name" : token[0] === '"' ? "text" : "number", token));
+    else made.append(el("span", tokens[i + 1] === ":" ? "name" : token[0] === '"' ? "text" : "number", token), ...dateOf(tokens, i));
   });
   return made;
+}
+
+/* Behind the number of {"date": number} the date that it is, where it is one that the browser can tell. */
+function dateOf(tokens, i) {
+  if (tokens[i - 1] !== ":" || tokens[i - 2] !== '"date"' || !/^-?\d+$/.test(tokens[i])) return [];
+  const date = new Date(Math.floor(Number(tokens[i]) / 1000));
+  return isNaN(date) ? [] : [el("span", "name", ` ${date.toISOString().replace("T", " ").replace(/(:00)?\.000Z$/, "").replace("Z", "")} UTC`)];
 }
 
 const indexFile = entries => ["indexes:\n", ...new Set(entries.filter(Boolean))].join("").replace(/^indexes:\n$/, "");
@@ -49,13 +56,25 @@ function commitButton(number, why) {
   return button("commit", () => choose(commit.row), dot(commit.groups[0]), el("span", "", el("b", "", `Commit ${number} `), written(commit), el("small", "", why)));
 }
 
+/* The rows of headings, and of a row the test that it belongs to. */
+const headings = col.op.flatMap((op, row) => run.ops[op] === "test" ? [row] : []);
+const testOf = row => col.label[headings[firstWhere(headings.length, at => headings[at] > row) - 1]];
+
+function headingPanel(row) {
+  const end = headings.find(other => other > row) ?? ROWS, found = notable.filter(it => row < it && it < end);
+  return [el("div", "where", "test"), el("h2", "", col.label[row]), el("p", "", `Lines ${col.line[row]} to ${col.line[end - 1]}.`),
+    ...found.map(it => button("commit", () => choose(it), dot(), el("span", stateOf(it), `${nameOf(it)} ${col.label[it]}`, el("small", "", `line ${col.line[it]} · ${col.result[it] || stateOf(it)}`))))];
+}
+
 function rowPanel(row) {
-  const [asked, answer] = run.texts[row], parts = [el("div", "where", `line ${col.line[row]} · client ${col.client[row]} · round ${col.round[row]}`)];
+  if (isHeading(row)) return headingPanel(row);
+  const [asked, answer] = run.texts[row], parts = [el("div", "where", `line ${col.line[row]} · client ${col.client[row]} · round ${col.round[row]}`, el("span", "", siteIn.get(row) ?? (isOwn(row) ? "asked by the driver itself" : "")))];
+  if (testOf(row)) parts.push(el("div", "where", testOf(row)));
   parts.push(el("h2", row === wrongRow ? "wrong" : "", `${nameOf(row)} ${col.label[row]}`), ...story(row).map(([tone, text]) => el("p", tone, text)));
   const missed = missedBy(row, 40), query = queryIn.get(row) || {}, others = missed.filter(it => !it.ofKind).slice(0, 5);
   for (const {number, shard, ofKind} of missed) if (ofKind) parts.push(commitButton(number, `committed, not applied on shard ${shard} · ${byWhom(commitOf.get(number))}`));
   if (query.ofKind > 40) parts.push(el("p", "", `and ${(query.ofKind - 40).toLocaleString("en")} more`));
-  if (query.others) parts.push(heading(`Missed, of other kinds: ${query.others.toLocaleString("en")}`), ...others.map(it => commitButton(it.number, `not applied on shard ${it.shard}`)));
+  if (query.others) parts.push(heading(`Missed, without effect on the results: ${query.others.toLocaleString("en")}`), ...others.map(it => commitButton(it.number, `not applied on shard ${it.shard}`)));
   const [inTheWay] = wayIn.get(row) || [], commit = commitOf.get(commitInRow.get(row));
   if (commitOf.has(inTheWay)) parts.push(commitButton(inTheWay, byWhom(commitOf.get(inTheWay))));
   const writes = (commit?.writes || []).slice(0, 40).map(([label, gone, , group]) => el("div", "commit", dot(group), `${gone ? "delete" : "put"} ${label}`));
@@ -98,7 +117,7 @@ function summary() {
   const words = (count, one, more) => [el("b", "", count.toLocaleString("en")), ` ${count === 1 ? one : more}`], index = indexFile([...missingIn.values()].flat()), {verdict, line} = run.verdict || {};
   const goes = (state, ...names) => findings[state] ? [button(state, () => next(findings[state]), ...words(findings[state].length, ...names))] : [];
   const judged = verdict === "legal" ? [el("span", "good", el("b", "", "legal"))] : verdict ? [button("wrong", () => choose(wrongRow), el("b", "", line ? `not legal: line ${line}` : verdict))] : [];
-  byId("summary").append(...judged, el("span", "", ...words(ROWS, "line", "lines")), el("span", "", ...words(run.commits.length, "commit", "commits")), ...goes("conflict", "conflict", "conflicts"),
+  byId("summary").append(...judged, el("span", "", ...words(ROWS - headings.length, "line", "lines")), el("span", "", ...words(run.commits.length, "commit", "commits")), ...goes("conflict", "conflict", "conflicts"),
     ...goes("overwrote", "unseen overwrite", "unseen overwrites"), ...goes("stale", "stale query", "stale queries"), ...goes("missing", "missing index", "missing indexes"),
     ...(index ? [copyButton(index)] : []), ...goes("refused", "refusal", "refusals"), ...goes("silent", "line without reply", "lines without reply"));
 }
@@ -124,6 +143,9 @@ function press(event) {
   else if (key === "/" && !typing) byId("search").focus();
   else if (key === "ArrowDown" || key === "ArrowUp") {
     if (ROWS) choose(Math.max(0, Math.min(ROWS - 1, key === "ArrowDown" ? chosen + 1 : chosen < 0 ? ROWS - 1 : chosen - 1)));
+  } else if (["Home", "End", "PageUp", "PageDown"].includes(key) && !typing) {
+    const page = Math.max(1, Math.floor((at.height - HEAD) / H) - 1), from = Math.max(0, chosen);
+    if (ROWS) choose({Home: 0, End: ROWS - 1, PageUp: Math.max(0, from - page), PageDown: Math.min(ROWS - 1, from + page)}[key]);
   } else if ((key === "ArrowRight" || key === "ArrowLeft") && !typing) next(found || notable, key === "ArrowRight" ? 1 : -1);
   else return;
   event.preventDefault();

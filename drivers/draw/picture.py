@@ -1,30 +1,58 @@
 """What a page draws of a run: its lines in an order in which they can have happened, what each query missed, and what was found.
 
 A query without ancestor *missed* an entry that isn't among its counted ones, and that was committed before it, as the earlier replies to its
-client and those of earlier rounds show. It is *stale* where a missed entry writes its kind, in its namespace.
+client and those of earlier rounds show. It is *stale* where it would have found other results with a missed entry that writes its kind, in its namespace.
 """
 import bisect
+import importlib.util
+import pathlib
 import re
 
 import journal
 import keys
 from asked import number
 
+# The driver's own: which writes would change the results of a query. It stands on nothing else of the package.
+_found = importlib.util.spec_from_file_location("answers", pathlib.Path(__file__).resolve().parents[1] / "python" / "torfyllan" / "answers.py")
+answers = importlib.util.module_from_spec(_found)
+_found.loader.exec_module(answers)
+
+# So many missed entries are looked at; of a query that missed more, all that write its kind count.
+COMPARED = 200
+# Of a run whose lines have places in a source these aren't drawn where they have none, as the driver asks them before each test.
+FOLDED = ("settle", "allocate_ids")
 PLAIN_NAME = re.compile(r"""[^\s"'#]+""")
 
 
 class Picture:
-    """The data of a page, as `data()` gives it: lists and texts alone, which JSON holds."""
+    """The data of a page, as `data()` gives it: lists and texts alone, which JSON holds. `sites` are places in a source by lines, as texts, and
+    `tests` the first lines of tests, with their names and namespaces."""
 
-    def __init__(self, run):
+    def __init__(self, run, sites=None, tests=()):
         self.run = run
+        self.sites = sites if isinstance(sites, dict) else {}
         self.names = {}
         self.commits_of = [[commit for commit, _ in entries] for entries in run.entries]
         self.writing = [self._by_scope(entries) for entries in run.entries]
         self.known, self.ends, self.order = {}, {}, {}
         self._look()
-        self.rows = sorted(run.lines, key=lambda line: (line.round, self.order[line.number], line.client, line.number))
-        self.row = {line.number: at for at, line in enumerate(self.rows)}
+        self.folded = [line for line in run.lines if self.sites and str(line.number) not in self.sites and line.ok and line.op in FOLDED]
+        kept = set(map(id, self.folded))
+        self.rows = sorted((line for line in run.lines if id(line) not in kept), key=lambda line: (line.round, self.order[line.number], line.client, line.number))
+        self._head(tests)
+        self.row = {line.number: at for at, line in enumerate(self.rows) if line.op != "test"}
+
+    def _head(self, tests):
+        """Puts a heading above the first row of each test; none for a test that has no row of its own."""
+        begins, seen, rows = sorted(tests), set(), []
+        starts = [line for line, _, _ in begins]
+        for row in self.rows:
+            at = bisect.bisect_right(starts, row.number) - 1
+            if at >= 0 and at not in seen:
+                seen.add(at)
+                rows.append(journal.Heading(begins[at][1], row))
+            rows.append(row)
+        self.rows = rows
 
     def _by_scope(self, entries):
         """For a namespace and kind, and for a namespace alone: the places of the entries that write there, ascending."""
@@ -69,20 +97,41 @@ class Picture:
     def scope(self, scope):
         namespace, kind = scope
         parent = self.scope((namespace, None)) if kind is not None else -1
-        words = [keys.word(namespace)] if namespace else []
+        words = keys.space(namespace)
         return self.name("scopes", scope, [": ".join([*words, keys.word(kind) if kind is not None else "all kinds"]), parent])
 
     def missed(self, line):
-        """Of a query without ancestor: entries missed that write its kind, others that were missed, and ones committed meanwhile."""
+        """Of a query without ancestor: entries missed with which it would have found other results, others that were missed, and ones committed
+        meanwhile; and the commits of the first, or None where these are all that write its kind."""
         of_kind = others = meanwhile = 0
+        entries = []
         for shard, commits in enumerate(self.commits_of):
             low = min(line.counts[shard], len(commits))
             high = bisect.bisect_right(commits, self.known[line.number], low)
             writing = self.writing[shard].get(line.scope, [])
             here = bisect.bisect_left(writing, high) - bisect.bisect_left(writing, low)
             of_kind, others = of_kind + here, others + high - low - here
+            if of_kind <= COMPARED:
+                entries += [self.run.entries[shard][at] for at in writing[bisect.bisect_left(writing, low) : bisect.bisect_left(writing, high)]]
             meanwhile += bisect.bisect_right(commits, self.ends[line.round], high) - high
-        return of_kind, others, meanwhile
+        changing = self._changing(line, entries) if 0 < of_kind <= COMPARED and line.op == "query" else None
+        if changing is not None and len(changing) < of_kind:
+            return len(changing), others + of_kind - len(changing), meanwhile, sorted({commit for commit, _ in changing})
+        return of_kind, others, meanwhile, None
+
+    def _changing(self, line, entries):
+        """Of the entries that a query missed of its kind those that would have changed its results; None where a text of the run keeps this from being told."""
+        namespace, kind = line.scope
+        last = {}
+        for commit, group in sorted(entries, key=lambda entry: entry[0]):
+            for key, _ in self.run.commits[commit].groups[group]:
+                if key[0] == namespace and kind in (None, key[1][-1][0]):
+                    last[key] = commit, group
+        try:
+            query, results = answers.Asked(line.request), line.reply.get("results")
+            return {entry for key, entry in last.items() if query.effect(keys.written(key), self.run.commits[entry[0]].contents[key], results)}
+        except (TypeError, ValueError, KeyError, AttributeError, IndexError, RecursionError):
+            return None
 
     def result(self, line, of_kind):
         """A few words on the reply, and the state that colours them."""
@@ -101,9 +150,10 @@ class Picture:
 
     def data(self):
         run, columns = self.run, {name: [] for name in ("line", "client", "round", "op", "label", "result", "state", "commit", "place", "group", "known")}
+        notes = [*run.notes, *([f"{len(self.folded)} settles and draws of ids, which the driver asked itself, aren't drawn."] if self.folded else [])]
         queries, counts, strong, ways, missing, states = [], [], [], [], [], ["", "silent", "conflict", "missing", "refused", "stale", "overwrote"]
         for at, line in enumerate(self.rows):
-            missed = self.missed(line) if line.counts and line.op in ("query", "gql") else (0, 0, 0)
+            missed = self.missed(line) if line.counts and line.op in ("query", "gql") else (0, 0, 0, None)
             result, state = self.result(line, missed[0])
             place = -1 if line.place is None else line.place
             values = (line.number, line.client, line.round, journal.OPS.index(line.op), keys.cut(line.label), result, states.index(state),
@@ -121,6 +171,7 @@ class Picture:
             group = keys.read_key(line.reply.get("group")) if state == "conflict" else line.over and line.group
             if group and line.commit:
                 ways.append([at, line.over or line.commit, self.group(group)])
+        counts += self._counts_of_folded()
         texts = [[keys.cut(line.text, 100_000), keys.cut(line.answer or "", 100_000)] for line in self.rows]
         commits = [[commit, self.row[it.line.number], [self.group(group) for group in it.groups],
                     [[keys.label(key), int(gone), self.scope((key[0], key[1][-1][0])), self.group(keys.group_of(key))] for key, gone in it.writes]]
@@ -128,9 +179,20 @@ class Picture:
         spans = [[it.first.client, self.row[it.first.number], self.row[it.last.number], it.end, len(it.writes),
                   [[self.row[line.number], self.group(group), place] for line, group, place in it.touches]] for it in run.transactions]
         entries = [[[commit, self.group(group)] for commit, group in entries] for entries in run.entries]
+        sites = [[at, keys.cut(self.sites[str(line.number)])] for at, line in enumerate(self.rows) if line.op != "test" and isinstance(self.sites.get(str(line.number)), str)]
         tables = {table: [label for _, label in self.names.get(table, {}).values()] for table in ("groups", "scopes")}
         return {"shards": run.shards, "ops": journal.OPS, "states": states, "columns": columns, "texts": texts, "queries": queries, "counts": counts,
-                "strong": strong, "commits": commits, "spans": spans, "entries": entries, "ways": ways, "missing": missing, "notes": run.notes, **tables}
+                "strong": strong, "commits": commits, "spans": spans, "entries": entries, "ways": ways, "missing": missing, "notes": notes,
+                "sites": sites, **tables}
+
+    def _counts_of_folded(self):
+        """What the settles that aren't drawn had applied, each at the first row behind it, where that tells no counts of its own."""
+        rounds, found = [line.round for line in self.rows], {}
+        for line in self.folded:
+            at = bisect.bisect_right(rounds, line.round)
+            if line.counts and at < len(self.rows) and not self.rows[at].counts:
+                found[at] = [min(count, len(commits)) for count, commits in zip(line.counts, self.commits_of)]
+        return [[at, counts] for at, counts in found.items()]
 
     def _applied(self, at, line):
         """What a reply shows to be applied of one shard: an apply's count, and behind a read that is up to date all up to its place."""

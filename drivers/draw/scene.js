@@ -10,19 +10,42 @@ function readInk() {
 }
 const hueOf = group => `oklch(${Number(ink.light) - 0.1 * (Math.floor(group / HUES.length) % 2)} ${ink.chroma} ${HUES[group % HUES.length]})`;
 
-/* Where all stands. Words are in the lanes where there is room for them, else in one column beside narrow lanes. */
+/* The width with which most words of the rows are whole, and most labels of the journal; few long ones don't take the room of all. */
+const MEASURED = 2000, MOST = 0.92;
+let needs = null;
+function needed() {
+  if (needs) return needs;
+  const words = [], labels = [], ofMost = widths => widths.sort((a, b) => a - b)[Math.floor(MOST * (widths.length - 1))] || 0;
+  for (let row = 0; row < Math.min(ROWS, MEASURED); row++) {
+    const query = queryIn.get(row), tail = query?.ofKind ? ` · missed ${query.ofKind}` : "";
+    words.push(wideOf(nameOf(row) + short(col.label[row]), "12.5px") + wideOf(short(col.result[row]) + tail, "600 12.5px") + 46);
+  }
+  for (const commit of run.commits.slice(0, MEASURED).map(([number]) => commitOf.get(number))) {
+    const label = commit.groups.length > 1 ? many(commit.groups.length, "group") : commit.groups.length ? short(run.groups[commit.groups[0]][0]) : "no write";
+    labels.push(wideOf(String(commit.number), "600 12.5px") + wideOf(label, "12.5px") + 52);
+  }
+  return needs = {words: ofMost(words), labels: ofMost(labels)};
+}
+
+/* Where all stands. Words are in the lanes where there is room for them, else in one column beside narrow lanes. The journal's labels and then the
+   words have the room that they need, as far as it goes with a least one for each shard; the shards have what is left, up to what they can use. */
+const SHARD = 22, PHONE = 600;
 function place() {
-  const clamp = (value, low, high) => Math.max(low, Math.min(high, value)), {clientWidth: width, clientHeight: height} = view, overview = ROWS * H + HEAD > height ? OVERVIEW : 0;
-  const free = width - overview - GUTTER - 12, count = clients.length, shards = usedShards.length, lengths = usedShards.map(shard => run.entries[shard].length);
-  const wanted = lengths.map(length => (length <= 12 ? 17 * Math.max(length, 2) : 11 * Math.min(length, 22)) + 62), total = wanted.reduce((sum, each) => sum + each, 0);
-  const inLanes = count <= 3 && free - Math.min(total, shards * 66) - 130 >= 150 * count + 100;
-  const narrow = clamp((free - 366 - shards * 23) / Math.max(1, count), 15, 26), least = inLanes ? 150 * count + 100 : narrow * count + 250;
-  const room = clamp(free - least - 130, shards * 23, Math.min(total, Math.max(free * 0.45, shards * 23))), journal = clamp(free - least - room, 116, 190), rest = free - room - journal;
-  const lane = inLanes ? Math.min(430, rest / count) : narrow, words = inLanes ? 0 : GUTTER + narrow * count + 4;
-  at = {width, height, overview, lane, words, shards: {}, journal: (inLanes ? GUTTER + lane * count : words + clamp(rest - narrow * count - 18, 200, 560)) + 14, journalWide: journal};
+  const clamp = (value, low, high) => Math.max(low, Math.min(high, value)), {clientWidth: width, clientHeight: height} = view;
+  const overview = ROWS * H + HEAD > height && width >= PHONE ? OVERVIEW : 0, free = width - overview - GUTTER - 12;
+  const count = clients.length, shards = usedShards.length, lengths = usedShards.map(shard => run.entries[shard].length), need = needed();
+  const wanted = lengths.map(length => Math.max(SHARD, (length <= 12 ? 17 * Math.max(length, 2) : 11 * Math.min(length, 22)) + 62)), total = wanted.reduce((sum, each) => sum + each, 0);
+  const labels = clamp(need.labels, 116, 300), inLanes = count <= 3 && free - Math.min(total, shards * 66) - labels >= 150 * count + 100;
+  const narrow = clamp((free - 366 - shards * SHARD) / Math.max(1, count), 15, 26), lanes = inLanes ? 0 : narrow * count + 18;
+  const fewest = inLanes ? 150 * count + 100 : width < PHONE ? 170 : 200, most = inLanes ? 430 * count : 560;
+  const words = clamp(inLanes ? need.words + 30 * count : need.words, fewest, most);
+  const room = clamp(free - lanes - words - labels, shards * SHARD, Math.max(total, shards * SHARD)), rest = free - lanes - room;
+  const journal = clamp(rest - fewest, 116, labels), wide = clamp(rest - journal, fewest, most);
+  at = {width, height, overview, lane: inLanes ? wide / count : narrow, words: inLanes ? 0 : GUTTER + narrow * count + 4, shards: {}, journalWide: journal};
+  at.journal = (inLanes ? GUTTER + wide : at.words + wide) + 14;
   let x = at.journal + journal;
   usedShards.forEach((shard, i) => {
-    const wide = wanted[i] * Math.min(1, room / total), counted = wide > 90 ? 62 : 6;
+    const wide = SHARD + (total > shards * SHARD ? (wanted[i] - SHARD) * Math.min(1, (room - shards * SHARD) / (total - shards * SHARD)) : 0), counted = wide > 90 ? 62 : 6;
     const cell = clamp(Math.floor((wide - counted) / Math.max(lengths[i], 1)), 5, 17);
     at.shards[shard] = {x, wide, cell, counted: counted > 6, most: Math.max(1, Math.floor((wide - counted) / cell))};
     x += wide;
@@ -75,6 +98,7 @@ const disc = (x, y, radius, color, stroke = 0) => shape(color, stroke, () => pen
 
 /* The mark of a row on its lane: writes are discs, reads are rings, queries are squares, and what applies entries is a wedge. */
 function mark(row, x, y) {
+  if (isHeading(row)) return;
   const op = opOf(row), color = col.group[row] < 0 ? ink.dim : hueOf(col.group[row]), state = stateOf(row);
   if (state && !["stale", "overwrote"].includes(state)) {
     disc(x, y, 6.5, ink.ground);
@@ -89,15 +113,22 @@ function mark(row, x, y) {
   else disc(x, y, 3.5, ink.dim, op === "allocate_ids" ? 1.5 : 0);
 }
 
+/* The name of a test above its rows, with a line over it. */
+function headline(row, y) {
+  line(ink.faint, 1.5, [[14, y - H / 2], [at.whole - 14 - at.overview, y - H / 2]]);
+  return write(col.label[row], 18, y + 1, ink.ink, at.journal - 40, "600 12.5px");
+}
+
 /* The words of a row; gives where they end. They may reach over the lanes of others, of which nothing stands in the same row. */
 function words(row, y) {
+  if (isHeading(row)) return headline(row, y);
   const x = at.words || laneX(col.client[row]) + 13, end = at.journal - 26, state = stateOf(row), query = queryIn.get(row), bad = state && state !== "stale";
   const op = nameOf(row), label = short(col.label[row]), bold = "600 12.5px";
   const missed = query && query.ofKind ? `missed ${query.ofKind.toLocaleString("en")}` : "", result = missed && end - x < 250 ? "" : short(col.result[row]);
   const tail = missed && result ? ` · ${missed}` : missed;
   const tailWide = result || tail ? wideOf(result + tail, bold) + 14 : 0, whole = wideOf(op + label, "12.5px") + 20 + tailWide;
   if (!at.words && whole > at.lane - 30) box(x, y - 9, Math.min(whole, end - x), 18, 4, groundOf(row));
-  let next = write(label, write(op, x, y, ink.dim, end - x) + 6, y, ink.ink, Math.max(40, end - x - wideOf(op, "12.5px") - 6 - tailWide));
+  let next = write(label, write(op, x, y, ink.dim, end - x) + 6, y, isOwn(row) ? ink.dim : ink.ink, Math.max(40, end - x - wideOf(op, "12.5px") - 6 - tailWide));
   if (result) next = write(result, next + 10, y, bad ? ink[state] : ink.dim, end - next, bad ? bold : "12.5px");
   return tail ? write(tail, result ? next : next + 10, y, ink.stale, end - next, bold) : next;
 }
@@ -145,7 +176,7 @@ function entriesOf(shard, row, y) {
     if (i < sizeAt(row - 1, shard)) bar(top, i >= was);
     bar(y, i >= now);
     pen.globalAlpha = 1;
-    if (!query || i < count || entries[i][0] > col.known[row] || !writesOfKind(...entries[i], query.scope)) continue;
+    if (!query || i < count || entries[i][0] > col.known[row] || !changes(query, ...entries[i])) continue;
     box(left - 1.5, y - 6.5, wide + 3, 13, 3.5, ink.stale, -2);
     ringed = true;
   }
@@ -232,7 +263,7 @@ function paint() {
     const y = rowY(row);
     pen.globalAlpha = matching && !matching.has(row) ? 0.3 : 1;
     if (row === wrongRow) box(14, y - H / 2 + 1, 3, H - 2, 1, ink.wrong);
-    const number = String(col.line[row]);
+    const number = isHeading(row) ? "" : String(col.line[row]);
     write(number, GUTTER - 12 - wideOf(number, "11.5px"), y, row === chosen ? ink.ink : ink.dim, GUTTER, "11.5px");
     ends.set(row, words(row, y));
     mark(row, laneX(col.client[row]), y);

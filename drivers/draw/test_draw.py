@@ -1,7 +1,7 @@
 """Tests of the page that shows a run: what it derives against the server, and the page itself in a browser.
 
     python3 drivers/draw/test_draw.py
-    python3 drivers/draw/test_draw.py --pictures      makes the pictures of the guide again
+    python3 drivers/draw/test_draw.py --pictures      makes the pictures of docs/tools.md again
 
 The tests in a browser need Chromium (`apt-get install chromium`), and are skipped with a word where it isn't there.
 """
@@ -34,7 +34,7 @@ from torfyllan import Key, MissingIndex, Server
 EXAMPLES = TOP / "examples"
 PICTURES = TOP / "docs" / "pictures"
 CHROMIUM = next(filter(None, map(shutil.which, ("chromium", "chromium-browser", "google-chrome"))), None)
-OPEN_SECONDS = 3
+OPEN_SECONDS = 6
 
 # A commit that is seen after one that isn't: of two shards one has applied its entry.
 STALE = """\
@@ -146,14 +146,14 @@ class Derived(unittest.TestCase):
         self.assertEqual(data["shards"], 2)
         self.assertEqual([[commit for commit, _ in entries] for entries in data["entries"]], [[1, 3], [2]])
         missed = {data["columns"]["line"][row]: rest for row, _, *rest in data["queries"]}
-        self.assertEqual(missed, {5: [2, 0, 0], 7: [0, 0, 0]})
+        self.assertEqual(missed, {5: [2, 0, 0, None], 7: [0, 0, 0, None]})
 
     def test_what_is_written_at_the_same_time_is_not_missed(self):
         lines = '{"op":"put","entity":{"key":[["T",1]]}}\n\n{"client":1,"op":"put","entity":{"key":[["T",2]]}}\n{"op":"query","kind":"T"}\n{"op":"query","kind":"U"}\n'
         replies = ('{"client":0,"commit":1,"key":[["T",1]],"line":1,"ok":"put"}\n{"client":0,"applied":[0],"line":4,"ok":"query","results":[]}\n'
                    '{"client":0,"applied":[0],"line":5,"ok":"query","results":[]}\n{"client":1,"commit":2,"key":[["T",2]],"line":3,"ok":"put"}\n')
         data = data_of(lines, replies)
-        self.assertEqual([rest for _, _, *rest in data["queries"]], [[1, 0, 1], [0, 1, 1]])
+        self.assertEqual([rest for _, _, *rest in data["queries"]], [[1, 0, 1, None], [0, 1, 1, None]])
 
     def test_a_conflict_has_its_commit_and_its_touch(self):
         data = data_of(*example("a_conflict"))
@@ -706,8 +706,9 @@ def small_png(browser, picture):
 
 
 def make_pictures():
-    """The pictures of the guide, from runs of the examples."""
+    """The pictures of docs/tools.md, from runs of the examples."""
     PICTURES.mkdir(exist_ok=True)
+    os.chdir(TOP)  # so that places in the examples are told by their names there
     browser = Browser()
     with tempfile.TemporaryDirectory() as folder:
         sign_guestbook(pathlib.Path(folder, "guestbook.html"))

@@ -16,7 +16,7 @@ function appliedSentences(commit) {
 function queryStory(row) {
   const query = queryIn.get(row), entries = countsIn.get(row)[0].reduce((sum, count) => sum + count, 0), missed = query.ofKind + query.others;
   return [["", `Answered from what was applied: ${entries} of ${many(entries + missed, "entry", "entries")} committed before it.`],
-    query.ofKind ? ["stale", `It missed ${many(query.ofKind, "committed write")} of ${run.scopes[query.scope][0]}:`] : missed ? ["", "What it missed is of other kinds."] : ["good", "It missed nothing."],
+    query.ofKind ? ["stale", `It missed ${many(query.ofKind, "committed write")} of ${run.scopes[query.scope][0]}, and would have found otherwise:`] : missed ? ["", "What it missed changes nothing in its results."] : ["good", "It missed nothing."],
     ...(query.meanwhile ? [["", `${many(query.meanwhile, "more entry was", "more entries were")} committed in the same round, at the same time.`]] : [])];
 }
 

@@ -50,7 +50,7 @@ class Keys(WithServer):
         self.assertEqual((key.kind, key.id, key.name, key.id_or_name, key.is_partial), ("Greeting", 7, None, 7, False))
         self.assertEqual((key.flat_path, key.path), (("Book", "main", "Greeting", 7), [{"kind": "Book", "name": "main"}, {"kind": "Greeting", "id": 7}]))
         self.assertEqual((key.parent, key.parent.parent, key.project, key.namespace), (self.client.key("Book", "main"), None, "torfyllan", None))
-        self.assertEqual((key, len({key, self.client.key("Greeting", 7, parent=key.parent)})), (cloud.Key("Book", "main", "Greeting", 7), 1))
+        self.assertEqual((key, len({key, self.client.key("Greeting", 7, parent=key.parent)})), (cloud.Key("Book", "main", "Greeting", 7, project="torfyllan"), 1))
         partial = self.client.key("Greeting", parent=key.parent)
         self.assertEqual((partial.is_partial, partial.kind, partial.id_or_name, partial.completed_key(7)), (True, "Greeting", None, key))
         self.assertNotEqual(partial, self.client.key("Greeting", parent=key.parent))
@@ -152,7 +152,7 @@ class Queries(WithServer):
         self.assertEqual((self.numbers(query), self.numbers(query, limit=2, offset=1)), ([5, 4, 3, 2], [4, 3]))
         query = self.client.query(kind="Task")
         query.add_filter("even", "=", True).add_filter(filter=cloud.query.PropertyFilter("n", "=", 4))
-        self.assertEqual((self.numbers(query), query.filters), ([4], [("even", "=", True), ("n", "=", 4)]))
+        self.assertEqual((self.numbers(query), query.filters), ([4], [("even", "=", True), cloud.query.PropertyFilter("n", "=", 4)]))
         query = self.client.query(kind="Task")
         query.order = "-n"
         self.assertEqual(self.numbers(query, limit=1), [5])
@@ -350,7 +350,19 @@ class Modules(WithServer):
         from google.cloud import datastore
         from google.cloud.exceptions import Conflict
 
+        from google.cloud.datastore.batch import Batch
+        from google.cloud.datastore.client import Client
+        from google.cloud.datastore.entity import Entity
+        from google.cloud.datastore.helpers import GeoPoint
+        from google.cloud.datastore.key import Key
+        from google.cloud.datastore.query import And, Iterator, Or, PropertyFilter, Query
+        from google.cloud.datastore.transaction import Transaction
+        from google.cloud.datastore.version import __version__
+
         self.assertIs(datastore.Client, cloud.Client)
+        self.assertEqual([Batch, Client, Entity, Key, Query, Transaction], [cloud.Batch, cloud.Client, cloud.Entity, cloud.Key, cloud.Query, cloud.Transaction])
+        self.assertEqual([And, Iterator, Or, PropertyFilter, GeoPoint, __version__],
+                         [*(getattr(cloud.query, name) for name in ("And", "Iterator", "Or", "PropertyFilter")), cloud.helpers.GeoPoint, datastore.__version__])
         self.assertTrue(issubclass(Aborted, Conflict))
 
 

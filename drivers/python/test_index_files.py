@@ -2,6 +2,7 @@
 
     python3 drivers/python/test_index_files.py
 """
+import json
 import os
 import pathlib
 import sys
@@ -49,7 +50,7 @@ WRONG = {
     "indexes:\n- kind: \"T\"\n  properties: [{name: __key__}, {name: a}]\n": (3, "`__key__` stands last"),
     "indexes:\n- kind: T\n  properties: [{name: a}\n": (3, "a bracket that closes what is open"),
     "indexes:\n- kind: T\n  properties: [{name: a}}\n": (3, "expected a comma or ]"),
-    "indexes:\n- kind: &x T\n  properties: [{name: a}]\n": (2, "an anchor, for which an index file has no use"),
+    "indexes:\n- kind: &x T\n  properties: [{name: a}]\n": (2, "an anchor, which an index file can't have"),
     "indexes:\n- kind: |\n    T\n": (2, "a text over several lines"),
     "indices:\n- kind: T\n": (1, "expected `indexes:`, and not `indices:`"),
     "- kind: T\n  properties: [{name: a}]\n# indexes:\n": (1, "expected `indexes:`"),
@@ -153,12 +154,16 @@ class Served(unittest.TestCase):
                 server.reset()
                 self.assertEqual(client.query("Task", filters=[("done", "=", False)], orders=["-when"]).results, [])
 
-    def test_what_cannot_be_added_to_is_left_alone(self):
-        for begin in (SAME["JSON"], SAME["flow style over lines"], "indexes: []\n"):
+    def test_an_entry_is_added_in_the_style_of_the_file(self):
+        for name, begin in (("JSON", SAME["JSON"]), ("flow style", SAME["flow style over lines"]), ("an empty list", "indexes: []\n")):
             self.file.write_text(begin)
             with Server(indexes=str(self.file), auto_index=True) as server:
-                self.assertIn("add this entry to the index file", self.miss(server.client(), "-when"))
-            self.assertEqual(self.file.read_text(), begin)
+                self.assertIn(f"the entry below was added to {self.file}", self.miss(server.client(), "-when"))
+                self.miss(server.client(), "who")
+            after = self.file.read_text()
+            self.assertEqual(len(indexes.definitions_of(after)), len(indexes.definitions_of(begin)) + 2, name)
+            if name == "JSON":
+                json.loads(after)
         with self.assertRaises(ValueError):
             Server(indexes=PLAIN, auto_index=True)
 

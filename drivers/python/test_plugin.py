@@ -1,4 +1,4 @@
-"""Tests of the fixtures for pytest: what they give, that outcomes don't hang on the order of tests, and that runs side by side share nothing.
+"""Tests of the fixtures for pytest: what they give, that outcomes don't depend on the order of tests, and that runs side by side share nothing.
 
     python3 drivers/python/test_plugin.py
 
@@ -27,7 +27,7 @@ def python_with(module):
 
 PYTHON = python_with("pytest")
 
-# What each test sees hangs on which of its groups share a shard: it writes some, by name and by drawn id, reads others, and asks for all.
+# What each test sees depends on which of its groups share a shard: it writes some, by name and by drawn id, reads others, and asks for all.
 SUITE = '''
 import json, os, pathlib
 import pytest
@@ -142,7 +142,7 @@ class Plugin(unittest.TestCase):
         said, status = self.pytest("test_stale.py")
         self.assertEqual(status, 1, said)
         self.assertIn("queries that saw less than was written", said)
-        self.assertIn("test_stale.py:6: the query of Task has no ancestor, and didn't see what wasn't applied yet:", said)
+        self.assertIn("test_stale.py:6: the query of Task has no ancestor; with what wasn't applied yet it would have found:", said)
         self.assertIn("put of Key('Task', 'a'), commit 1 of client 0 at test_stale.py:5", said)
         self.assertIn("1 failed, 1 passed", said)
 

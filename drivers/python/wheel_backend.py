@@ -15,7 +15,7 @@ PACKAGE = "torfyllan"
 
 
 def _project():
-    """Name, version, summary and Python of the project, and its entry points, from pyproject.toml: `key = "value"` in these tables."""
+    """Name, version, summary and Python of the project, and its entry points: `key = "value"` in these tables of pyproject.toml, and the package's version."""
     tables, table = {}, {}
     for line in (HERE / "pyproject.toml").read_text(encoding="utf-8").splitlines():
         head = re.fullmatch(r"\[(.+)\]", line.strip())
@@ -24,6 +24,8 @@ def _project():
         word = re.fullmatch(r'"?([\w.-]+)"? = "(.*)"', line.strip())
         if word:
             table[word.group(1)] = word.group(2)
+    version = re.search(r'^__version__ = "(.*)"$', (HERE / PACKAGE / "version.py").read_text(encoding="utf-8"), re.M)
+    tables["project"]["version"] = version[1]
     return tables["project"], {name[len("project.entry-points.") :]: words for name, words in tables.items() if name.startswith("project.entry-points.")}
 
 

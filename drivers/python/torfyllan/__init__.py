@@ -20,7 +20,7 @@ reads them, `explain` says refusals as sentences, `journal` knows who wrote what
 from typing import TYPE_CHECKING
 
 from .client import Client
-from .errors import BlockEnded, IndexFileError, NotLegal, ServerFailed, TorfyllanError
+from .errors import BlockEnded, IndexFileError, NotLegal, ServerFailed, TorfyllanError, UnknownCommit
 from .refusals import (
     BadCursor,
     BadGql,
@@ -53,6 +53,7 @@ from .rounds import Pending, Round
 from .server import CLIENTS, Server
 from .shards import shard_of
 from .values import Blob, Date, Entity, Key, Many, Rating, Text, Unindexed
+from .version import __version__ as __version__
 
 if TYPE_CHECKING:
     from .pytest_plugin import datastore as datastore, datastore_server as datastore_server, fresh_datastore as fresh_datastore
@@ -113,4 +114,5 @@ __all__ = [
     "TooManyWrites",
     "TorfyllanError",
     "Unindexed",
+    "UnknownCommit",
 ]

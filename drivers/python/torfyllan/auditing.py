@@ -7,27 +7,34 @@ from typing import IO, List, Optional, Sequence
 
 from .errors import NotLegal, ServerFailed
 from .log import Recorder
+from .process import Tell, repository, tell_on_stderr
 
-PROGRAM = pathlib.Path(__file__).resolve().parents[3] / "run"
-"""`run` of the repository that the package stands in: its `--audit` builds the auditor where it isn't there."""
+_TOP = repository()
+PROGRAM: Optional[pathlib.Path] = _TOP / "run" if _TOP is not None else None
+"""`run` of the repository that the package stands in, or was installed from: its `--audit` builds the auditor where it isn't there."""
+
+_TOLD_LINES = 20
 
 
 class Audit(Recorder):
     """Audits a talk when the server ends, unless the server died in a round. What was found of a run that isn't legal is kept as `fault`, the first
-    of several starts."""
+    of several starts. `is_unproved` says that the server is one of which nothing is proved, and is audited by such an auditor. What the audit tells on
+    its way, as the progress of a build, goes to `tell`."""
 
-    def __init__(self) -> None:
+    def __init__(self, tell: Tell = tell_on_stderr) -> None:
         self.fault: Optional[NotLegal] = None
+        self.is_unproved = False
+        self._tell = tell
         self._words: List[str] = []
         self._indexes: Optional[str] = None
         self._kept: List[IO[bytes]] = []
         self._whole = True
 
     def begin(self, words: Sequence[str], indexes: Optional[str]) -> None:
-        if not PROGRAM.exists():
+        if PROGRAM is None or not PROGRAM.exists():
             raise ServerFailed(
-                f"{PROGRAM}, which audits a run, isn't there: take the package as it lies in the repository, or keep a log, and audit it there"
-                " by ./run --audit"
+                f"{PROGRAM or 'the repository'}, whose ./run --audit audits a run, isn't there: install the package from the repository, as"
+                " pip install ./drivers/python, or keep a log, and audit it there"
             )
         self._words, self._indexes = list(words), indexes
         self._kept = [tempfile.TemporaryFile(), tempfile.TemporaryFile()]
@@ -61,7 +68,25 @@ class Audit(Recorder):
             with open(index, "w", encoding="utf-8") as text:
                 text.write(self._indexes)
             words = [*words, "--indexes", index]
-        ran = subprocess.run([str(PROGRAM), "--audit", *names, *words], stdin=subprocess.DEVNULL, capture_output=True, text=True, check=False)
-        if ran.stdout == "legal\n" and ran.returncode == 0:
+        command = [str(PROGRAM), "--audit", *names, *words, *(["--unproved"] if self.is_unproved else [])]
+        verdict = os.path.join(folder, "verdict")
+        with open(verdict, "wb") as output:
+            ran = subprocess.Popen(command, stdin=subprocess.DEVNULL, stdout=output, stderr=subprocess.PIPE)
+            told = self._told_by(ran)
+        said = pathlib.Path(verdict).read_text(encoding="utf-8", errors="replace")
+        if said == "legal\n" and ran.returncode == 0:
             return None
-        return NotLegal((ran.stdout or ran.stderr or f"the audit ended with status {ran.returncode}").strip())
+        return NotLegal((said or told or f"the audit ended with status {ran.returncode}").strip())
+
+    def _told_by(self, ran: "subprocess.Popen[bytes]") -> str:
+        """Passes on what the audit writes on standard error until it ends, and gives the last lines of it."""
+        last: List[str] = []
+        assert ran.stderr is not None
+        with ran:
+            for line in ran.stderr:
+                text = line.decode("utf-8", "replace")
+                if not last:
+                    self._tell("torfyllan audits the run that has ended:\n")
+                self._tell(text)
+                last = [*last, text][-_TOLD_LINES:]
+        return "".join(last)

@@ -3,10 +3,14 @@ import contextlib
 from typing import TYPE_CHECKING, Any, Callable, Dict, Generic, Iterable, Iterator, List, Mapping, Optional, Sequence, TypeVar, Union
 
 from .errors import TorfyllanError
+from .gql_keys import keys_bound
+from .journal import kind_of
 from .refusals import Conflict, Refused
 from .replies import Reply
+from . import rules
 from .rules import MEMBERS
 from .shards import shard_of
+from .spaces import space_out
 from .values import Entity, Key, Many, Unindexed
 from .wire import filter_out, key_out, list_of, order_out, properties_out, select_out, value_out
 
@@ -33,6 +37,8 @@ class Requests(Generic[Answer]):
 
     def _ask(self, op: str, **members: Any) -> Answer:
         unknown = [name for name in members if name not in MEMBERS[op]]
+        if op in ("query", "gql"):
+            _check_kind(kind_of({"op": op, **members}))
         if unknown:
             raise TypeError(f"{op} has no member {unknown[0]!r}; it has {', '.join(MEMBERS[op]) or 'none'}")
         return self._send({"client": self.number, "op": op, **{name: value for name, value in members.items() if value is not None}})
@@ -85,7 +91,7 @@ class Requests(Generic[Answer]):
         """
         return self._ask(
             "query",
-            namespace=(self.namespace if namespace is None else namespace) or None,
+            namespace=space_out(namespace, self.namespace) or None,
             kind=kind,
             ancestor=None if ancestor is None else key_out(ancestor, self.namespace),
             filters=[filter_out(one, self.namespace) for one in list_of("filters", filters, "[('a', '=', 1)]")] or None,
@@ -103,17 +109,25 @@ class Requests(Generic[Answer]):
         text: str,
         *args: Any,
         names: Optional[Mapping[str, Any]] = None,
+        namespace: Optional[str] = None,
         start: Optional[str] = None,
         end: Optional[str] = None,
         cursor: Optional[bool] = None,
     ) -> Answer:
-        """Runs a GQL statement: `gql("SELECT * FROM Task WHERE n > :1", 3)`, or with `names={"n": 3}` and `:n`."""
+        """Runs a GQL statement: `gql("SELECT * FROM Task WHERE n > :1", 3)`, or with `names={"n": 3}` and `:n`.
+
+        `namespace` is that of the entities, where it isn't the client's. A `KEY('Task', 'a')` in the text is a key of that namespace.
+        """
+        names = dict(names or {})
+        if self.namespace or namespace:
+            text, keys = keys_bound(text, names, namespace)
+            names.update(keys)
         return self._ask(
             "gql",
-            namespace=self.namespace or None,
+            namespace=space_out(namespace, self.namespace) or None,
             text=text,
             args=[value_out(value, self.namespace) for value in args] or None,
-            names={name: value_out(value, self.namespace) for name, value in (names or {}).items()} or None,
+            names={name: value_out(value, self.namespace) for name, value in names.items()} or None,
             start=start,
             end=end,
             cursor=cursor,
@@ -138,6 +152,15 @@ class Requests(Generic[Answer]):
     def settle(self) -> Answer:
         """Applies all that is committed: queries then see it."""
         return self._ask("settle")
+
+
+def _check_kind(kind: Optional[str]) -> None:
+    """Refuses a query of metadata or statistics, which the server would answer with no result."""
+    if isinstance(kind, str) and rules.is_reserved(kind):
+        raise ValueError(
+            f"the kind {kind!r} is one of the Datastore's own, and the server has none of them: no list of kinds, namespaces or properties,"
+            " and no statistics; name the kinds that the application has"
+        )
 
 
 class Client(Requests[Reply]):

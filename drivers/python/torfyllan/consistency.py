@@ -9,7 +9,7 @@ STRONG = "strong"
 class Consistency:
     """One of three modes: `"explicit"`, `"strong"`, or the share of writes, from 0 to 1, that are applied at once.
 
-    The draws of a share begin with the seed anew in each namespace: what a test sees doesn't hang on the tests before it.
+    The draws of a share begin with the seed anew in each namespace: what a test sees doesn't depend on the tests before it.
     """
 
     def __init__(self, mode: Union[str, float], seed: int) -> None:

@@ -8,20 +8,25 @@ import warnings
 from typing import IO, List, Optional, Sequence, Union
 
 from .errors import ServerFailed
-from .log import Recorder
+from .journal import Site
+from .log import About, Recorder
+from .process import repository
 
-PROGRAM = pathlib.Path(__file__).resolve().parents[2] / "draw"
-"""The folder of the program that draws a run: beside the package in the repository."""
+_TOP = repository()
+PROGRAM: Optional[pathlib.Path] = _TOP / "drivers" / "draw" if _TOP is not None else None
+"""The folder of the program that draws a run, in the repository that the package stands in, or was installed from."""
 
 
 class Drawing(Recorder):
     """Writes the page of a talk to a file when the server ends, also where it died: a line that got no reply then shows as that.
 
-    After a `reset` the new start has a page of its own: of `run.html` it is `run.2.html`, and so on. A file that can't be written is an OSError
-    at the start, and a package without the repository's drivers/draw beside it a `ServerFailed`.
+    `namespace` is that of a test, which the page doesn't name. After a `reset` the new start has a page of its own: of `run.html` it is
+    `run.2.html`, and so on. A file that can't be written is an OSError at the start, and a package without the repository's drivers/draw a `ServerFailed`.
     """
 
-    def __init__(self, file: Union[str, "os.PathLike[str]"]) -> None:
+    def __init__(self, file: Union[str, "os.PathLike[str]"], namespace: str = "") -> None:
+        self._about = About(namespace)
+        self._words: List[str] = []
         self._stem, self._ending = os.path.splitext(os.path.abspath(file))
         self._starts = 0
         self._kept: List[IO[bytes]] = []
@@ -32,9 +37,14 @@ class Drawing(Recorder):
         return f"{self._stem}{f'.{self._starts}' if self._starts > 1 else ''}{self._ending}"
 
     def begin(self, words: Sequence[str], indexes: Optional[str]) -> None:
-        if not (PROGRAM / "__main__.py").exists():
-            raise ServerFailed(f"{PROGRAM}, which draws a page, isn't there: take the package as it lies in the repository, or keep a log, and draw it there by ./run --draw")
+        if PROGRAM is None or not (PROGRAM / "__main__.py").exists():
+            raise ServerFailed(
+                f"{PROGRAM or 'the repository'}, whose ./run --draw draws a page, isn't there: install the package from the repository, as"
+                " pip install ./drivers/python, or keep a log, and draw it there"
+            )
         self._starts += 1
+        self._about.begin()
+        self._words = list(words)
         open(self.file, "wb").close()
         self._kept = [tempfile.TemporaryFile(), tempfile.TemporaryFile()]
 
@@ -44,18 +54,27 @@ class Drawing(Recorder):
     def answered(self, lines: Sequence[bytes]) -> None:
         self._kept[1].write(b"".join(line + b"\n" for line in lines))
 
+    def asked_at(self, line: int, site: Site) -> None:
+        self._about.asked_at(line, site)
+
+    def test_begins(self, name: str, namespace: str, line: int) -> None:
+        self._about.test_begins(name, namespace, line)
+
     def end(self) -> None:
         kept, self._kept = self._kept, []
         if not kept:
             return
         with tempfile.TemporaryDirectory(prefix="torfyllan-") as folder, open(self.file, "wb") as page:
             names = [os.path.join(folder, name) for name in ("lines", "replies")]
-            for file, name in zip(kept, names):
-                file.seek(0)
+            for kept_file, name in zip(kept, names):
+                kept_file.seek(0)
                 with open(name, "wb") as copy:
-                    copy.writelines(file)
-                file.close()
+                    copy.writelines(kept_file)
+                kept_file.close()
             title = os.path.splitext(os.path.basename(self.file))[0]
-            drawn = subprocess.run([sys.executable, str(PROGRAM), *names, "--title", title], stdout=page, stderr=subprocess.PIPE, text=True, check=False)
+            about = os.path.join(folder, "about")
+            self._about.write(about)
+            words = [*names, "--title", title, "--about", about, *self._words]
+            drawn = subprocess.run([sys.executable, str(PROGRAM), *words], stdout=page, stderr=subprocess.PIPE, text=True, check=False)
         if drawn.returncode:
             warnings.warn(f"{self.file} could not be drawn: {drawn.stderr.strip()}", stacklevel=2)

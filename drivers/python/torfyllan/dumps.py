@@ -49,8 +49,9 @@ def load(client: "Client", file: Any) -> int:
             except (ValueError, KeyError, TypeError, IndexError) as error:
                 raise ValueError(f"line {number} is no entity in JSON, as {{\"key\":[[\"T\",\"a\"]],\"properties\":{{}}}}: {error}") from None
             greatest = max(greatest, drawn_id(told["key"]) or 0)
-    if greatest:
-        client.server.reserve_ids(greatest)
-    client.put_multi(entities)
-    client.settle()
+    with client.server.without_faults():
+        if greatest:
+            client.server.reserve_ids(greatest)
+        client.put_multi(entities)
+        client.settle()
     return len(entities)

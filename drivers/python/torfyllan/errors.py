@@ -10,6 +10,24 @@ class ServerFailed(TorfyllanError):
     """The server died, sent what is no reply, or sent nothing in time. It can't be used any more."""
 
 
+class UnknownCommit(TorfyllanError):
+    """The reply of a commit was withheld on purpose: whether it is made can't be told by who asked for it. Here it is, as `commit`."""
+
+    others = 0
+
+    def __init__(self, commit: int, what: str) -> None:
+        super().__init__(commit, what)
+        self.commit = commit
+        self.what = what
+
+    def __str__(self) -> str:
+        more = f"; {self.others} more of the round were refused" if self.others else ""
+        return (
+            f"no reply came to the {self.what}: it may be made or not (it is, as commit {self.commit}; the reply is withheld on purpose)."
+            f" Who asks again must see to it that nothing is done twice{more}"
+        )
+
+
 class NotLegal(TorfyllanError):
     """The replies of a run aren't those of a legal one, or could not be audited. The text is the audit's, with the first wrong reply beside its
     line."""

@@ -9,9 +9,11 @@ import sys
 import threading
 import types
 import weakref
+from types import MappingProxyType
 from typing import Any, Callable, Dict, Iterator, List, Mapping, NamedTuple, Optional, Sequence, Tuple, Type
 
 from . import values
+from .errors import UnknownCommit
 from .refusals import Refused
 
 UTC = datetime.timezone.utc
@@ -24,7 +26,8 @@ LONGEST = 1500
 
 def asking(errors: Mapping[str, Type[Exception]], other: Type[Exception]) -> Callable[..., Any]:
     """A function that calls the driver. It raises a refusal as the exception that the table has for its reason or name,
-    or else as the other one; `refusal` of the exception is the refusal."""
+    or else as the other one; `refusal` of the exception is the refusal. A reply that is withheld on purpose is what the
+    table has for `UnknownCommit`; `unknown` of the exception is the driver's."""
 
     def asked(work: Callable[..., Any], *args: Any, **words: Any) -> Any:
         try:
@@ -34,8 +37,23 @@ def asking(errors: Mapping[str, Type[Exception]], other: Type[Exception]) -> Cal
             error = errors.get(reason, errors.get(refused.name, other))(str(refused))
             error.refusal = refused  # type: ignore[attr-defined]
             raise error from None
+        except UnknownCommit as unknown:
+            late = errors["UnknownCommit"](str(unknown))
+            late.unknown = unknown  # type: ignore[attr-defined]
+            raise late from None
 
     return asked
+
+
+def end_transaction(client: Any, read_only: bool = False) -> None:
+    """Commits the open transaction of a client of the server. One that wrote nothing and read one entity group at most, or
+    is to be read-only, is rolled back instead, which is never refused: a commit would be, where that group was written.
+    """
+    session = client.server._sessions[client.number]
+    if session.is_open and not session.written and (read_only or len(session.touched) <= 1):
+        client.rollback()
+    else:
+        client.commit()
 
 
 class Stack(threading.local):
@@ -52,11 +70,16 @@ class Stack(threading.local):
     @contextlib.contextmanager
     def entered(self, item: Any) -> Iterator[Any]:
         """A block in which this is the innermost."""
+        depth = len(self.items)
         self.items.append(item)
         try:
             yield item
         finally:
-            self.items.remove(item)
+            if item in self.items:
+                self.items.remove(item)
+            else:
+                # Another one was put in its place.
+                del self.items[depth:]
 
 
 _spare: "weakref.WeakKeyDictionary[Any, Dict[int, bool]]" = weakref.WeakKeyDictionary()
@@ -69,7 +92,8 @@ def spare_client(client: Any) -> Iterator[Any]:
     with _lock:
         lent = _spare.setdefault(client.server, {})
         taken = {each.number for each in client.server.clients() if each.number not in lent}
-        number = next((each for each in range(15, -1, -1) if each not in taken and not lent.get(each)), None)
+        sessions = client.server._sessions
+        number = next((each for each in range(15, -1, -1) if each not in taken and not lent.get(each) and not sessions[each].is_open), None)
         if number is None:
             raise RuntimeError("work beside a transaction takes a client of its own, and all sixteen are in use")
         lent[number] = True
@@ -170,12 +194,22 @@ def without_lists(properties: Dict[str, Any]) -> Dict[str, Any]:
     return found
 
 
-def stand_in(modules: Dict[str, types.ModuleType]) -> None:
+def _is_there(name: str) -> bool:
+    """Whether a module of this name can be imported."""
+    try:
+        importlib.import_module(name)
+    except ImportError:
+        return False
+    return True
+
+
+def stand_in(modules: Dict[str, types.ModuleType], where_missing: Mapping[str, types.ModuleType] = MappingProxyType({})) -> None:
     """Makes `import` give these modules, and what stands below them, by these names, for the rest of the process.
 
-    A package above one that is installed stays; one that isn't is made, and empty.
+    Those of `where_missing` stand in only where there is no such module to import. A package above one that is
+    installed stays; one that isn't is made, and empty.
     """
-    for name, module in modules.items():
+    for name, module in [*modules.items(), *((name, each) for name, each in where_missing.items() if not _is_there(name))]:
         start = f"{module.__name__}."
         below = {f"{name}.{own[len(start) :]}": each for own, each in sys.modules.items() if own.startswith(start)}
         sys.modules.update({name: module, **below})

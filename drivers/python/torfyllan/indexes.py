@@ -4,6 +4,7 @@ The server's form has one word a line: `indexes:`, and for each entry `- kind: N
 `ancestor: no`, `properties:`, and for each property `- name: NAME` with at most one of `direction: asc` and `direction: desc`.
 """
 import contextlib
+import json
 import os
 import re
 from typing import Any, Dict, Iterator, List, NamedTuple, Optional, Tuple, Union
@@ -231,6 +232,7 @@ class Given:
         self._given = given
         self._auto = auto_index
         self.text: Optional[str] = None
+        self.has_added = False
         self._source = ""
         self._definitions: List[Definition] = []
         self._is_text = isinstance(given, str) and ("\n" in given or re.search(r"(^|[\s{'\"])indexes['\"]?\s*:", given) is not None)
@@ -239,7 +241,9 @@ class Given:
             raise ValueError("auto_index adds entries to an index file: give its name as indexes=")
 
     def read(self) -> None:
-        """Reads the file, or the text. What isn't an index file is an IndexFileError, which shows its line."""
+        """Reads the file, or the text. What isn't an index file is an IndexFileError, which shows its line. `has_added` is false from now on, until an
+        entry is added."""
+        self.has_added = False
         if self._given is None:
             return
         self._source = str(self._given) if self._is_text else self._content()
@@ -268,6 +272,12 @@ class Given:
             line = content[: error.start].count(b"\n") + 1
             raise IndexFileError(f"{self.name}, line {line}: its bytes aren't UTF-8", line) from None
 
+    def definitions(self) -> List[Definition]:
+        """The entries that the server has."""
+        with contextlib.suppress(IndexFileError):
+            return definitions_of(self.text or "")
+        return []
+
     def explain(self, failed: str) -> None:
         """Raises an IndexFileError, where this is what the server said of the file."""
         told = re.search(r"index file: line ([0-9]+)", failed)
@@ -285,6 +295,9 @@ class Given:
         if name is not None and rules.is_reserved(name.group(2)):
             return f"{name.group(2)} is reserved, since it begins and ends with __; `__key__` alone may stand, as the last property"
         if name is not None and name.group(1) == "name":
+            above = re.split(r"\bkind:", "\n".join(self.text.split("\n")[: number - 1]))[-1]
+            if re.search(r"^[ \t]*-[ \t]+name:[ \t]+__key__[ \t\r]*(#.*)?$", above, re.M):
+                return "`__key__` stands last in an entry, or not at all"
             return f"the property {name.group(2)} stands twice in its entry, or the entry is one of more than {MOST_DEFINITIONS}"
         fault = server_fault(self.text)
         return f"expected {fault[1]}" if fault is not None else f"an entry of more than {MOST_DEFINITIONS}"
@@ -305,15 +318,41 @@ class Given:
                 return None
             if wanted.meaning in [one.meaning for one in there]:
                 return self.name
-            after = _with_entry(before, entry)
-            try:
-                is_added = [one.meaning for one in definitions_of(after)] == [*(one.meaning for one in there), wanted.meaning]
-            except IndexFileError:
-                is_added = False
-            if not is_added:
+            meanings = [*(one.meaning for one in there), wanted.meaning]
+            after = next((text for text in _with_entry_somehow(before, entry, wanted) if _meanings(text) == meanings), None)
+            if after is None:
                 return None
-            file.write(after[len(before) :])
+            if after.startswith(before):
+                file.write(after[len(before) :])
+            else:
+                file.truncate(0)
+                file.write(after)
+            self.has_added = True
         return self.name
+
+
+def _meanings(text: str) -> Optional[List[Tuple[Any, ...]]]:
+    try:
+        return [one.meaning for one in definitions_of(text)]
+    except IndexFileError:
+        return None
+
+
+def _with_entry_somehow(text: str, entry: str, wanted: Definition) -> Iterator[str]:
+    """Texts that may be the file with the entry: in block style behind what is there, in place of an empty list, and at the end of a list in flow style."""
+    yield _with_entry(text, entry)
+    empty = re.search(r"(indexes['\"]?:)[ \t]*(\[\s*\]|null|~)", text)
+    if empty is not None:
+        yield _with_entry(text[: empty.end(1)] + text[empty.end() :], entry)
+    end = text.rfind("]")
+    columns = [{"name": name, **({"direction": "desc"} if way == "desc" else {})} for name, way in wanted.properties]
+    flow = json.dumps({"kind": wanted.kind, **({"ancestor": True} if wanted.ancestor else {}), "properties": columns}, ensure_ascii=False)
+    try:
+        json.loads(text)
+    except ValueError:
+        flow = flow.replace('"', "").replace("ancestor: true", "ancestor: yes")
+    head = text[:end].rstrip()
+    yield f"{head}{' ' if head.endswith(',') else ', '}{flow}{text[len(head) :]}"
 
 
 def _with_entry(text: str, entry: str) -> str:

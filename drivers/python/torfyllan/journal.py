@@ -7,7 +7,7 @@ import itertools
 import os
 import re
 import sys
-from typing import Any, Dict, List, Optional, Sequence, Tuple
+from typing import Any, Dict, List, NamedTuple, Optional, Sequence, Tuple
 
 from .errors import BlockEnded
 from .shards import hash_of, key_bytes
@@ -44,47 +44,115 @@ def calling_site() -> Site:
         if not file.startswith(_OWN) and not file.endswith("contextlib.py"):
             break
         frame = frame.f_back
-    return Site(frame.f_code.co_filename, frame.f_lineno)
+    file = frame.f_code.co_filename
+    return DRIVER if os.sep + "_pytest" + os.sep in file else Site(file, frame.f_lineno)
+
+
+class OnPurpose(Site):
+    """The place of what the driver does of its own accord, as a text says."""
+
+    __slots__ = ("_told",)
+
+    def __init__(self, told: str) -> None:
+        super().__init__("", 0)
+        self._told = told
+
+    def __str__(self) -> str:
+        return self._told
+
+
+DRIVER = OnPurpose("the driver")
+"""The place of what the driver asks of its own accord, at a start and in the fixtures that pytest calls."""
 
 
 class Write:
-    """A commit: its number, the client, the operation (put, delete or commit), the keys that it wrote, and the caller's place."""
+    """A commit: its number, the client, the operation (put, delete or commit), the keys that it wrote, and the caller's place.
 
-    __slots__ = ("commit", "client", "op", "keys", "site", "line")
+    `contents` are what it wrote, the properties as they were sent or None of a deleted entity; the journal takes them. `request` is the number, among the requests that a test's choices count, of the one that made it, and `name` that request's name; 0 and an empty
+    text where the driver made it.
+    """
 
-    def __init__(self, commit: int, client: int, op: str, keys: Tuple[Key, ...], site: Site, line: int) -> None:
+    __slots__ = ("commit", "client", "op", "keys", "contents", "site", "line", "request", "name")
+
+    def __init__(self, commit: int, client: int, op: str, contents: Dict[Key, Any], site: Site, line: int) -> None:
+        self.request = 0
+        self.name = ""
         self.commit = commit
         self.client = client
         self.op = op
-        self.keys = keys
+        self.keys = tuple(contents)
+        self.contents = contents
         self.site = site
         self.line = line
 
+    @property
+    def what(self) -> str:
+        """The operation and what it wrote."""
+        keys = _told(self.keys)
+        return f"{self.op} of {keys}" if self.op != "commit" else f"transaction that wrote {keys or 'nothing'}"
+
+    def told(self, commit: int) -> str:
+        """The write as one of this number, as a page has it."""
+        return f"{self.what}, commit {commit} of client {self.client} at {self.site}"
+
     def __str__(self) -> str:
-        several = len(self.keys) > 3
-        # Without namespaces: a test has one, and its name would hide the keys.
-        keys = ", ".join(repr(Key(*itertools.chain(*key.path))) for key in self.keys[:3]) + (f" and {len(self.keys) - 3} more" if several else "")
-        what = f"{self.op} of {keys}" if self.op != "commit" else f"transaction that wrote {keys or 'nothing'}"
-        return f"{what}, commit {self.commit} of client {self.client} at {self.site}"
+        return self.told(self.commit)
 
     def __repr__(self) -> str:
         return f"<{self}>"
 
 
+def _told(keys: Sequence[Key]) -> str:
+    """Some of the keys, without namespaces: a test has one, and its name would hide them."""
+    more = f" and {len(keys) - 3} more" if len(keys) > 3 else ""
+    return ", ".join(repr(Key(*itertools.chain(*key.path))) for key in keys[:3]) + more
+
+
+class Entry(NamedTuple):
+    """What one commit wrote to one group, the keys there; `part` is the group's place among those of the commit, from 1, or 0 where it wrote one."""
+
+    write: Write
+    keys: Tuple[Key, ...]
+    part: int
+
+    @property
+    def what(self) -> str:
+        """The operation and what it wrote to the group."""
+        return self.write.what if not self.part else f"{_told(self.keys)} of a transaction"
+
+
 class Journal:
-    """The commits so far, and the entries of each shard."""
+    """The commits so far, of which `last` is the number of the last one, and the entries of each shard."""
 
     def __init__(self, shards: int) -> None:
         self.shards = shards
+        self.last = 0
         self._writes: Dict[int, Write] = {}
-        self._entries: List[List[Write]] = [[] for _ in range(shards)]
+        self._entries: List[List[Entry]] = [[] for _ in range(shards)]
+        self._contents: Dict[Tuple[int, Key], Any] = {}
+
+    def forget(self, shard: int, first: int, end: int) -> None:
+        """Gives up what these entries of a shard wrote, as they are applied."""
+        for entry in self._entries[shard][first:end] if self._contents else ():
+            for key in entry.keys:
+                self._contents.pop((entry.write.commit, key), None)
+
+    def content(self, commit: int, key: Key) -> Any:
+        """The properties that a commit wrote, None where it deleted; a KeyError where they aren't kept."""
+        return self._contents[commit, key]
 
     def record(self, writes: Sequence[Write]) -> None:
-        """Adds the commits of a round."""
+        """Adds the commits of a round, and keeps what they wrote until it is applied."""
         for write in sorted(writes, key=lambda one: one.commit):
+            self.last = max(self.last, write.commit)
             self._writes[write.commit] = write
-            for group in sorted({key_bytes(key.root) for key in write.keys}):
-                self._entries[hash_of(group) % self.shards].append(write)
+            self._contents.update({(write.commit, key): content for key, content in write.contents.items()})
+            write.contents = {}
+            groups: Dict[bytes, List[Key]] = {}
+            for key in write.keys:
+                groups.setdefault(key_bytes(key.root), []).append(key)
+            for place, group in enumerate(sorted(groups), 1):
+                self._entries[hash_of(group) % self.shards].append(Entry(write, tuple(groups[group]), place if len(groups) > 1 else 0))
 
     def writer(self, commit: int) -> Optional[Write]:
         """Who wrote the commit of this number; None where the driver wasn't told."""
@@ -94,20 +162,32 @@ class Journal:
         """The number of entries of each shard."""
         return [len(entries) for entries in self._entries]
 
-    def waiting(self, applied: Sequence[int], known: Sequence[int], asked: Dict[str, Any], line: int) -> List[Write]:
-        """The commits up to `known` that a query didn't see, as it saw `applied` entries of each shard: those of its namespace and kind.
+    def count_at(self, shard: int, place: int) -> int:
+        """The number of a shard's entries that the first commits, so many, wrote."""
+        entries = self._entries[shard]
+        low = len(entries)
+        while low and entries[low - 1].write.commit > place:
+            low -= 1
+        return low
+
+    def behind(self, applied: Sequence[int]) -> List[List[Entry]]:
+        """The entries of each shard behind so many of it."""
+        return [entries[seen:] for entries, seen in zip(self._entries, applied)]
+
+    def waiting(self, applied: Sequence[int], known: Sequence[int], asked: Dict[str, Any], line: int) -> List[Tuple[Write, Key]]:
+        """What a query didn't see of the commits up to `known`, as it saw `applied` entries of each shard: the writes of its namespace and kind,
+        by commits.
 
         What its own client wrote behind it, in the same round, is none of them.
         """
         namespace, kind = asked.get("namespace") or "", kind_of(asked)
-        found: Dict[int, Write] = {}
+        found: List[Tuple[Write, Key]] = []
         for entries, seen, end in zip(self._entries, applied, known):
-            for write in entries[seen:end]:
+            for write, keys, _ in entries[seen:end]:
                 if write.client == asked["client"] and write.line > line:
                     continue
-                if any((key.namespace or "") == namespace and kind in (None, key.kind) for key in write.keys):
-                    found[write.commit] = write
-        return [found[commit] for commit in sorted(found)]
+                found += [(write, key) for key in keys if (key.namespace or "") == namespace and kind in (None, key.kind)]
+        return sorted(found, key=lambda pair: pair[0].commit)
 
 
 _FROM = re.compile(r"""\bFROM\s+(?:"([^"]+)"|([A-Za-z_$][A-Za-z0-9_$.]*))""", re.IGNORECASE)
@@ -122,21 +202,22 @@ def kind_of(asked: Dict[str, Any]) -> Optional[str]:
 
 
 class Session:
-    """What one client number has open: a transaction, where it was begun, and what it has touched and written."""
+    """What one client number has open: a transaction, where it was begun, what it has touched and written, and the touched groups whose ids it drew."""
 
     def __init__(self) -> None:
         self.is_open = False
         self.begun: Optional[Site] = None
         self.xg = False
-        self.written: List[Key] = []
+        self.written: Dict[Key, Any] = {}
         self.touched: Dict[Key, None] = {}
+        self.drawn: Dict[Key, None] = {}
         self.in_block = False
         self._block_ended: Optional[str] = None
 
     def begin(self, xg: bool, site: Site) -> None:
         """A transaction is open."""
         self.is_open, self.begun, self.xg = True, site, xg
-        self.written, self.touched = [], {}
+        self.written, self.touched, self.drawn = {}, {}, {}
 
     def end(self, by: str) -> None:
         """The transaction has ended: by commit, rollback, Conflict or Expired."""

@@ -1,6 +1,9 @@
 """The files that keep a talk: its lines, its replies, and how the server was started."""
+import json
 import os
-from typing import IO, List, Optional, Sequence
+from typing import IO, Any, Dict, List, Optional, Sequence
+
+from .journal import DRIVER, Site
 
 
 class Recorder:
@@ -15,8 +18,41 @@ class Recorder:
     def answered(self, lines: Sequence[bytes]) -> None:
         """These replies came, each without its newline."""
 
+    def asked_at(self, line: int, site: Site) -> None:
+        """The line of this number was asked by the caller at this place. It comes behind the replies; lines of the driver's own have none."""
+
+    def test_begins(self, name: str, namespace: str, line: int) -> None:
+        """From this line on a test of this name is the server's, in this namespace."""
+
     def end(self) -> None:
         """The server has ended."""
+
+
+class About:
+    """What a page tells of a talk beside its lines: the place in the source that asked each, a namespace that it doesn't name, and the tests."""
+
+    def __init__(self, namespace: str) -> None:
+        self._namespace = namespace
+        self.begin()
+
+    def begin(self) -> None:
+        """A start of a server."""
+        self._sites: Dict[int, str] = {}
+        self._tests: List[Dict[str, Any]] = []
+
+    def test_begins(self, name: str, namespace: str, line: int) -> None:
+        """A test begins at this line."""
+        self._tests.append({"name": name, "namespace": namespace, "line": line})
+
+    def asked_at(self, line: int, site: Site) -> None:
+        """The line was asked at this place; what the fixtures ask counts as the driver's own."""
+        if site is not DRIVER:
+            self._sites[line] = str(site)
+
+    def write(self, name: str) -> None:
+        """Writes it as JSON."""
+        with open(name, "w", encoding="utf-8") as file:
+            json.dump({"sites": self._sites, "namespace": self._namespace, "tests": self._tests}, file)
 
 
 class Log(Recorder):
@@ -26,12 +62,14 @@ class Log(Recorder):
         run.replies    the replies, one a line, in the order in which they came
         run.words      the words that the server was given, one a line
         run.yaml       the index file, in the server's form, where there is one
+        run.about      JSON for a page: which place in the source asked each line, which tests there were; written at the end
 
     After a `reset` the new start has files of its own: `run.2.jsonl` and so on. What is kept of a start is complete up to the last round,
     also where the server or the test died.
     """
 
-    def __init__(self, file: str) -> None:
+    def __init__(self, file: str, namespace: str = "") -> None:
+        self._about = About(namespace)
         path = os.path.abspath(file)
         self._stem = path[: -len(".jsonl")] if path.endswith(".jsonl") else path
         self._starts = 0
@@ -44,6 +82,7 @@ class Log(Recorder):
 
     def begin(self, words: Sequence[str], indexes: Optional[str]) -> None:
         self._starts += 1
+        self._about.begin()
         words = list(words)
         if indexes is not None:
             with open(self.name("yaml"), "w", encoding="utf-8") as file:
@@ -61,7 +100,15 @@ class Log(Recorder):
         self._files[1].write(b"".join(line + b"\n" for line in lines))
         self._files[1].flush()
 
+    def asked_at(self, line: int, site: Site) -> None:
+        self._about.asked_at(line, site)
+
+    def test_begins(self, name: str, namespace: str, line: int) -> None:
+        self._about.test_begins(name, namespace, line)
+
     def end(self) -> None:
+        if self._files:
+            self._about.write(self.name("about"))
         for file in self._files:
             file.close()
         self._files = []

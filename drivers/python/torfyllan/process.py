@@ -20,6 +20,18 @@ __tracebackhide__ = True
 
 _PIECE = 1 << 16
 _TOLD_BYTES = 1000
+# A start by the unproved build tells so on a line that begins so; of many starts by one program the first tells it.
+_UNPROVED = b"nothing is proved "
+_told_unproved = False
+
+
+def repository() -> Optional[pathlib.Path]:
+    """The folder of the repository that this file stands in, or that the package was installed from; None where neither is there."""
+    here = pathlib.Path(__file__).resolve().parent
+    tops = [here.parents[2]]
+    with contextlib.suppress(OSError):
+        tops.append(pathlib.Path((here / "repository.txt").read_text(encoding="utf-8").strip()))
+    return next((top for top in tops if (top / "run").exists() and (top / "crates.txt").exists()), None)
 
 
 def found_program() -> List[str]:
@@ -27,13 +39,9 @@ def found_program() -> List[str]:
     named = os.environ.get("TORFYLLAN")
     if named:
         return [named] if os.path.exists(named) else shlex.split(named)
-    here = pathlib.Path(__file__).resolve().parent
-    tops = [here.parents[2]]
-    with contextlib.suppress(OSError):
-        tops.append(pathlib.Path((here / "repository.txt").read_text(encoding="utf-8").strip()))
-    for top in tops:
-        if (top / "run").exists() and (top / "crates.txt").exists():
-            return [str(top / "run")]
+    top = repository()
+    if top is not None:
+        return [str(top / "run")]
     raise ServerFailed(
         "no server was found: name `run` of the repository by the environment's TORFYLLAN=/path/to/torfyllan/run, or by Server(program=...)"
     )
@@ -138,6 +146,8 @@ class Process:
                 seen += piece.count(b"\n")
         *lines, self._begun = b"".join(pieces).split(b"\n")
         self.has_answered = True
+        if tell is not None:
+            self._pass_on(tell)
         return lines
 
     def reply_in(self, line: bytes) -> Dict[str, Any]:
@@ -151,12 +161,16 @@ class Process:
         return reply
 
     def _pass_on(self, tell: Tell) -> None:
+        global _told_unproved
         self._errors.seek(self._told_until)
         new = self._errors.read()
         whole = new[: new.rfind(b"\n") + 1]
-        if whole:
-            self._told_until += len(whole)
-            tell(whole.decode("utf-8", "replace"))
+        self._told_until += len(whole)
+        lines = whole.splitlines(keepends=True)
+        text = b"".join(line for line in lines if not (_told_unproved and line.startswith(_UNPROVED)))
+        _told_unproved = _told_unproved or any(line.startswith(_UNPROVED) for line in lines)
+        if text:
+            tell(text.decode("utf-8", "replace"))
 
     # -- ending
 

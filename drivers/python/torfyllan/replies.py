@@ -1,10 +1,13 @@
 """Replies: the members that the protocol names, as attributes."""
 from typing import Any, Collection, Dict, Iterator, List, Mapping, Optional, Sequence, Tuple
 
+from .answers import FOUND, Asked
 from .journal import Journal, Write
-from .wire import Json, entity_in, key_in, results_in
+from .wire import Json, entity_in, key_in, key_out, results_in
 
 _SHOWN = 5
+_COMPARED = 1000
+"""With more entries than these that wait, results aren't compared: then each write of a query's kind counts as one that it would have found."""
 
 
 class Reply:
@@ -36,15 +39,17 @@ class Reply:
 
     @property
     def unapplied(self) -> List[Write]:
-        """Of a query without an ancestor: the commits of its namespace and kind that stood in the journal and weren't applied, so
-        that the query didn't see them. Of any other reply: none."""
+        """Of a query without an ancestor: the commits that stood in the journal and weren't applied, and with which it would have found other results.
+        Of any other reply: none. Of a GQL text, which isn't read here, all of its namespace and kind."""
         return self._stale.writes() if self._stale is not None else []
 
-    def _is_stale(self, journal: Journal, asked: Dict[str, Any]) -> None:
+    def _is_stale(self, journal: Journal, asked: Dict[str, Any], results: List[Json]) -> None:
         """Keeps what was known when the query was answered."""
-        known = journal.counts()
-        if any(seen < end for seen, end in zip(self._members["applied"], known)):
-            self._stale = _Stale(journal, self._members["applied"], known, asked, self._members["line"])
+        known, applied = journal.counts(), self._members["applied"]
+        if any(seen < end for seen, end in zip(applied, known)):
+            self._stale = _Stale(journal, applied, known, asked, self._members["line"])
+            if sum(known) - sum(applied) <= _COMPARED:
+                self._stale.compare(results)
 
     def _results(self) -> Sequence[Any]:
         if "results" not in self._members:
@@ -89,16 +94,36 @@ class _Stale:
 
     def __init__(self, journal: Journal, applied: Sequence[int], known: Sequence[int], asked: Dict[str, Any], line: int) -> None:
         self._journal, self._applied, self._known, self._asked, self._line = journal, applied, known, asked, line
-        self._found: Optional[List[Write]] = None
+        self._found: Optional[Dict[Write, str]] = None
+
+    def compare(self, results: List[Json]) -> None:
+        """Finds out, while it is known what was written, which writes would have changed these results."""
+        waiting = self._journal.waiting(self._applied, self._known, self._asked, self._line)
+        if self._asked["op"] == "gql":
+            self._found = {write: FOUND for write, _ in waiting}
+            return
+        query, self._found = Asked(self._asked), {}
+        last = {key: write for write, key in waiting}
+        for key, write in sorted(last.items(), key=lambda pair: pair[1].commit):
+            try:
+                effect = query.effect(key_out(key, ""), self._journal.content(write.commit, key), results)
+            except (KeyError, ValueError):
+                effect = FOUND
+            if effect is not None and self._found.get(write) != FOUND:
+                self._found[write] = effect
+
+    def effects(self) -> Dict[Write, str]:
+        """The writes that would have changed the results, with what each would have done: FOUND or GONE."""
+        if self._found is None:
+            self._found = {write: FOUND for write, _ in self._journal.waiting(self._applied, self._known, self._asked, self._line)}
+        return self._found
 
     def writes(self) -> List[Write]:
-        if self._found is None:
-            self._found = self._journal.waiting(self._applied, self._known, self._asked, self._line)
-        return self._found
+        return list(self.effects())
 
     def __getstate__(self) -> Dict[str, Any]:
         """A copy that is sent elsewhere has what was found, and not the whole journal."""
-        return {"_found": self.writes()}
+        return {"_found": self.effects()}
 
     def __deepcopy__(self, memo: Any) -> "_Stale":
         return self

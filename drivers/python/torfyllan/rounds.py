@@ -3,7 +3,7 @@ import contextlib
 from typing import TYPE_CHECKING, Any, Callable, Dict, Iterator, List, NoReturn, Optional, Tuple, Type, Union
 
 from .client import Client, Requests
-from .errors import TorfyllanError
+from .errors import TorfyllanError, UnknownCommit
 from .journal import Site, calling_site
 from .refusals import Refused
 from .replies import Reply
@@ -20,9 +20,9 @@ class Pending:
 
     def __init__(self) -> None:
         self._reply: Optional[Reply] = None
-        self._refusal: Optional[Refused] = None
+        self._refusal: Union[Refused, UnknownCommit, None] = None
 
-    def _answer(self, reply: Reply, refusal: Optional[Refused]) -> None:
+    def _answer(self, reply: Reply, refusal: Union[Refused, UnknownCommit, None]) -> None:
         self._reply, self._refusal = reply, refusal
 
     def _ran(self) -> Reply:
@@ -32,15 +32,15 @@ class Pending:
 
     @property
     def reply(self) -> Reply:
-        """The reply; a refusal is raised."""
+        """The reply; a refusal is raised, and an `UnknownCommit` where it was withheld on purpose."""
         reply = self._ran()
         if self._refusal is not None:
             raise self._refusal
         return reply
 
     @property
-    def refused(self) -> Optional[Refused]:
-        """The refusal, or None."""
+    def refused(self) -> Union[Refused, UnknownCommit, None]:
+        """The refusal, or None; an `UnknownCommit` where the reply was withheld on purpose."""
         self._ran()
         return self._refusal
 

@@ -1,17 +1,22 @@
 """The server, as a test has it: its clients, its rounds, and how it is started."""
 import collections
+import contextlib
 import os
 import tempfile
 import threading
-from typing import Any, Collection, Deque, Dict, List, Optional, Sequence, Set, Tuple, Type, Union
+import weakref
+from typing import Any, Collection, Deque, Dict, Iterator, List, Optional, Sequence, Set, Tuple, Type, Union
 
 from . import indexes as index_files
+from .arguments import check_arguments, check_client
 from .auditing import Audit
+from .choices import Chance, Choices, Request
 from .client import Client
 from .consistency import Consistency
 from .drawing import Drawing
 from .errors import ServerFailed, TorfyllanError
-from .journal import Journal, Session, Site, Write, calling_site
+from .index_use import IndexUse
+from .journal import DRIVER, Journal, Session, Site, Write, calling_site
 from .lines import line_of, rounds_of
 from .log import Log, Recorder
 from .process import Process, Tell, found_program, tell_on_stderr
@@ -19,6 +24,8 @@ from .refusals import MissingIndex, Refused, refusal
 from .replies import Reply
 from .rounds import Asked, Pending, Round
 from .shards import FIRST_DRAWN, LAST_ID, even_start
+from .spaces import space_out
+from .steering import Counts, Steering, has_ancestor
 from .values import Key
 from .wire import key_in, lists_of
 
@@ -39,13 +46,16 @@ class Server:
     first apply what waits in the shard of their group, so with one shard any of them shows every earlier write to all queries; with the
     sixteen that are the default here a stale read stays stale for longer. `appliers` is the number of background appliers: with none, which
     is the default, a write is applied when a test says so, by `settle`, `apply` or a read that is up to date, and so each run of a test shows
-    the same. `window` is the number of versions that are kept.
+    the same. `window` is how many entries a shard keeps its states after, 1 to
+    65,536: once so many were applied since a transaction touched a group, a read of it there is `Expired`.
 
     `consistency` is `"explicit"` (as just told), `"strong"` (each write is applied before its call returns), or a share from 0 to 1 of the writes
-    that are applied so, drawn by `seed`. `many` names properties that are lists in each reply, as `"Task.tags"`, or `"tags"` of every kind.
+    that are applied so, drawn by `seed`. `conflicts` and `unknown_commits` are shares of commits, drawn by `seed` too: before that of a transaction
+    another client writes to a group that it touched, or a commit is made and its reply withheld, as an `UnknownCommit`. `many` names properties that are lists in each reply, as `"Task.tags"`, or `"tags"` of every kind.
     `log` is the name of a file, as `run.jsonl`, that keeps the talk (see `torfyllan.log.Log`). `draw` is the name of a file, as `run.html`: a page
     that shows the run is written there when the server ends. With `audit` the talk is kept, and held against the definitions when the server ends:
-    `stop`, and the end of a `with` block, raise `NotLegal` where a reply is none that a legal run could give.
+    `stop`, `kill`, and the end of a `with` block, raise `NotLegal` where a reply is none that a legal run could give; what a build of the auditor
+    tells goes to `tell`.
 
     `program` is the program, or a list of it and its first words; else it is what the environment's TORFYLLAN names, or `run` of the repository that
     this package stands in, which builds the server the first time: `start_timeout` seconds are given to it, and `tell` is called with
@@ -63,6 +73,8 @@ class Server:
         appliers: int = 0,
         window: Optional[int] = None,
         consistency: Union[str, float] = "explicit",
+        conflicts: float = 0.0,
+        unknown_commits: float = 0.0,
         seed: int = 0,
         many: Collection[Any] = (),
         log: Optional[str] = None,
@@ -73,17 +85,16 @@ class Server:
         start_timeout: float = 7200.0,
         tell: Optional[Tell] = None,
     ) -> None:
-        for name, value, least, most in (("shards", shards, 1, 16), ("appliers", appliers, 0, 8), ("window", window, 1, 65_536)):
-            if value is not None and (not isinstance(value, int) or not least <= value <= most):
-                raise ValueError(f"{name} is {least} to {most:,}, and not {value!r}")
+        check_arguments(shards=shards, appliers=appliers, window=window, timeout=timeout, start_timeout=start_timeout, seed=seed)
         self.shards = shards
         self.appliers = appliers
         self.window = window
         self._program: Optional[Sequence[str]] = [os.fspath(program)] if isinstance(program, (str, os.PathLike)) else program
         self._indexes = index_files.Given(indexes, auto_index)
         self._consistency = Consistency(consistency, seed)
+        self._choices: Choices = Chance(conflicts, unknown_commits, seed)
         self._many_of_all = set(lists_of(many))
-        self._audit = Audit() if audit else None
+        self._audit = Audit(tell or tell_on_stderr) if audit else None
         self._recorders: List[Recorder] = [*([Log(log)] if log is not None else []), *([Drawing(draw)] if draw is not None else [])]
         if self._audit is not None:
             self._recorders.append(self._audit)
@@ -93,6 +104,7 @@ class Server:
         self._lock = threading.RLock()
         self._folder: Optional["tempfile.TemporaryDirectory[str]"] = None
         self._process: Optional[Process] = None
+        self._owner = os.getpid()
         self._image: Optional[Dict[str, Any]] = None
         self._clients: Dict[Tuple[int, str], Client] = {}
         self._forget()
@@ -103,9 +115,10 @@ class Server:
         self._journal = Journal(self.shards)
         self._sessions = [Session() for _ in range(CLIENTS)]
         self._many: Dict[str, Set[Tuple[str, str]]] = {}
-        self._due: Dict[Key, None] = {}
-        self._settle_due = False
         self._consistency.restart()
+        self._choices.restart()
+        self._steering = Steering(self)
+        self._index_use = IndexUse()
         self._stale: Deque[Tuple[Client, Dict[str, Any], Reply, Site]] = collections.deque(maxlen=_STALE_KEPT)
 
     # -- starting and stopping
@@ -116,8 +129,9 @@ class Server:
     def __exit__(self, kind: Optional[Type[BaseException]], error: Optional[BaseException], trace: Any) -> None:
         if kind is None:
             self.stop()
-        else:
-            self.kill()
+            return
+        self._end_now()
+        self._raise_fault(error)
 
     @property
     def is_alive(self) -> bool:
@@ -128,16 +142,27 @@ class Server:
         """Starts the program, and waits until it has answered a first line. A wrong index file is an `IndexFileError`."""
         if self._process is not None:
             raise TorfyllanError("this server has been started before: make another one, or call reset()")
+        return self._start()
+
+    def _start_again(self) -> None:
+        """Starts the program of a server that has ended, as `start` does. Clients that were made stay good."""
+        self._close()
+        self._start()
+
+    def _start(self) -> "Server":
         self._indexes.read()
         program = list(self._program or found_program())
-        self._folder = tempfile.TemporaryDirectory(prefix="torfyllan-")
+        self._folder, self._owner = tempfile.TemporaryDirectory(prefix="torfyllan-"), os.getpid()
+        _STARTED.add(self)
         try:
             self._launch([*program, *self._words()], None)
         except BaseException:
-            self.kill()
+            self._end_now()
             raise
         assert self._process is not None
         self._image = self._process.image()
+        if self._audit is not None:
+            self._audit.is_unproved = self._image is not None and self._image["executable"].endswith(".unproved")
         return self
 
     def _plain_words(self) -> List[str]:
@@ -162,7 +187,7 @@ class Server:
         for recorder in self._recorders:
             recorder.begin(self._plain_words(), self._indexes.text)
         try:
-            self._ask_round([(self.client(0), {"client": 0, "op": "settle"})], seconds=self._start_timeout, tell=self._tell)
+            self._ask_round([(self.client(0), {"client": 0, "op": "settle"})], sites=[DRIVER], seconds=self._start_timeout, tell=self._tell)
         except ServerFailed as failed:
             self._indexes.explain(str(failed))
             raise
@@ -170,6 +195,7 @@ class Server:
     def reset(self) -> None:
         """Starts the program anew, within some hundredths of a second: no entity, commit or open transaction is left, ids are drawn from
         the first on, and the index file is read again. Clients that were made stay good."""
+        self._check_owner()
         with self._lock:
             if self._process is None or self._folder is None:
                 raise TorfyllanError("the server isn't running: start() it first")
@@ -183,26 +209,40 @@ class Server:
                 else:
                     self._launch([*(self._program or found_program()), *words], None)
             except BaseException:
-                self.kill()
+                self._end_now()
                 raise
 
     def stop(self) -> None:
         """Ends the input, and waits for the server's end. A status that isn't 0 is a `ServerFailed`, and an audited run that isn't legal `NotLegal`."""
-        if self._process is None or self._folder is None:
+        if self._process is None or self._folder is None or self._owner != os.getpid():
             return
         try:
             self._process.stop(self._timeout)
         finally:
             self._close()
-        if self._audit is not None and self._audit.fault is not None:
-            fault, self._audit.fault = self._audit.fault, None
-            raise fault
+        self._raise_fault()
 
     def kill(self) -> None:
-        """Ends the server at once."""
+        """Ends the server at once. An audited run that isn't legal is a `NotLegal`, as in `stop`."""
+        self._end_now()
+        self._raise_fault()
+
+    def _check_owner(self) -> None:
+        """Refuses a process that was forked from the one that started the server: two can't share its pipes."""
+        if self._owner != os.getpid():
+            raise ServerFailed(f"this server was started by the process {self._owner}, of which this one, {os.getpid()}, is a fork: start a server here too, by Server().start()")
+
+    def _end_now(self) -> None:
+        if self._owner != os.getpid():
+            return
         if self._process is not None:
             self._process.kill()
         self._close()
+
+    def _raise_fault(self, cause: Optional[BaseException] = None) -> None:
+        if self._audit is not None and self._audit.fault is not None:
+            fault, self._audit.fault = self._audit.fault, None
+            raise fault from cause
 
     def _close(self) -> None:
         if self._folder is not None:
@@ -218,8 +258,7 @@ class Server:
 
     def client(self, number: int = 0, *, namespace: str = "") -> Client:
         """A client of this number, from 0 to 15. All that it names without a namespace stands in this one."""
-        if not 0 <= number < CLIENTS:
-            raise ValueError(f"clients are numbered from 0 to {CLIENTS - 1}, and not {number}")
+        check_client(number, namespace, CLIENTS)
         return self._clients.setdefault((number, namespace), Client(self, number, namespace))
 
     def clients(self) -> List[Client]:
@@ -246,13 +285,24 @@ class Server:
             if first < above:
                 client.allocate_ids(above - first)
 
-    def _even_ids(self) -> None:
-        """Draws ids so that the groups of those that come next have the shards that they have on a new server."""
+    def _even_ids(self) -> int:
+        """Draws ids so that the groups of those that come next have the shards that they have on a new server; gives the next one."""
         with self._lock:
-            first = self.client(0).allocate_ids(1).first
-            start = even_start(first + 1)
-            if start is not None and start > first + 1:
-                self.client(0).allocate_ids(start - first - 1)
+            first = self._steering.next_id
+            start = even_start(first)
+            if start is not None and start > first:
+                self.client(0).allocate_ids(start - first)
+            return self._steering.next_id
+
+    @contextlib.contextmanager
+    def without_faults(self) -> Iterator[None]:
+        """A block in which no commit meets a fault on purpose: for what a test sets up."""
+        with self._lock:
+            kept, self._choices = self._choices, Choices()
+        try:
+            yield
+        finally:
+            self._choices = kept
 
     def _note_many(self, namespace: str, kind: str, name: str) -> None:
         self._many.setdefault(namespace, set()).add((kind, name))
@@ -271,29 +321,40 @@ class Server:
         """Sends lines as one round, or where `split` as several, and gives each its reply."""
         pendings = pendings if pendings is not None else [Pending() for _ in asked]
         sites = sites if sites is not None else [calling_site()] * len(asked)
+        self._check_owner()
         with self._lock:
             if asked and (self._process is None or self._folder is None):
                 never = "the server isn't running: start() it, or use it in a `with` block"
                 raise ServerFailed(self._process.why if self._process is not None else never)
-            lines, owners = self._lines(asked)
+            requests = [self._choices.request(client.number, members, client.namespace, site) for (client, members), site in zip(asked, sites)]
+            if self._choices.has_faults:
+                self._steering.conflict(asked, requests)
+            lines, owners = self._lines(asked, requests)
             for first, end in rounds_of(lines, split):
                 members = self._exchange(lines[first:end], seconds or self._timeout, tell)
-                self._take(asked, pendings, sites, owners[first:end], members)
-                self._apply_due()
+                self._take(asked, pendings, requests, owners[first:end], members)
+                self._steering.apply_due()
         return pendings
 
-    def _lines(self, asked: Sequence[Asked]) -> Tuple[List[bytes], List[Optional[int]]]:
-        """The lines to send, and to which of the asked each belongs; a settle that the consistency adds behind a write belongs to none."""
+    def _lines(self, asked: Sequence[Asked], requests: Sequence[Request]) -> Tuple[List[bytes], List[Optional[int]]]:
+        """The lines to send, and to which of the asked each belongs; what the driver adds belongs to none: a settle that the consistency has behind
+        a write, and what a schedule applies before a query."""
         lines: List[bytes] = []
         owners: List[Optional[int]] = []
+        decides_queries, counts = self._choices.decides_queries, Counts(len(asked) == 1)
         open_now = {number: session.is_open for number, session in enumerate(self._sessions)}
         for place, (client, members) in enumerate(asked):
             op, number = members["op"], client.number
+            if decides_queries and op in ("query", "gql") and not open_now[number] and not has_ancestor(members):
+                added = self._steering.lines_before(requests[place], counts)
+                lines += [line_of(one, "") for one in added]
+                owners += [None] * len(added)
             lines.append(line_of(members, client.namespace))
             owners.append(place)
             if op == "begin" or op in ("commit", "rollback"):
                 open_now[number] = op == "begin"
-            if self._consistency.is_strong and (op == "commit" or (op in ("put", "delete") and not open_now[number])):
+            is_strong = self._consistency.is_strong and not decides_queries
+            if is_strong and (op == "commit" or (op in ("put", "delete") and not open_now[number])):
                 lines.append(line_of({"client": number, "op": "settle"}, ""))
                 owners.append(None)
         return lines, owners
@@ -316,15 +377,18 @@ class Server:
                 self._process.fail(f"line {missing[0]} got no reply")
         except BaseException:
             # Whatever went wrong in the middle of a round has ended the server.
-            self.kill()
+            self._end_now()
             raise
-        return [by_line[number] for number in numbers]
+        replies = [by_line[number] for number in numbers]
+        for told in replies:
+            self._steering.hear_ids(told)
+        return replies
 
     def _take(
         self,
         asked: Sequence[Asked],
         pendings: Sequence[Pending],
-        sites: Sequence[Site],
+        requests: Sequence[Request],
         owners: Sequence[Optional[int]],
         members: Sequence[Dict[str, Any]],
     ) -> None:
@@ -338,21 +402,29 @@ class Server:
                 continue
             client, sent = asked[owner]
             reply = self._reply(client, sent, told)
-            write = self._hear(client, sent, reply, sites[owner])
+            request = requests[owner]
+            for recorder in self._recorders:
+                recorder.asked_at(told["line"], request.site)
+            write = self._hear(client, sent, reply, request.site)
             if write is not None:
+                write.request, write.name = request.number, request.name
                 writes.append(write)
                 unsettled.add(client.number)
-            pendings[owner]._answer(reply, self._refused(client, sent, reply) if "error" in told else None)
-        self._draw(writes)
-        self._settle_due = self._settle_due or (self._consistency.is_strong and bool(unsettled))
+            self._choices.answered(request, told)
+            if "results" in told:
+                self._index_use.served(sent)
+            fault = self._refused(client, sent, reply) if "error" in told else self._steering.withheld(request, write)
+            pendings[owner]._answer(reply, fault)
+        self._steering.draw(writes, bool(unsettled))
         self._journal.record(writes)
-        for owner in owners:
+        for owner, told in zip(owners, members):
             reply_or_none = pendings[owner]._reply if owner is not None else None
             if owner is not None and reply_or_none is not None and "results" in reply_or_none._members and "applied" in reply_or_none._members:
                 client, sent = asked[owner]
-                reply_or_none._is_stale(self._journal, sent)
+                reply_or_none._is_stale(self._journal, sent, told["results"])
                 if reply_or_none._stale is not None:
-                    self._stale.append((client, sent, reply_or_none, sites[owner]))
+                    self._stale.append((client, sent, reply_or_none, requests[owner].site))
+        self._steering.hear([asked[owner] if owner is not None else None for owner in owners], members)
 
     def _reply(self, client: Client, sent: Dict[str, Any], told: Dict[str, Any]) -> Reply:
         select = sent.get("select")
@@ -374,15 +446,18 @@ class Server:
         elif op == "rollback":
             session.end(op)
         elif op == "commit":
-            written = tuple(session.written)
+            written = session.written
             session.end(op)
             return Write(told["commit"], client.number, op, written, site, told["line"])
         elif op in ("put", "delete"):
             key = _absolute(told["key"], client.namespace)
+            content = sent["entity"]["properties"] if op == "put" else None
             if "commit" in told:
-                return Write(told["commit"], client.number, op, (key,), site, told["line"])
-            session.written.append(key)
+                return Write(told["commit"], client.number, op, {key: content}, site, told["line"])
+            session.written[key] = content
             session.touched[told["key"].root] = None
+            if op == "put" and len(key.path) == 1 and sent["entity"]["key"][-1][1] is None:
+                session.drawn[told["key"].root] = None
         elif session.is_open and (sent.get("key") or sent.get("ancestor")):
             session.touched[key_in(sent.get("key") or sent["ancestor"], client.namespace).root] = None
         return None
@@ -395,34 +470,25 @@ class Server:
         refused.begun = session.begun if session.is_open else None
         refused.touched = tuple(session.touched)
         if isinstance(refused, MissingIndex):
+            self._index_use.missing[refused.index_yaml] = None
             refused.added_to = self._indexes.add(refused.index_yaml)
         return refused
 
-    # -- what the consistency applies
 
-    def _draw(self, writes: Sequence[Write]) -> None:
-        if self._consistency.share is None:
-            return
-        for write in writes:
-            for root in {key.root: None for key in write.keys}:
-                if self._consistency.draw(root.namespace or ""):
-                    self._due[root] = None
+_STARTED: "weakref.WeakSet[Server]" = weakref.WeakSet()
 
-    def _apply_due(self) -> None:
-        """Applies what the consistency says, by a client that has no open transaction; where all have one, it waits for the next round."""
-        if not self._due and not self._settle_due:
-            return
-        free = next((number for number, session in enumerate(self._sessions) if not session.is_open), None)
-        if free is None:
-            return
-        lines = [{"client": free, "op": "settle"}] if self._settle_due else []
-        for root in self._due:
-            parts: List[Any] = [root.namespace] if root.namespace else []
-            lines.append({"client": free, "op": "get", "key": parts + [list(root.path[0])]})
-        self._due, self._settle_due = {}, False
-        self._exchange([line_of(members, "") for members in lines], self._timeout, None)
+
+def _leave_to_parent() -> None:
+    """In a process that was forked: the folders of servers are the parent's to remove."""
+    for server in _STARTED:
+        if server._folder is not None:
+            server._folder._finalizer.detach()  # type: ignore[attr-defined]
+
+
+if hasattr(os, "register_at_fork"):
+    os.register_at_fork(after_in_child=_leave_to_parent)
 
 
 def _absolute(key: Key, namespace: str) -> Key:
-    """The key with its namespace written out."""
-    return key if key.namespace is not None else Key(*(word for pair in key.path for word in pair), namespace=namespace)
+    """The key with the server's namespace written out."""
+    return Key(*(word for pair in key.path for word in pair), namespace=space_out(key.namespace, namespace))

@@ -4,6 +4,7 @@ A group's shard is FNV-1a of 64 bits over the bytes of the root key in ascending
 """
 from typing import Optional
 
+from .spaces import space_out
 from .values import Key
 
 _START = 14_695_981_039_346_656_037
@@ -30,7 +31,7 @@ def _escaped(text: str) -> bytes:
 
 def key_bytes(key: Key, namespace: str = "") -> bytes:
     """The key's bytes, which sort as keys do. A key without a namespace stands in this one. A key without its id is a ValueError."""
-    space = namespace if key.namespace is None else key.namespace
+    space = space_out(key.namespace, namespace)
     pieces = [b"\x03" + _escaped(space)] if space else []
     for kind, identifier in key.path:
         pieces.append(b"\x02" + _escaped(kind))
@@ -51,15 +52,16 @@ _NAMESPACE_BYTES = 100
 _LETTERS = "pabcdefghijklmno"
 
 
-def even_namespace(name: str) -> str:
-    """A namespace of this name in which each group has the shard, of 1, 2, 4, 8 or 16, that it has in the default namespace.
+def even_namespace(name: str, like: str = "") -> str:
+    """A namespace of this name in which each group has the shard, of 1, 2, 4, 8 or 16, that it has in the namespace `like`.
 
-    The hash modulo 16 goes through sixteen states; one letter at the end of the namespace leads to the state of no namespace.
+    The hash modulo 16 goes through sixteen states; one letter at the end of the namespace leads to that of the other one.
     """
+    wanted = hash_of(b"\x03" + _escaped(like)) % 16 if like else _START % 16
     name = "".join(letter if letter.isascii() and (letter.isalnum() or letter in "._-") else "-" for letter in name)
     name = name[: _NAMESPACE_BYTES - 1]
     for letter in _LETTERS:
-        if hash_of(b"\x03" + _escaped(name + letter)) % 16 == _START % 16:
+        if hash_of(b"\x03" + _escaped(name + letter)) % 16 == wanted:
             return name + letter
     raise AssertionError("one letter of sixteen leads to each state")
 

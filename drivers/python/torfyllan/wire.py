@@ -4,6 +4,7 @@ import datetime
 import itertools
 from typing import Any, Collection, Dict, List, Optional, Sequence, Tuple
 
+from .spaces import space_in, space_out
 from .values import Blob, Date, Entity, Key, Many, Rating, Text, Unindexed
 
 _EPOCH = datetime.datetime(1970, 1, 1, tzinfo=datetime.timezone.utc)
@@ -21,7 +22,7 @@ def key_out(key: Key, namespace: str) -> Json:
     """The key as JSON; one without a namespace stands in this one. Another type is a TypeError."""
     if not isinstance(key, Key):
         raise TypeError(f"a Key is wanted, not {key!r}")
-    space = namespace if key.namespace is None else key.namespace
+    space = space_out(key.namespace, namespace)
     return ([space] if space else []) + [[kind, identifier] for kind, identifier in key.path]
 
 
@@ -168,7 +169,7 @@ def key_in(parts: Json, namespace: str) -> Key:
     space = ""
     if isinstance(parts[0], str):
         space, parts = parts[0], parts[1:]
-    return Key(*itertools.chain(*parts), namespace=None if space == namespace else space)
+    return Key(*itertools.chain(*parts), namespace=space_in(space, namespace))
 
 
 def value_in(value: Json, namespace: str) -> Any:

@@ -1,6 +1,6 @@
 """A reader of the part of YAML in which index files are written: mappings, lists and texts, in block and flow style.
 
-Comments, a byte order mark, `---` at the beginning and `...` at the end are passed over. What an index file has no use for (anchors,
+Comments, a byte order mark, `---` at the beginning and `...` at the end are passed over. What no index file needs (anchors,
 tags, texts over several lines, several documents) is refused by its line.
 """
 import json
@@ -311,5 +311,5 @@ def _scalar(text: str, number: int) -> Node:
         except ValueError:
             raise IndexFileError(f"expected a text in double quotes, and not {text}", number) from None
     if text[0] in _REFUSED:
-        raise IndexFileError(f"{_REFUSED[text[0]]}, for which an index file has no use: {text}", number)
+        raise IndexFileError(f"{_REFUSED[text[0]]}, which an index file can't have: {text}", number)
     return Node("text", text, number)

@@ -4,7 +4,9 @@ from typing import Any, Dict, Iterable, Optional, Set, Union
 from .. import values
 from ..facade import bare, loaded, stored, with_lists, without_lists
 from .exceptions import InvalidArgument
+from .helpers import GeoPoint
 from .key import Key, from_driver
+from .members import EMBEDDED, FLOATS, PLACES
 
 
 class Entity(Dict[str, Any]):
@@ -41,13 +43,23 @@ class Entity(Dict[str, Any]):
         return f"<Entity{self.key.flat_path if self.key is not None else ''} {dict(self)!r}>"
 
 
+class NotStored(NotImplementedError, TypeError):
+    """A value of a type that the server has none for: a float, a place, an embedded entity or a dict."""
+
+
+class NoValue(TypeError, ValueError):
+    """A value of a type that the library has none for either. It raises a ValueError, and Python a TypeError."""
+
+
 def value_out(name: str, value: Any, indexed: bool = True) -> Any:
-    """The driver's value of one value."""
+    """The driver's value of one value. One that isn't stored is a NotStored, another that is none a NoValue."""
+    for kinds, told in ((float, FLOATS), (GeoPoint, PLACES), (dict, EMBEDDED)):
+        if isinstance(value, kinds):
+            raise NotStored(f"{name}: {told}: {value!r}")
     try:
         return stored(value, indexed)
     except TypeError as error:
-        more = "; make properties of its parts, or one text of json.dumps(value)" if isinstance(value, dict) else ""
-        raise TypeError(f"{name}: {error}{more}") from None
+        raise NoValue(f"{name}: {error}") from None
     except ValueError as error:
         raise InvalidArgument(f"the property {name!r}: {error}") from None
 

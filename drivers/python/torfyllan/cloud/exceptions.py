@@ -1,42 +1,39 @@
-"""The exceptions of `google.api_core.exceptions` that a Datastore raises, and which of them a refusal becomes."""
+"""The exceptions that a Datastore raises, and which of them a refusal becomes.
+
+Where `google.api_core.exceptions` can be imported its classes are raised, and have the names of this module; else those of `api_exceptions`.
+"""
+import importlib
+from typing import Any
+
 from ..facade import asking
+from . import api_exceptions
+from .api_exceptions import *  # noqa: F403
+from .api_exceptions import Aborted, DeadlineExceeded, FailedPrecondition, GoogleAPICallError, InvalidArgument, ResourceExhausted
+from .members import API_CORE
 
 
-class GoogleAPICallError(Exception):
-    """What a call raises; `code` is the status of HTTP, `grpc_status_code` the name of gRPC's, `message` the text."""
+def _real() -> Any:
+    """The real package's module, or None."""
+    try:
+        found = importlib.import_module("google.api_core.exceptions")
+    except ImportError:
+        return None
+    return found if isinstance(getattr(found, "GoogleAPICallError", None), type) else None
 
-    code = 500
-    grpc_status_code = "UNKNOWN"
 
-    @property
-    def message(self) -> str:
-        """The text."""
-        return str(self)
+REAL = _real()
+"""The real package's module where it can be imported, else None."""
 
+if REAL is not None:
+    globals().update({name: getattr(REAL, name) for name in api_exceptions.__all__ if hasattr(REAL, name)})
 
 GoogleCloudError = GoogleAPICallError
 
-
-# fmt: off
-class ClientError(GoogleAPICallError): """The request is at fault."""
-class ServerError(GoogleAPICallError): """The server is at fault."""
-class BadRequest(ClientError): code = 400
-class InvalidArgument(BadRequest): grpc_status_code = "INVALID_ARGUMENT"
-class FailedPrecondition(BadRequest): grpc_status_code = "FAILED_PRECONDITION"
-class NotFound(ClientError): code, grpc_status_code = 404, "NOT_FOUND"
-class Conflict(ClientError): code = 409
-class AlreadyExists(Conflict): grpc_status_code = "ALREADY_EXISTS"
-class Aborted(Conflict): grpc_status_code = "ABORTED"
-class TooManyRequests(ClientError): code = 429
-class ResourceExhausted(TooManyRequests): grpc_status_code = "RESOURCE_EXHAUSTED"
-class InternalServerError(ServerError): grpc_status_code = "INTERNAL"
-class ServiceUnavailable(ServerError): code, grpc_status_code = 503, "UNAVAILABLE"
-class DeadlineExceeded(ServerError): code, grpc_status_code = 504, "DEADLINE_EXCEEDED"
-# fmt: on
-
 asked = asking(
-    {"Conflict": Aborted, "MissingIndex": FailedPrecondition, "NoMemory": ResourceExhausted,
-     "IdsExhausted": ResourceExhausted},
+    {"Conflict": Aborted, "Expired": Aborted, "MissingIndex": FailedPrecondition, "NoMemory": ResourceExhausted,
+     "IdsExhausted": ResourceExhausted, "UnknownCommit": DeadlineExceeded},
     InvalidArgument,
 )
 """Calls the driver; a refusal is raised as the exception that it becomes, and is the `refusal` of it."""
+
+__getattr__ = API_CORE.module_getattr(__name__, "exceptions.")

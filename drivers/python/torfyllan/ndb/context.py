@@ -1,50 +1,132 @@
 """A context: what one request sees, with its cache of entities, its connection and its transaction."""
 import contextlib
-import functools
 from typing import Any, Callable, Dict, Iterator, List, Optional, Tuple
 
 from .. import values
-from ..facade import Stack, spare_client
-from .datastore_errors import BadRequestError, KindError, Rollback, TransactionFailedError, asked
-from .futures import Future, twin
+from ..facade import Stack
+from . import namespace_manager
+from .datastore_errors import BadRequestError, KindError, asked
+from .futures import Future, ran, result_of
 from .key import KINDS, Key, from_driver
-
-EVENTUAL_CONSISTENCY = 1
-STRONG_CONSISTENCY = 0
-
-OPTIONS = ("use_cache", "use_memcache", "use_datastore", "memcache_timeout", "memcache_deadline", "max_memcache_items",
-           "deadline", "read_policy", "force_writes", "options", "app")
-"""The context options. `use_cache` counts; the others are taken, and change nothing here."""
+from .members import TABLE, Refusing, package_getattr
+from .options import taken
 
 _contexts = Stack()
+_clients: List[Any] = []
+"""The clients of the blocks of `use` that are open in any thread, the innermost last."""
+
+Policy = Optional[Callable[[Key], Any]]
 
 
-class Context:
+def _policy(given: Any) -> Policy:
+    return given if given is None or callable(given) else lambda key: given
+
+
+class Context(metaclass=Refusing):
     """What one request sees. `ndb.use(client)` makes one; each transaction has another, with an empty cache."""
 
     def __init__(self, client: Any, outside: "Optional[Context]" = None) -> None:
         self.client = client
         self.outside = outside
         self._cache: Dict[Key, Any] = {}
-        self._policy: Optional[Callable[[Key], Optional[bool]]] = None if outside is None else outside._policy
+        self._policies: Dict[str, Policy] = {} if outside is None else dict(outside._policies)
         self._on_commit: List[Callable[[], Any]] = []
 
-    def set_cache_policy(self, policy: Any) -> None:
+    # -- policies
+
+    def set_cache_policy(self, func: Any) -> None:
         """Which keys are cached in this context: a function of the key, True, False, or None for all."""
-        self._policy = policy if policy is None or callable(policy) else lambda key: bool(policy)
+        self._policies["cache"] = _policy(func)
+
+    def get_cache_policy(self) -> Policy:
+        """The function of the key that says whether it is cached; None where none is set."""
+        return self._policies.get("cache")
+
+    def set_memcache_policy(self, func: Any) -> None:
+        """Kept, and without effect: there is no memcache."""
+        self._policies["memcache"] = _policy(func)
+
+    def get_memcache_policy(self) -> Policy:
+        """What `set_memcache_policy` was given, as a function."""
+        return self._policies.get("memcache")
+
+    def set_memcache_timeout_policy(self, func: Any) -> None:
+        """Kept, and without effect: there is no memcache."""
+        self._policies["memcache_timeout"] = _policy(func)
+
+    def get_memcache_timeout_policy(self) -> Policy:
+        """What `set_memcache_timeout_policy` was given, as a function."""
+        return self._policies.get("memcache_timeout")
+
+    def set_global_cache_policy(self, policy: Any) -> None:
+        """Kept, and without effect: there is no cache that requests share."""
+        self._policies["global_cache"] = _policy(policy)
+
+    def get_global_cache_policy(self) -> Policy:
+        """What `set_global_cache_policy` was given, as a function."""
+        return self._policies.get("global_cache")
+
+    def set_global_cache_timeout_policy(self, policy: Any) -> None:
+        """Kept, and without effect: there is no cache that requests share."""
+        self._policies["global_cache_timeout"] = _policy(policy)
+
+    def get_global_cache_timeout_policy(self) -> Policy:
+        """What `set_global_cache_timeout_policy` was given, as a function."""
+        return self._policies.get("global_cache_timeout")
+
+    def get_namespace(self) -> str:
+        """The namespace that keys and queries have which name none."""
+        return namespace_manager.get_namespace()
+
+    def set_datastore_policy(self, func: Any) -> None:
+        """Kept; an operation of a key for which it says False is refused, since nothing else would keep its entity."""
+        self._policies["datastore"] = _policy(func)
+
+    def get_datastore_policy(self) -> Policy:
+        """What `set_datastore_policy` was given, as a function."""
+        return self._policies.get("datastore")
+
+    @staticmethod
+    def default_cache_policy(key: Key) -> Optional[bool]:
+        """What the class of the key's kind says by `_use_cache`; None where it says nothing."""
+        return getattr(KINDS.get(key.kind()), "_use_cache", None)
+
+    @staticmethod
+    def default_memcache_policy(key: Key) -> Optional[bool]:
+        """What the class of the key's kind says by `_use_memcache`; None where it says nothing."""
+        return getattr(KINDS.get(key.kind()), "_use_memcache", None)
+
+    @staticmethod
+    def default_memcache_timeout_policy(key: Key) -> Optional[int]:
+        """What the class of the key's kind says by `_memcache_timeout`; None where it says nothing."""
+        return getattr(KINDS.get(key.kind()), "_memcache_timeout", None)
+
+    @staticmethod
+    def default_datastore_policy(key: Key) -> Optional[bool]:
+        """What the class of the key's kind says by `_use_datastore`; None where it says nothing."""
+        return getattr(KINDS.get(key.kind()), "_use_datastore", None)
+
+    # -- the cache
 
     def clear_cache(self) -> None:
         """Forgets the entities of this context; the next read of each goes to the server."""
         self._cache.clear()
 
+    def flush(self) -> "Future[None]":
+        """A future that is done: nothing waits to be sent."""
+        return result_of(None)
+
+    def _chosen(self, policy: str, key: Key, default: Callable[[Key], Any]) -> Any:
+        function = self._policies.get(policy)
+        chosen = function(key) if function is not None else None
+        return default(key) if chosen is None else chosen
+
     def _caches(self, key: Key, options: Dict[str, Any]) -> bool:
-        if unknown := [name for name in options if name not in OPTIONS]:
-            raise TypeError(f"there is no context option {unknown[0]!r}")
+        if self._chosen("datastore", key, self.default_datastore_policy) is False:
+            TABLE.refuse("ContextOptions(use_datastore=False)")
         chosen = options.get("use_cache")
-        if chosen is None and self._policy is not None:
-            chosen = self._policy(key)
         if chosen is None:
-            chosen = getattr(KINDS.get(key.kind()), "_use_cache", None)
+            chosen = self._chosen("cache", key, self.default_cache_policy)
         return chosen is None or bool(chosen)
 
     def _keep(self, key: Key, entity: Any, options: Dict[str, Any]) -> None:
@@ -57,23 +139,25 @@ class Context:
         """Whether the cache tells of this key; an entity that was given another key meanwhile doesn't count."""
         return key in self._cache and (self._cache[key] is None or self._cache[key]._key == key)
 
-    def adopt(self, entity: Any) -> Any:
+    def adopt(self, entity: Any, options: Dict[str, Any]) -> Any:
         """The entity of a query's result as this context has it, which counts as newer: None if it was deleted here."""
-        if entity._projection or not self._caches(entity._key, {}):
+        if entity._projection or not self._caches(entity._key, options):
             return entity
         return self._cache[entity._key] if self._has(entity._key) else self._cache.setdefault(entity._key, entity)
 
+    # -- operations, as the calls of entities and keys make them
+
     def hooked(self, name: str, key: Key, options: Dict[str, Any]) -> Any:
         """Runs `get` or `delete` of a key, between the hooks of its model class."""
-        work, kind = {"get": self._get, "delete": self._delete}[name], KINDS.get(key.kind())
+        work, kind = {"get": self._read, "delete": self._remove}[name], KINDS.get(key.kind())
         if kind is not None:
             getattr(kind, f"_pre_{name}_hook")(key)
-        done: "Future[Any]" = Future(work, key, options)
+        done: "Future[Any]" = ran(work, key, options)
         if kind is not None:
             getattr(kind, f"_post_{name}_hook")(key, done)
         return done.get_result()
 
-    def _get(self, key: Key, options: Dict[str, Any]) -> Any:
+    def _read(self, key: Key, options: Dict[str, Any]) -> Any:
         if key.id() is None:
             raise BadRequestError(f"an incomplete key can't be read: {key!r}")
         caches = self._caches(key, options)
@@ -85,23 +169,62 @@ class Context:
             self._cache[key] = entity
         return entity
 
-    def put(self, entity: Any, options: Dict[str, Any], properties: Optional[Dict[str, Any]] = None) -> Key:
+    def write(self, entity: Any, options: Dict[str, Any], properties: Optional[Dict[str, Any]] = None) -> Key:
         """Writes an entity that is ready, and gives its key; `properties`, if they are given, are what it has."""
-        write = Future(self._put, entity, options, properties)
-        entity._post_put_hook(write)
-        return write.get_result()
+        done = ran(self._write, entity, options, properties)
+        entity._post_put_hook(done)
+        return done.get_result()
 
-    def _put(self, entity: Any, options: Dict[str, Any], properties: Optional[Dict[str, Any]]) -> Key:
+    def _write(self, entity: Any, options: Dict[str, Any], properties: Optional[Dict[str, Any]]) -> Key:
         self._caches(entity._key, options)
         written = asked(self.client.put, entity._key.to_driver(), properties or entity._to_properties())
         key = entity._key = from_driver(written.key)
         self._keep(key, entity, options)
         return key
 
-    def _delete(self, key: Key, options: Dict[str, Any]) -> None:
+    def _remove(self, key: Key, options: Dict[str, Any]) -> None:
+        if key.id() is None:
+            raise BadRequestError(f"an incomplete key can't be deleted: {key!r}")
         self._caches(key, options)
         asked(self.client.delete, key.to_driver())
         self._keep(key, None, options)
+
+    # -- the same as calls of the context, which give futures
+
+    def get(self, key: Key, **options: Any) -> "Future[Any]":
+        """As `key.get_async()`."""
+        given = taken("Context.get", options)
+        return ran(self._inside, lambda: key.get(**given))
+
+    def put(self, entity: Any, **options: Any) -> "Future[Key]":
+        """As `entity.put_async()`."""
+        given = taken("Context.put", options)
+        return ran(self._inside, lambda: entity.put(**given))
+
+    def delete(self, key: Key, **options: Any) -> "Future[None]":
+        """As `key.delete_async()`."""
+        given = taken("Context.delete", options)
+        return ran(self._inside, lambda: key.delete(**given))
+
+    def transaction(self, callback: Callable[[], Any], **options: Any) -> "Future[Any]":
+        """As `ndb.transaction_async(callback)`."""
+        from .transactions import transaction
+
+        return ran(self._inside, lambda: transaction(callback, **options))
+
+    def map_query(self, query: Any, callback: Any = None, **options: Any) -> "Future[Any]":
+        """As `query.map_async(callback)`."""
+        return ran(self._inside, lambda: query.map(callback, **options))
+
+    def iter_query(self, query: Any, **options: Any) -> Any:
+        """As `query.iter()`."""
+        return self._inside(lambda: query.iter(**options))
+
+    def _inside(self, work: Callable[[], Any]) -> Any:
+        if _contexts.last is self:
+            return work()
+        with _contexts.entered(self):
+            return work()
 
     def in_transaction(self) -> bool:
         """Whether this context is that of a transaction."""
@@ -113,6 +236,9 @@ class Context:
             callback()
         else:
             self._on_commit.append(callback)
+
+    def __getattr__(self, name: str) -> Any:
+        return TABLE.object_getattr(type(self), name)
 
 
 def entity_of(found: values.Entity, projection: Tuple[str, ...] = ()) -> Any:
@@ -139,85 +265,32 @@ def use(client: Any) -> "contextlib.AbstractContextManager[Context]":
     """
     if not (hasattr(client, "query") and hasattr(client, "begin")):
         raise TypeError(f"ndb.use takes a client of a server, as server.client(), and not {client!r}")
-    return _contexts.entered(Context(client))
+    return _used(client)
 
 
-def in_transaction() -> bool:
-    """Whether a transaction is open in this context."""
-    return get_context().in_transaction()
+@contextlib.contextmanager
+def _used(client: Any) -> Iterator[Context]:
+    _clients.append(client)
+    try:
+        with namespace_manager.entered(), _contexts.entered(Context(client)) as context:
+            yield context
+    finally:
+        _clients.remove(client)
 
 
-def transaction(callback: Callable[[], Any], xg: bool = False, retries: int = 3, **options: Any) -> Any:
-    """Gives what `callback()` gives, run in a transaction; after a conflict it is run again, at most `retries` times.
-
-    `xg` allows several entity groups, at most 25. `ndb.Rollback` raised in the callback ends the transaction without an
-    error; any other exception rolls it back and goes on. `TransactionFailedError` after the last try.
-    """
-    context, client = get_context(), get_context().client
-    if options.get("propagation") is not None:
-        raise NotImplementedError("no propagation: transactional joins the open one, non_transactional leaves it")
-    if context.in_transaction():
-        raise BadRequestError("nested transactions are not supported; @ndb.transactional joins the open one")
-    for left in reversed(range(max(0, retries) + 1)):
-        asked(client.begin, xg=xg)
-        inner = Context(client, context)
-        try:
-            with _contexts.entered(inner):
-                result = callback()
-                result = result.get_result() if isinstance(result, Future) else result
-        except BaseException as error:
-            if client.in_transaction and client.server.is_alive:
-                client.rollback()
-            if isinstance(error, Rollback):
-                return None
-            raise
-        try:
-            asked(client.commit)
-        except TransactionFailedError:
-            if left:
-                continue
-            raise
-        context._cache.update(inner._cache)
-        for call in inner._on_commit:
-            call()
-        return result
+def entered(context: Context) -> "contextlib.AbstractContextManager[Context]":
+    """A block of this thread that has this context."""
+    return _contexts.entered(context)
 
 
-transaction_async = twin(transaction)
+def replace(context: Context) -> None:
+    """Makes this the context of the block that is open in this thread, or of a thread that has none."""
+    _contexts.items[-1:] = [context]
 
 
-def transactional(function: Any = None, **options: Any) -> Any:
-    """A decorator, plain or with options of `transaction`: the function runs in one, and joins one that is open."""
-    if function is None:
-        return functools.partial(transactional, **options)
-
-    @functools.wraps(function)
-    def ran(*args: Any, **words: Any) -> Any:
-        work = functools.partial(function, *args, **words)
-        return work() if in_transaction() else transaction(work, **options)
-
-    return ran
+def client_of_any_thread() -> Any:
+    """The client of the innermost block of `use` that is open in any thread; None where none is."""
+    return _clients[-1] if _clients else None
 
 
-def non_transactional(function: Any = None, allow_existing: bool = True) -> Any:
-    """A decorator: the function runs outside of the open transaction, with a client of its own.
-
-    With `allow_existing=False` it is a `BadRequestError` to call it in a transaction.
-    """
-    if function is None:
-        return functools.partial(non_transactional, allow_existing=allow_existing)
-
-    @functools.wraps(function)
-    def ran(*args: Any, **words: Any) -> Any:
-        context = get_context()
-        if context.outside is None:
-            return function(*args, **words)
-        if not allow_existing:
-            raise BadRequestError(f"{function.__name__} can't be called in a transaction")
-        with spare_client(context.client) as client:
-            outer = Context(client)
-            outer._cache, outer._policy = context.outside._cache, context._policy
-            with _contexts.entered(outer):
-                return function(*args, **words)
-
-    return ran
+__getattr__ = package_getattr(__name__)

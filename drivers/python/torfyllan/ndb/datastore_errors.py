@@ -19,13 +19,16 @@ class NeedIndexError(Error): """No index serves the query; the text has the entr
 class TransactionFailedError(Error): """The transaction conflicted in each of its tries; nothing of it was written."""
 class Rollback(Error): """Raised by the application: the transaction is rolled back, and `transaction` gives None."""
 class InternalError(Error): """The server had no memory, or no more ids."""
-class Timeout(Error): """Never raised here: a server that doesn't reply in time is the driver's `ServerFailed`."""
+class Timeout(Error): """A commit that is made, and its reply withheld on purpose. A server that doesn't reply in time is a `ServerFailed`."""
 class CommittedButStillApplying(Error): """Never raised here: a commit is told at once, and applied later."""
+class ReferencePropertyResolveError(Error): """Never raised here: it is of `db`."""
 class KindError(BadValueError): """A kind without a model class, or an entity of another kind."""
 class InvalidPropertyError(Error): """A query names a property that the model doesn't have."""
 class UnprojectedPropertyError(Error): """A property of a projection's result that wasn't projected."""
 class ReadonlyPropertyError(Error): """A property that can't be set: the entity is a projection's result."""
 class ComputedPropertyError(ReadonlyPropertyError): """A computed property can't be set."""
+class NotStoredError(BadValueError, NotImplementedError): """A value of a type that the server doesn't store."""
+class ContextError(Error): """Of `google.cloud.ndb`: never raised here, where no context is open it is a RuntimeError."""
 # fmt: on
 
 BadProjectionError = InvalidPropertyError
@@ -34,7 +37,7 @@ asked = asking(
     {
         "MissingIndex": NeedIndexError, "Conflict": TransactionFailedError, "BadGql": BadQueryError,
         "TooManySubqueries": BadArgumentError, "several_cursor": BadArgumentError,
-        "IdsExhausted": InternalError, "NoMemory": InternalError,
+        "IdsExhausted": InternalError, "NoMemory": InternalError, "UnknownCommit": Timeout,
     },
     BadRequestError,
 )

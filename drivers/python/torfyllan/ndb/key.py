@@ -1,18 +1,26 @@
 """Keys of ndb."""
 import base64
 import functools
-import json
+import os
 from typing import Any, Dict, Optional, Tuple, Union
 
 from .. import values
-from . import context
+from ..references import reference_bytes, reference_in
+from . import context, namespace_manager
 from .datastore_errors import BadArgumentError, BadRequestError, BadValueError
 from .futures import twin
+from .members import TABLE, Refusing, package_getattr
+from .options import taken
 
 Identifier = Union[int, str, None]
 
 KINDS: Dict[str, Any] = {}
 """The model class of each kind."""
+
+
+def application_id() -> str:
+    """The application's id in keys as texts: that of the environment's APPLICATION_ID, or else the one of App Engine's testbed."""
+    return os.environ.get("APPLICATION_ID") or "testbed-test"
 
 
 class UrlSafe(str):
@@ -23,19 +31,23 @@ class UrlSafe(str):
 
 
 @functools.total_ordering
-class Key:
+class Key(metaclass=Refusing):
     """A key: `Key("Book", "main", "Greeting", 7)`, `Key(Greeting, 7, parent=book)`, `Key(urlsafe=text)`.
 
     A kind is a text or a model class; an identifier is an id, a name, or in the last place None: the put then draws the
-    id. `flat` and `pairs` begin at the root. The namespace is empty for the one that the client has.
+    id. `flat` and `pairs` begin at the root. The namespace is that of `namespace_manager` where none is given; the empty
+    one is that of the client.
     """
 
     _namespace: str
+    _app: Optional[str]
 
-    def __init__(self, *path: Any, pairs: Any = None, flat: Any = None, urlsafe: Any = None,
-                 parent: "Optional[Key]" = None, namespace: Optional[str] = None, app: Optional[str] = None) -> None:
-        if urlsafe is not None:
-            namespace, *flat = _decoded(urlsafe)
+    def __init__(self, *path: Any, pairs: Any = None, flat: Any = None, urlsafe: Any = None, serialized: Any = None,
+                 parent: "Optional[Key]" = None, namespace: Optional[str] = None, app: Optional[str] = None,
+                 **words: Any) -> None:
+        TABLE.refuse_words("Key", words)
+        if urlsafe is not None or serialized is not None:
+            app, namespace, flat = _decoded(urlsafe, serialized)
         flat = tuple(path or flat or [part for pair in pairs or () for part in pair])
         if not flat or len(flat) % 2:
             raise BadArgumentError(f"a key is a list of kinds, each with an identifier behind it: {flat!r}")
@@ -48,8 +60,11 @@ class Key:
             if parent.id() is None:
                 raise BadArgumentError(f"an incomplete key can't be a parent: {parent!r}; put its entity first")
             self._flat = parent._flat + self._flat
-            namespace = parent._namespace if namespace is None else namespace
-        self._namespace = namespace or ""
+            if namespace is not None and namespace != parent._namespace:
+                raise ValueError(f"the namespace {namespace!r} isn't that of the parent {parent!r}")
+            namespace, app = parent._namespace, app or parent._app
+        self._namespace = namespace_manager.get_namespace() if namespace is None else namespace
+        self._app = app if app and app != application_id() else None
 
     def kind(self) -> str:
         return str(self._flat[-2])
@@ -70,11 +85,11 @@ class Key:
 
     def parent(self) -> "Optional[Key]":
         """The key without its last pair; None of a root."""
-        return Key(flat=self._flat[:-2], namespace=self._namespace) if len(self._flat) > 2 else None
+        return Key(flat=self._flat[:-2], namespace=self._namespace, app=self._app) if len(self._flat) > 2 else None
 
     def root(self) -> "Key":
         """The key of the first pair, which names the entity group."""
-        return Key(flat=self._flat[:2], namespace=self._namespace)
+        return Key(flat=self._flat[:2], namespace=self._namespace, app=self._app)
 
     def pairs(self) -> Tuple[Tuple[str, Identifier], ...]:
         return tuple(zip(map(str, self._flat[::2]), self._flat[1::2]))
@@ -85,43 +100,61 @@ class Key:
     def namespace(self) -> str:
         return self._namespace
 
+    def app(self) -> str:
+        """The application's id: `application_id()`, unless the key was read from a text of another application."""
+        return self._app or application_id()
+
+    project = app
+
+    def serialized(self) -> bytes:
+        """The key as bytes, App Engine's `Reference`; `Key(serialized=content)` reads them."""
+        return reference_bytes(self.app(), self._namespace, self.pairs())
+
     def urlsafe(self) -> UrlSafe:
-        """The key as a text for URLs, in a form of this library alone; `Key(urlsafe=text)` reads it."""
-        content = json.dumps([self._namespace, *self._flat], separators=(",", ":")).encode()
-        return UrlSafe(base64.urlsafe_b64encode(content).decode("ascii").rstrip("="))
+        """The key as a text for URLs, as App Engine writes it; `Key(urlsafe=text)` reads it."""
+        return UrlSafe(base64.urlsafe_b64encode(self.serialized()).decode("ascii").rstrip("="))
 
     def get(self, **options: Any) -> Any:
         """The entity, up to date (or as this context has it), or None."""
-        return context.get_context().hooked("get", self, options)
+        return context.get_context().hooked("get", self, taken("Key.get", options))
 
     def delete(self, **options: Any) -> None:
         """Deletes the entity, if there is one."""
-        context.get_context().hooked("delete", self, options)
+        context.get_context().hooked("delete", self, taken("Key.delete", options))
 
     get_async = twin(get)
     delete_async = twin(delete)
 
     def to_driver(self) -> values.Key:
-        """The driver's key."""
+        """The driver's key. One of another application is a `BadRequestError`."""
+        if self._app is not None:
+            raise BadRequestError(f"{application_id()} can't reach the entities of {self._app}, as {self!r}")
         return values.Key(*self._flat, namespace=self._namespace or None)
 
+    def __getattr__(self, name: str) -> Any:
+        return TABLE.object_getattr(type(self), name)
+
     def __eq__(self, other: object) -> bool:
-        return isinstance(other, Key) and (self._flat, self._namespace) == (other._flat, other._namespace)
+        return isinstance(other, Key) and (self._flat, self._namespace, self._app) == (other._flat, other._namespace, other._app)
 
     def __hash__(self) -> int:
         return hash((self._flat, self._namespace))
 
     def __lt__(self, other: "Key") -> bool:
-        return order_of(self.to_driver()) < order_of(other.to_driver()) if isinstance(other, Key) else NotImplemented
+        if not isinstance(other, Key):
+            return NotImplemented
+        mine, others = (values.Key(*each._flat, namespace=each._namespace) for each in (self, other))
+        return (self.app(), order_of(mine)) < (other.app(), order_of(others))
 
     def __repr__(self) -> str:
-        words = [repr(part) for part in self._flat] + ([f"namespace={self._namespace!r}"] if self._namespace else [])
+        words = [repr(part) for part in self._flat] + ([f"app={self._app!r}"] if self._app else [])
+        words += [f"namespace={self._namespace!r}"] if self._namespace else []
         return f"Key({', '.join(words)})"
 
 
 def from_driver(key: values.Key) -> Key:
     """The key of a driver's key."""
-    return Key(pairs=key.path, namespace=key.namespace)
+    return Key(pairs=key.path, namespace=key.namespace or "")
 
 
 def order_of(key: values.Key) -> Tuple[Any, ...]:
@@ -146,12 +179,18 @@ def _identifier(given: Any) -> Identifier:
     return given
 
 
-def _decoded(text: Any) -> Any:
-    """The namespace, and behind it the kinds and identifiers, of a text of `urlsafe`."""
+def _decoded(text: Any, content: Any) -> Tuple[str, str, Any]:
+    """Application, namespace, and the kinds and identifiers, of a text of `urlsafe` or of its bytes."""
     try:
-        given = text.encode("ascii") if isinstance(text, str) else bytes(text)
-        namespace, *flat = json.loads(base64.urlsafe_b64decode(given + b"=" * (-len(given) % 4)))
+        if content is None:
+            given = (text.encode("ascii") if isinstance(text, str) else bytes(text)).rstrip(b"=")
+            content = base64.b64decode(given + b"=" * (-len(given) % 4), b"-_", validate=True)
+        app, namespace, path = reference_in(bytes(content))
+        flat = [part for pair in path for part in pair]
         Key(flat=flat, namespace=namespace)
-    except (ValueError, TypeError, AttributeError, BadArgumentError) as error:
-        raise BadRequestError(f"this is no text that urlsafe() of this library gave: {text!r}") from error
-    return namespace, *flat
+    except (ValueError, TypeError, BadArgumentError) as error:
+        raise BadRequestError(f"this is no key as App Engine writes one: {content if text is None else text!r}") from error
+    return app, namespace, flat
+
+
+__getattr__ = package_getattr(__name__)

@@ -1,15 +1,19 @@
 """Models: classes whose entities the Datastore keeps."""
-from typing import Any, Callable, Dict, Iterable, List, Optional, Sequence, Tuple, Type, TypeVar
+from typing import Any, Callable, Dict, Iterable, List, Optional, Tuple, Type, TypeVar
 
 from .. import values
 from ..facade import bare, with_lists, without_lists
-from .context import OPTIONS, get_context, transaction
+from .context import get_context
 from .datastore_errors import BadArgumentError, BadRequestError, BadValueError, KindError, asked
-from .futures import Future, twin
+from .futures import Future, ran, twin
 from .gql import GqlQuery, gql
 from .key import KINDS, Key
-from .properties import GenericProperty, Property
+from .kinds import GenericProperty
+from .members import Refusing, package_getattr
+from .options import ContextOptions, taken
+from .properties import Property
 from .query import Query
+from .transactions import transaction
 
 M = TypeVar("M", bound="Model")
 
@@ -17,15 +21,21 @@ M = TypeVar("M", bound="Model")
 class ModelKey(Property):
     """The key of an entity, `entity.key`, and in queries `Model.key`."""
 
+    def __init__(self) -> None:
+        super().__init__("__key__")
+
     def _get_value(self, entity: Any) -> Any:
-        return entity._key
+        return entity._entity_key
 
     def _set_value(self, entity: Any, value: Any) -> None:
         if value is not None and not isinstance(value, Key):
             raise BadValueError(f"the key of an entity is a Key, and not {value!r}")
         if value is not None and value.kind() != entity._get_kind():
             raise KindError(f"a {entity._get_kind()} has a key of its kind, and not {value!r}")
-        entity._key = value
+        entity._entity_key = value
+
+    def _delete_value(self, entity: Any) -> None:
+        entity._entity_key = None
 
     def _comparable(self, value: Any) -> Any:
         if not isinstance(value, Key):
@@ -33,7 +43,14 @@ class ModelKey(Property):
         return value.to_driver()
 
 
-class Model:
+class MetaModel(Refusing):
+    """The class of model classes, for an application that derives one of its own from it."""
+
+    def __init__(cls, name: str, bases: Any, classdict: Any, **words: Any) -> None:
+        super().__init__(name, bases, classdict, **words)
+
+
+class Model(metaclass=MetaModel):
     """A class of entities: `class Greeting(ndb.Model): content = ndb.TextProperty()`.
 
     `Greeting(content="Hello", parent=book)` makes one; `key`, `id`, `parent` and `namespace` say which key it has. The
@@ -43,21 +60,23 @@ class Model:
     _properties: Dict[str, Any] = {}
     _kind_map = KINDS
     _projection: Tuple[str, ...] = ()
-    _key: Optional[Key] = None
+    _entity_key: Optional[Key] = None
     _use_cache: Optional[bool] = None
-    key: Any = ModelKey("__key__")
+    key: Any = ModelKey()
+    _key: Any = key
 
     def __init__(self, **words: Any) -> None:
         self._values: Dict[str, Any] = {}
         key, id_, parent, namespace = (self._taken(words, name) for name in ("key", "id", "parent", "namespace"))
-        self._taken(words, "app")
+        app, projection = self._taken(words, "app"), self._taken(words, "projection")
         if key is not None and (id_ is not None or parent is not None or namespace is not None):
             raise BadArgumentError("an entity is made with a key, or with id, parent and namespace")
         if key is not None:
-            self.key = key
+            self._key = key
         elif id_ is not None or parent is not None or namespace is not None:
-            self._key = Key(self._get_kind(), id_, parent=parent, namespace=namespace)
+            self._key = Key(self._get_kind(), id_, parent=parent, namespace=namespace, app=app)
         self.populate(**words)
+        self._projection = tuple(projection or ())
 
     @classmethod
     def _taken(cls, words: Dict[str, Any], name: str) -> Any:
@@ -88,6 +107,18 @@ class Model:
         """The kind: the name of the class, unless a class says otherwise."""
         return cls.__name__
 
+    @classmethod
+    def _lookup_model(cls, kind: str, default_model: Any = None) -> Any:
+        """The class of a kind, or the default one."""
+        if kind not in KINDS and default_model is None:
+            raise KindError(f"no model class of kind {kind!r} was made; import the module that has it")
+        return KINDS.get(kind, default_model)
+
+    @classmethod
+    def _default_filters(cls) -> Tuple[Any, ...]:
+        """Filters that each query of this class has."""
+        return ()
+
     # -- hooks, for classes to define: before and after an operation; those after it are given its future
 
     def _pre_put_hook(self) -> None: ...
@@ -100,7 +131,7 @@ class Model:
     def populate(self, **words: Any) -> None:
         """Sets properties by name."""
         for name, value in words.items():
-            prop = getattr(type(self), name)
+            prop = getattr(type(self), name)  # An AttributeError where there is none, as in App Engine.
             if not isinstance(prop, Property):
                 raise TypeError(f"{name!r} is no property of {type(self).__name__}")
             prop._set_value(self, value)
@@ -188,59 +219,78 @@ class Model:
 
     def put(self, **options: Any) -> Key:
         """Writes the entity, and gives its key."""
+        given = taken("Model.put", options)
         self._ready()
-        return get_context().put(self, options)
+        return get_context().write(self, given)
 
     put_async = twin(put)
 
+    def has_complete_key(self) -> bool:
+        """Whether the entity has a key with an identifier."""
+        return self._key is not None and self._key.id() is not None
+
+    _has_complete_key = has_complete_key
+
     @classmethod
-    def get_by_id(cls, id: Any, parent: Optional[Key] = None, namespace: Optional[str] = None, **options: Any) -> Any:
+    def get_by_id(cls, id: Any, parent: Optional[Key] = None, namespace: Optional[str] = None, app: Optional[str] = None,
+                  **options: Any) -> Any:
         """The entity of this kind and identifier, or None."""
-        return Key(cls._get_kind(), id, parent=parent, namespace=namespace).get(**options)
+        given = taken("Model.get_by_id", options)
+        key = Key(cls._get_kind(), id, parent=parent, namespace=namespace, app=app)
+        return get_context().hooked("get", key, given)
 
     @classmethod
     def get_or_insert(cls, name: str, /, parent: Optional[Key] = None, namespace: Optional[str] = None,
-                      context_options: Any = None, **words: Any) -> Any:
+                      app: Optional[str] = None, context_options: Any = None, **words: Any) -> Any:
         """The entity of this name; if there is none, one is put, in a transaction, with the values that are given."""
         if not isinstance(name, str) or not name:
             raise TypeError(f"get_or_insert takes a name, and not {name!r}")
-        options = {each: words.pop(each) for each in OPTIONS if each in words and each not in cls._properties}
-        key = Key(cls._get_kind(), name, parent=parent, namespace=namespace)
+        given = {each: words.pop(each) for each in ContextOptions._names if each in words and each not in cls._properties}
+        options = taken("Model.get_or_insert", {**given, "context_options": context_options})
+        key = Key(cls._get_kind(), name, parent=parent, namespace=namespace, app=app)
 
         def work() -> Any:
-            entity = key.get(**options)
+            entity = get_context().hooked("get", key, options)
             if entity is None:
                 entity = cls(key=key, **words)
-                entity.put(**options)
+                entity._ready()
+                get_context().write(entity, options)
             return entity
 
         if get_context().in_transaction():
             return work()
-        found = key.get(**options)
+        found = get_context().hooked("get", key, options)
         return transaction(work) if found is None else found
 
     @classmethod
     def allocate_ids(cls, size: Optional[int] = None, max: Optional[int] = None, parent: Optional[Key] = None,
                      **options: Any) -> Tuple[int, int]:
         """Draws ids that no put draws: the first and the last of `size` of them."""
-        if size is None or max is not None:
-            raise NotImplementedError("allocate_ids takes a size; ids below 2^52 are never drawn, and need no reserve")
+        taken("Model.allocate_ids", {**options, "max": max})
+        if size is None:
+            raise BadArgumentError("allocate_ids takes a size")
         cls._pre_allocate_ids_hook(size, max, parent)
-        drawn: "Future[Any]" = Future(asked, get_context().client.allocate_ids, size)
+        drawn: "Future[Any]" = ran(asked, get_context().client.allocate_ids, size)
         cls._post_allocate_ids_hook(size, max, parent, drawn)
         first = drawn.get_result().first
         return first, first + size - 1
 
     @classmethod
     def query(cls, *filters: Any, **words: Any) -> Query:
-        """A query of this kind; `Query` tells its words."""
-        return Query(kind=cls._get_kind(), **words).filter(*filters)
+        """A query of this kind; `Query` tells its words. `distinct=True` gives each row of the projection once."""
+        if words.pop("distinct", False):
+            if not words.get("projection") or words.get("group_by"):
+                raise TypeError("distinct=True stands beside projection=, and not beside group_by=")
+            words["group_by"] = words["projection"]
+        return Query(kind=cls._get_kind(), **words).filter(*cls._default_filters(), *filters)
 
     @classmethod
     def gql(cls, text: str, *args: Any, **words: Any) -> GqlQuery:
         """A query of this kind by the rest of a GQL statement: `Greeting.gql("WHERE author = :1", name)`."""
         return gql(f"SELECT * FROM {cls._get_kind()} {text}", *args, **words)
 
+    _put, _put_async, _populate, _to_dict = put, put_async, populate, to_dict
+    _get_by_id, _get_or_insert, _allocate_ids, _query, _gql = get_by_id, get_or_insert, allocate_ids, query, gql
     get_by_id_async = classmethod(twin(get_by_id.__func__))  # type: ignore[attr-defined]
     get_or_insert_async = classmethod(twin(get_or_insert.__func__))  # type: ignore[attr-defined]
     allocate_ids_async = classmethod(twin(allocate_ids.__func__))  # type: ignore[attr-defined]
@@ -284,25 +334,29 @@ class Expando(Model):
             self._values.pop(name, None)
 
 
-def put_multi(entities: Sequence[Any], **options: Any) -> List[Key]:
+def put_multi(entities: Iterable[Any], **options: Any) -> List[Key]:
     """Writes entities, each as `put` does, and gives their keys. All are checked before the first is sent."""
-    context = get_context()
-    for entity in entities:
+    context, given, every = get_context(), taken("put_multi", options), list(entities)
+    for entity in every:
         entity._ready()
-    ready = [entity._to_properties() for entity in entities]
-    return [context.put(entity, options, properties) for entity, properties in zip(entities, ready)]
+    ready = [entity._to_properties() for entity in every]
+    return [context.write(entity, given, properties) for entity, properties in zip(every, ready)]
 
 
-def _each(name: str, told: str) -> Callable[..., List[Any]]:
-    def several(these: Sequence[Any], **options: Any) -> List[Any]:
-        return [getattr(each, name)(**options) for each in these]
+def _each(call: str, name: str, told: str) -> Callable[..., List[Any]]:
+    def several(these: Iterable[Any], **options: Any) -> List[Any]:
+        given = taken(call, options)
+        return [getattr(each, name)(**given) for each in these]
 
-    several.__doc__ = told
+    several.__doc__, several.__name__ = told, call
     return several
 
 
-get_multi = _each("get", "The entities of keys, each of which may be None.")
-delete_multi = _each("delete", "Deletes the entities of keys.")
-put_multi_async = _each("put_async", "As `put_multi`; a future for each.")
-get_multi_async = _each("get_async", "As `get_multi`; a future for each.")
-delete_multi_async = _each("delete_async", "As `delete_multi`; a future for each.")
+get_multi = _each("get_multi", "get", "The entities of keys, each of which may be None.")
+delete_multi = _each("delete_multi", "delete", "Deletes the entities of keys.")
+put_multi_async = _each("put_multi_async", "put_async", "As `put_multi`; a future for each.")
+get_multi_async = _each("get_multi_async", "get_async", "As `get_multi`; a future for each.")
+delete_multi_async = _each("delete_multi_async", "delete_async", "As `delete_multi`; a future for each.")
+
+
+__getattr__ = package_getattr(__name__)

@@ -1,15 +1,12 @@
-"""Properties of models: what they have in common, and those of one value."""
-import datetime
-import json
-import pickle
-import zlib
+"""Properties of models: what they have in common."""
 from typing import Any, Callable, Dict, Iterable, Iterator, Optional, Tuple
 
 from .. import values
-from ..facade import UTC, bare, loaded, stored
-from .datastore_errors import BadArgumentError, BadFilterError, BadValueError
-from .datastore_errors import ComputedPropertyError, ReadonlyPropertyError, UnprojectedPropertyError
-from .key import Key, from_driver
+from ..facade import bare, loaded, stored
+from .datastore_errors import BadArgumentError, BadFilterError, BadValueError, NotStoredError
+from .datastore_errors import ReadonlyPropertyError, UnprojectedPropertyError
+from .key import from_driver
+from .members import TABLE
 from .nodes import FilterNode, Order
 
 
@@ -83,7 +80,9 @@ class Property:
     def _stored(self, value: Any) -> Any:
         try:
             return None if value is None else self._out(self._converted(value, ("_validate", "_to_base_type")))
-        except (TypeError, ValueError) as error:
+        except TypeError as error:
+            raise NotStoredError(f"{self._code_name}: {error}") from error
+        except ValueError as error:
             raise BadValueError(f"{self._code_name}: {error}") from error
 
     def _loaded(self, value: Any) -> Any:
@@ -98,6 +97,26 @@ class Property:
         if self._repeated:
             return entity._values.setdefault(self._name, [])
         return entity._values.get(self._name, self._default)
+
+    def _has_value(self, entity: Any, rest: Any = None) -> bool:
+        """Whether the entity has a value of this property that was set or read, which may be None."""
+        return self._name in entity._values
+
+    def _retrieve_value(self, entity: Any, default: Any = None) -> Any:
+        """The value that the entity has, without a check."""
+        return entity._values.get(self._name, default)
+
+    def _store_value(self, entity: Any, value: Any) -> None:
+        """Sets the value, without a check."""
+        entity._values[self._name] = value
+
+    def _delete_value(self, entity: Any) -> None:
+        """Forgets the value; the default is then read."""
+        entity._values.pop(self._name, None)
+
+    def _is_initialized(self, entity: Any) -> bool:
+        """Whether the entity may be put, as far as this property goes."""
+        return not self._missing(entity)
 
     def _set_value(self, entity: Any, value: Any) -> None:
         if entity._projection:
@@ -127,7 +146,7 @@ class Property:
         if self._name in properties:
             value = bare(properties[self._name])
             many = [self._loaded(each) for each in (value if isinstance(value, list) else [value])]
-            entity._values[self._name] = many if self._repeated else many[0] if many else None
+            entity._values[self._name] = many if self._repeated else many[-1] if many else None
 
     def _names(self) -> Iterator[str]:
         """The names under which this property is stored."""
@@ -140,7 +159,10 @@ class Property:
         self._set_value(entity, value)
 
     def __delete__(self, entity: Any) -> None:
-        entity._values.pop(self._name, None)
+        self._delete_value(entity)
+
+    def __getattr__(self, name: str) -> Any:
+        return TABLE.object_getattr(type(self), name)
 
     def _comparable(self, value: Any) -> Any:
         if not self._indexed:
@@ -159,6 +181,8 @@ class Property:
             raise BadArgumentError(f"IN takes a list, and not {values!r}")
         return FilterNode(self._name, "in", [self._comparable(each) for each in values])
 
+    _IN = IN
+
     def __neg__(self) -> Order:
         return Order(self._name, True)
 
@@ -170,197 +194,3 @@ def unindexed(given: Any) -> Any:
     """A driver's value, or list of them, marked as not indexed where its type doesn't say so already."""
     every = given if isinstance(given, list) else [given]
     return given if all(isinstance(each, (values.Text, values.Blob)) for each in every) else values.Unindexed(given)
-
-
-class IntegerProperty(Property):
-    """A whole number of 64 bits."""
-
-    _takes, _types = "an int", (int,)
-
-
-class BooleanProperty(Property):
-    """True or False."""
-
-    _takes, _types = "a bool", (bool,)
-
-
-class _Long(Property):
-    """Texts and bytes: what is not indexed may be long, and compressed."""
-
-    _indexed = False
-    _is_text = False
-
-    def __init__(self, name: Optional[str] = None, compressed: bool = False, **words: Any) -> None:
-        super().__init__(name, **words)
-        self._compressed = compressed
-        if self._indexed and (compressed or type(self) is TextProperty):
-            raise NotImplementedError("no TextProperty and no compressed property can be indexed; a StringProperty can")
-
-    def _out(self, value: Any) -> Any:
-        if self._compressed:
-            return values.Blob(zlib.compress(value.encode() if self._is_text else value))
-        return super()._out(value)
-
-    def _in(self, value: Any) -> Any:
-        content = value.encode() if isinstance(value, str) else bytes(value)
-        content = zlib.decompress(content) if self._compressed else content
-        return content.decode() if self._is_text else content
-
-
-class TextProperty(_Long):
-    """A text of any length, which isn't indexed."""
-
-    _takes, _types = "a str", (str,)
-    _is_text = True
-
-
-class StringProperty(TextProperty):
-    """A text, indexed, of at most 1,500 bytes; with `indexed=False` of any length."""
-
-    _indexed = True
-
-
-class BlobProperty(_Long):
-    """Bytes, not indexed unless `indexed=True`; `compressed=True` stores them compressed."""
-
-    _takes, _types = "bytes", (bytes,)
-
-
-class JsonProperty(BlobProperty):
-    """A value that `json` writes, stored as its text."""
-
-    def _to_base_type(self, value: Any) -> Any:
-        return json.dumps(value, separators=(",", ":")).encode()
-
-    def _from_base_type(self, value: Any) -> Any:
-        return json.loads(value)
-
-
-class PickleProperty(BlobProperty):
-    """A value that `pickle` writes."""
-
-    def _to_base_type(self, value: Any) -> Any:
-        return pickle.dumps(value, 2)
-
-    def _from_base_type(self, value: Any) -> Any:
-        return pickle.loads(value)
-
-
-class DateTimeProperty(Property):
-    """A time of UTC, without a time zone. `auto_now` sets it at each put, `auto_now_add` at the first."""
-
-    _takes = "a datetime of UTC without its time zone, as value.replace(tzinfo=None)"
-    _types: Tuple[type, ...] = (datetime.datetime,)
-
-    def __init__(self, name: Optional[str] = None, auto_now: bool = False, auto_now_add: bool = False,
-                 **words: Any) -> None:
-        super().__init__(name, **words)
-        if self._repeated and (auto_now or auto_now_add):
-            raise ValueError("a repeated property can't have auto_now or auto_now_add")
-        self._auto_now, self._auto_now_add = auto_now, auto_now_add
-
-    def _validate(self, value: Any) -> Any:
-        is_moment = isinstance(value, datetime.datetime)
-        is_one = isinstance(value, self._types) and is_moment == (datetime.datetime in self._types)
-        if not is_one or getattr(value, "tzinfo", None) is not None:
-            raise self._expected(self._takes, value)
-
-    def _prepare_for_put(self, entity: Any) -> None:
-        if self._auto_now or (self._auto_now_add and self._get_value(entity) is None):
-            entity._values[self._name] = self._loaded(datetime.datetime.now(UTC))
-
-    def _missing(self, entity: Any) -> bool:
-        return super()._missing(entity) and not (self._auto_now or self._auto_now_add)
-
-    def _in(self, value: Any) -> Any:
-        return moment(value)
-
-
-def moment(value: Any) -> datetime.datetime:
-    """The time, without its zone, of a driver's date or of its microseconds, as a projection has it."""
-    if isinstance(value, datetime.datetime):
-        return value.astimezone(UTC).replace(tzinfo=None)
-    return datetime.datetime(1970, 1, 1) + datetime.timedelta(microseconds=value)
-
-
-class DateProperty(DateTimeProperty):
-    """A date."""
-
-    _takes, _types = "a date", (datetime.date,)
-
-    def _out(self, value: Any) -> Any:
-        return datetime.datetime(value.year, value.month, value.day, tzinfo=UTC)
-
-    def _in(self, value: Any) -> Any:
-        return moment(value).date()
-
-
-class TimeProperty(DateTimeProperty):
-    """A time of day."""
-
-    _takes, _types = "a time without a time zone", (datetime.time,)
-
-    def _out(self, value: Any) -> Any:
-        return datetime.datetime.combine(datetime.date(1970, 1, 1), value, UTC)
-
-    def _in(self, value: Any) -> Any:
-        return moment(value).time()
-
-
-class KeyProperty(Property):
-    """A key of this kind, a text or a model class: `KeyProperty(kind=Book)`, `KeyProperty(Book)`; or of any."""
-
-    def __init__(self, *given: Any, name: Optional[str] = None, kind: Any = None, **words: Any) -> None:
-        for each in given:
-            if isinstance(each, str) and name is None:
-                name = each
-            else:
-                kind = each
-        self._kind = getattr(kind, "_get_kind", lambda: kind)()
-        super().__init__(name, **words)
-
-    def _validate(self, value: Any) -> Any:
-        if not isinstance(value, Key) or value.id() is None:
-            raise self._expected("a Key that is complete", value)
-        if self._kind is not None and value.kind() != self._kind:
-            raise self._expected(f"a key of kind {self._kind!r}", value)
-
-
-class GenericProperty(Property):
-    """A property of any type that the server stores: those of an `Expando`, and those that a class doesn't tell of."""
-
-    def _in(self, value: Any) -> Any:
-        return moment(value) if isinstance(value, datetime.datetime) else super()._in(value)
-
-
-class ComputedProperty(GenericProperty):
-    """A value that a function of the entity gives: at each read, and stored at each put so that queries find it."""
-
-    def __init__(self, func: Callable[[Any], Any], name: Optional[str] = None, **words: Any) -> None:
-        super().__init__(name, **words)
-        self._func = func
-
-    def _get_value(self, entity: Any) -> Any:
-        return super()._get_value(entity) if entity._projection else self._func(entity)
-
-    def _set_value(self, entity: Any, value: Any) -> None:
-        raise ComputedPropertyError(f"{self._code_name} is computed, and can't be set")
-
-
-class _Refused(Property):
-    """A property that the server can't store. The class that has one is refused when it is made."""
-
-    def __init__(self, *given: Any, **words: Any) -> None:
-        super().__init__()
-
-    def _fix_up(self, model: Any, code_name: str) -> None:
-        what = f"{model.__name__}.{code_name} is a {type(self).__name__}"
-        raise NotImplementedError(f"{what}: the server stores no {self._takes}")
-
-
-# fmt: off
-class FloatProperty(_Refused): _takes = "floats; keep cents or thousandths in an IntegerProperty, or a JsonProperty"
-class GeoPtProperty(_Refused): _takes = "places; keep millionths of a degree of latitude and longitude as integers"
-class UserProperty(_Refused): _takes = "users of Google Accounts; keep the user's id in a StringProperty"
-class BlobKeyProperty(_Refused): _takes = "keys of the Blobstore; keep the key's text in a StringProperty"
-# fmt: on

@@ -1,0 +1,4 @@
+"""Metadata of the Datastore: `google.appengine.ext.ndb.metadata`. It can be imported; each of its names is refused by a sentence."""
+from .members import TABLE
+
+__getattr__ = TABLE.module_getattr(__name__, "metadata.")

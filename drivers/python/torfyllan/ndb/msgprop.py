@@ -1,0 +1,4 @@
+"""Properties of ProtoRPC: `google.appengine.ext.ndb.msgprop`. It can be imported; each of its names is refused by a sentence."""
+from .members import TABLE
+
+__getattr__ = TABLE.module_getattr(__name__, "msgprop.")
