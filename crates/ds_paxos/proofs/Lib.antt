@@ -6,6 +6,7 @@ mod Lists
 mod Moves
 mod Places
 mod Reached
+mod Running
 mod Safe
 mod Scenes
 mod Sent

@@ -24,13 +24,13 @@ tells_place p q = elim (eqb_tells p.log q.log) [
     both : p.log ≡ q.log → p.position ≡ q.position → p ≡ q
     both e f = λ i. record { log = e i; position = f i }
 
-place_same : (p : Place) → place_order p p ≡ Equal
+pub place_same : (p : Place) → place_order p p ≡ Equal
 place_same p = rw (number p.log, number p.position) refl
   where
     number : (k : ℕ) → nat_cmp k k ≡ Equal
     number k = grind (arith, nat_tests)
 
-place_exact : (p q : Place) → place_order p q ≡ Equal → p ≡ q
+pub place_exact : (p q : Place) → place_order p q ≡ Equal → p ≡ q
 place_exact p q e = by (nat_cmp p.log q.log) refl e
   where
     by : (o : Ordering) → nat_cmp p.log q.log ≡ o → ordering_then o (nat_cmp p.position q.position) ≡ Equal → p ≡ q

@@ -1,6 +1,7 @@
 -- What a member keeps: an instance of Paxos by log and position, in their order.
-use Rattle.std.specs.Prelude.{ℕ, List, None, map, max, unwrap_or}
+use Rattle.std.specs.Prelude.{◌≡◌, ◌⊎◌, ℕ, List, [], ◌∷◌, None, map, max, unwrap_or}
 use Rattle.std.specs.BTreeMap.{insert_entry, is_at}
+use Rattle.std.specs.List.{AllByRecursion}
 use Rattle.std.specs.Map.{lookup}
 use Rattle.std.specs.Ordering.{nat_cmp, ordering_then}
 use Rattle.std.specs.declared.cmp.Ordering.{Ordering}
@@ -34,3 +35,12 @@ idle instance = record instance { attempt = None }
 -- A restart drops each running attempt. What the member used, promised, accepted and holds stays: it stands on disk.
 abbrev pub restarted : List (Place × Instance) → List (Place × Instance)
 restarted kept = map (λ e. (e.0, idle e.1)) kept
+
+-- this place is one of these
+abbrev pub IsOneOf : Place → List Place → Type 0
+IsOneOf place [] = ⊥
+IsOneOf place (p ∷ ps) = (place ≡ p) ⊎ IsOneOf place ps
+
+-- Each attempt that runs is at one of these places.
+abbrev pub AreListed : List Place → List (Place × Instance) → Type 0
+AreListed places kept = AllByRecursion (λ e. (e.1.attempt ≡ None) ⊎ IsOneOf e.0 places) kept

@@ -59,7 +59,8 @@ impl World {
     ///
     /// `NoMember`: exactly where the event names a member that there isn't. `NoMessage`: exactly where so many messages weren't sent yet.
     /// `NoBallot`: exactly where the ballot of a proposal would pass 2^63 - 1. `NoMemory` is want of memory, where none of these holds.
-    /// A delivery takes time by the logarithm of what its member keeps.
+    /// A delivery takes time by the logarithm of what its member keeps, and a restart as much for each attempt that began at its member
+    /// since the last one.
     pub fn step(&mut self, alloc: Global, event: Event) -> Result<(), StepRefused>
         requires { IsTrue (is_well_formed event) }
         ensures taken { OnOk result (step_of self.old event ≡ Ok self.new) }
