@@ -68,11 +68,23 @@ class Replicas(Case):
             self.skipTest("no proved replicas: the long script isn't run by the unproved ones")
         self.expect("an input at the limit", ran(MOST_BYTES * b"\n"), (7, b"", "input limit"))
         script, positions = long_script()
+        output = self.run_in_time("the long script", script)
+        self.expect("how many entries are held", output.count(b"\n") >= positions, True)
+
+    def test_restarts_behind_proposals(self):
+        """A restart goes over the attempts that run, not over all that its member keeps."""
+        if self.is_slow():
+            self.skipTest("no proved replicas: the restarts aren't run by the unproved ones")
+        script = "".join(f"propose 0 0 {position} a\nrestart 0\n" for position in range(1, EVENTS // 2 + 1))
+        self.expect("what is held", self.run_in_time("the restarts", script.encode()), b"")
+
+    def run_in_time(self, what, script):
+        """What a script of many events prints, which has to take seconds of processor time at most."""
         before = resource.getrusage(resource.RUSAGE_CHILDREN)
         status, output, errors = ran(script)
         after = resource.getrusage(resource.RUSAGE_CHILDREN)
         seconds = after.ru_utime + after.ru_stime - before.ru_utime - before.ru_stime
-        self.expect("the long script", (status, errors), (0, ""))
-        self.expect("how many entries are held", output.count(b"\n") >= positions, True)
-        print(f"a script of {EVENTS:,} events: {seconds:.2f} s of processor time")
+        self.expect(what, (status, errors), (0, ""))
+        print(f"{what}, {EVENTS:,} events: {seconds:.2f} s of processor time")
         self.expect(f"whether {seconds:.2f} seconds are at most {MOST_SECONDS}", seconds <= MOST_SECONDS, True)
+        return output
