@@ -7,7 +7,7 @@ import json
 import pathlib
 import tempfile
 
-from tests.case import Case, Talk, run, sample
+from tests.case import Case, Talk, is_slow, run, sample
 from tests.refusing import Refusing
 
 ROWS = sample(50_000, 5_000, 50_000)
@@ -32,6 +32,8 @@ STATEMENTS = ["SELECT * FROM T LIMIT 1", "SELECT b FROM T WHERE b > 2 LIMIT 1", 
 # The entities of a small table and of a large one, the entries that overwrite some of them, and how many times as much they may cost in the large one.
 SMALL, LARGE, OVERWRITES, TIMES = 1_000, sample(50_000, 10_000, 50_000), sample(5_000, 1_000, 5_000), 4
 COMMITS = sample(210_000, 1_000, 1_100_000)
+# Where more entries than 16,384 are applied, a query without a limit may be asked of all shards at once.
+MANY = 17_000
 # The bytes that a read gives at least, on the average, of a file that has more.
 INPUT_BYTES, READ_BYTES = 1_000_000, 4_096
 SETTLE = b'{"op":"settle"}'
@@ -127,15 +129,20 @@ class Calls(Refusing):
         return ran.counts
 
     def test_threads_of_queries_with_a_limit(self):
-        """On several shards a query without a limit may be asked of all at once; one with a limit makes no thread."""
+        """On several shards a query without a limit is asked of all at once where many entries are applied; one with a limit makes no thread."""
+        if is_slow():
+            self.skipTest("no proved server: so many entries aren't stored by an unproved one")
         words = ["--shards", "4", "--appliers", "0", "--indexes", "index.yaml"]
         pathlib.Path(self.folder, "index.yaml").write_text(INDEX, encoding="utf-8")
-        stored = [*map(put, range(40)), SETTLE, b""]
+        stored = [*map(put, range(MANY)), SETTLE, b""]
         before = self.counts(stored, words)["threads"]
         for what, line in queries().items():
             self.expect(f"threads for 20 {what}", self.counts([*stored, *[line, b""] * 20], words)["threads"] - before, 0)
-        many = self.counts([*stored, *[b'{"op":"query","kind":"T"}', b""] * 20], words)["threads"] - before
-        self.expect(f"whether the threads for 20 queries without a limit are counted ({many})", many > 0, True)
+        everything = b'{"op":"query","kind":"T","select":"keys"}'
+        many = self.counts([*stored, everything, b"", everything], words)["threads"] - before
+        self.expect(f"whether the threads for 2 queries without a limit are counted ({many})", many > 0, True)
+        few = self.counts([*map(put, range(40)), SETTLE, b"", *[everything, b""] * 20], words)["threads"] - before
+        self.expect("threads for 20 queries without a limit over few entities", few, 0)
 
     def test_reads(self):
         """A file is read by large pieces, in one round and in many."""
