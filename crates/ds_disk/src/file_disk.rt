@@ -43,7 +43,8 @@ impl<R> FileDisk<R> {
         }
     }
 
-    /// Why the last call that failed did so, to be told to a user; none where none failed.
+    /// Why the last call that failed did so, to be told to a user; none where none failed. No clause says it: the operating
+    /// system gives the cause, and contracts see the count of faults alone.
     pub fn cause(&self) -> Option<Cause> {
         self.cause
     }

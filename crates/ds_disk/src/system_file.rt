@@ -52,7 +52,8 @@ enum Link {
     Lost,
 }
 
-/// A file by its name. It is opened, locked and made at the first call.
+/// A file by its name. It is opened, locked and made at the first call. What its calls give is what the operating system
+/// gives, which no clause can tell: they are trusted, and tried by tests.
 #[derive(Drop)]
 pub struct SystemFile<R> {
     runtime: R,
