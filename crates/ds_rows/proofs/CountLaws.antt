@@ -1,9 +1,9 @@
 -- The count of index rows is the number of rows without the one in the index of all entities.
-use Rattle.std.specs.Prelude.{◌≡◌, ℕ, ◌+◌, ◌*◌, ◌<◌, Bool, true, false, List, [], ◌∷◌, ◌++◌, cond, filter, find, flat_map, length, map}
-use Rattle.std.specs.Prelude.{get_or, sum_by, Option, Some, None, IsTrue, bytes_eq, refl}
+use Rattle.std.specs.Prelude.{◌≡◌, ℕ, ◌+◌, ◌*◌, ◌<◌, Bool, true, false, List, [], ◌∷◌, ◌++◌, cond, filter, flat_map, length, map}
+use Rattle.std.specs.Prelude.{get_or, sum_by, Option, Some, None, IsTrue, refl}
 use Rattle.std.specs.List.{enumerate_from}
 use Rattle.std.specs.Option.{option_map_or}
-use Rattle.std.proofs.Common.{suc, zero, ap, sym, ◌∙◌, arith, length-append}
+use Rattle.std.proofs.Common.{suc, ap, sym, ◌∙◌, arith, length-append}
 use Rattle.std.proofs.lemmas.List.{length-map}
 use Rattle.std.proofs.lemmas.List.Concat.{length-flat_map}
 use Rattle.std.proofs.lemmas.List.Sums.{sum_by-append, sum_by-cons}
@@ -18,9 +18,9 @@ use Rattle.ds_indexdef.specs.declared.IndexDef.{IndexDef}
 use Rattle.ds_rows.specs.IndexedValues.{kind_in, property_values, indexed_values, column_values, each_way}
 use Rattle.ds_base.specs.KeyColumn.{is_key_name}
 use Rattle.ds_rows.specs.Counts.{product, column_count, composite_count, row_count}
-use Rattle.ds_rows.specs.Indexes.{RowIndex, AllByKey, KindByKey, ByProperty, Composite, has_ancestor, front_columns, property_indexes}
+use Rattle.ds_rows.specs.Indexes.{RowIndex, AllByKey, KindByKey, ByProperty, Composite, front_columns, property_indexes}
 use Rattle.ds_rows.specs.Indexes.{composite_indexes, indexes_of}
-use Rattle.ds_rows.specs.Rows.{IndexRow, ancestors, row_ancestors, index_lists, row_with, index_rows, index_row_bytes, rows_in, rows_of}
+use Rattle.ds_rows.specs.Rows.{ancestors, row_ancestors, index_lists, row_with, index_rows, index_row_bytes, rows_in, rows_of}
 use Rattle.ds_rows.specs.Ways.{ways_count}
 use Rattle.ds_rows.proofs.Lookups.{found_at}
 use Rattle.ds_rows.proofs.IndexedRows.{length_ancestors}

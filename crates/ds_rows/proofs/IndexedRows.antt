@@ -1,9 +1,9 @@
 -- The rows of one index, put for each way or for each ancestor and way.
 use Rattle.std.proofs.Common.{◌≡◌, ℕ, zero, suc, ◌+◌, ◌-◌, ◌<◌, ◌≤◌, ◌++◌, ◌∷◌, [], List, Bool, true, false, cond, length, get_or, take}
-use Rattle.std.proofs.Common.{drop, map, refl, ap, sym, subst, ◌∙◌, arith, append_assoc, append-nil, Option, Some, None}
-use Rattle.std.specs.Prelude.{◌&&◌, flat_map, filter}
+use Rattle.std.proofs.Common.{drop, map, refl, ap, sym, subst, ◌∙◌, arith, append_assoc, append-nil, Some, None}
+use Rattle.std.specs.Prelude.{◌&&◌, flat_map, filter, if◌then◌else◌}
 use Rattle.std.specs.List.{enumerate_from}
-use Rattle.std.proofs.lemmas.List.{map-append, length-map, get_or-map, take_more, flat_map_more, drop_more, take_at, take_all, get_or_read}
+use Rattle.std.proofs.lemmas.List.{map-append, length-map, get_or-map, take_more, flat_map_more, drop_more, take_all, get_or_read}
 use Rattle.std.proofs.lemmas.Grind.{flat_map-append}
 use Rattle.std.specs.declared.cmp.Ordering.TheVariants.{Equal}
 use Rattle.std.specs.Cmp.{tied_itself}
@@ -16,14 +16,14 @@ use Rattle.ds_base.specs.declared.index_value.IndexValue.{IndexValue}
 use Rattle.ds_base.specs.Keys.{KeyParts}
 use Rattle.ds_entity.specs.Entities.{EntityParts}
 use Rattle.ds_indexdef.specs.declared.IndexDef.{IndexDef}
-use Rattle.ds_bytes.specs.Encoding.{key_bytes, key_encoding, ancestor_of}
+use Rattle.ds_bytes.specs.Encoding.{escaped, key_bytes, key_encoding, ancestor_of}
 use Rattle.ds_bytes.specs.Rows.{columns_bytes}
 use Rattle.ds_rows.specs.declared.ways.ColumnValues.{ColumnValues}
 use Rattle.ds_rows.specs.IndexedValues.{kind_of, kind_in, property_values, each_way}
 use Rattle.ds_base.specs.KeyColumn.{is_key_name}
-use Rattle.ds_rows.specs.Indexes.{RowIndex, Composite, directions, index_key_descends, has_ancestor, AllByKey, KindByKey, front_columns}
+use Rattle.ds_rows.specs.Indexes.{RowIndex, Composite, directions, index_key_descends, has_ancestor, AllByKey, KindByKey, ByProperty, front_columns}
 use Rattle.ds_rows.specs.Indexes.{last_key_descends, property_indexes, composite_indexes}
-use Rattle.ds_rows.specs.Rows.{IndexRow, row_with, paths_to, ancestors, row_ancestors, index_lists, index_front, index_row_bytes, rows_in}
+use Rattle.ds_rows.specs.Rows.{IndexRow, row_with, paths_to, ancestors, index_lists, index_front, index_row_bytes, rows_in}
 use Rattle.ds_rows.specs.Rows.{rows_of}
 use Rattle.ds_rows.specs.Spans.{Written}
 use Rattle.ds_rows.specs.Ways.{lists_of, directions_of, row_of_way, ancestor_rows}
@@ -36,6 +36,14 @@ plain_rows f g [] = refl
 plain_rows f g (w ∷ ways) = ap (λ rows. f (g w) ∷ rows) (plain_rows f g ways)
 
 -- without ancestors there is one row for each way
+-- what the rows in a property's index begin with, by what those in the index of its kind do
+pub property_front_by : (kind_front name : List ℕ) (descending : Bool) (namespace kind : List ℕ) → kind_front ≡ index_front KindByKey namespace kind
+    → (if descending then 3 else 2) ∷ (drop 1 kind_front ++ escaped name) ≡ index_front (ByProperty name descending) namespace kind
+property_front_by kind_front name true namespace kind is =
+    ap (λ (bs : List ℕ). 3 ∷ (drop 1 bs ++ escaped name)) is ∙ ap (λ (bs : List ℕ). 3 ∷ bs) (append_assoc (escaped namespace) (escaped kind) (escaped name))
+property_front_by kind_front name false namespace kind is =
+    ap (λ (bs : List ℕ). 2 ∷ (drop 1 bs ++ escaped name)) is ∙ ap (λ (bs : List ℕ). 2 ∷ bs) (append_assoc (escaped namespace) (escaped kind) (escaped name))
+
 pub rows_without : (e : EntityParts) (i : RowIndex) (front key : List ℕ) (lists : List (List IndexValue)) (descends : List Bool)
     → has_ancestor i ≡ false
     → front ≡ index_front i e.key.namespace (kind_of e.key) → key ≡ key_encoding (index_key_descends i) e.key → lists ≡ index_lists e i

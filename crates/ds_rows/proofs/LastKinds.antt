@@ -1,5 +1,5 @@
 -- The last element of a path.
-use Rattle.std.proofs.Common.{◌≡◌, ℕ, ◌+◌, ◌-◌, ◌<◌, List, [], ◌∷◌, length, get_or, refl, ap, ◌∙◌, suc, arith}
+use Rattle.std.proofs.Common.{◌≡◌, ◌-◌, ◌<◌, List, [], ◌∷◌, length, get_or, refl, ap, ◌∙◌, suc, arith}
 use Rattle.ds_base.specs.declared.key.Elem.{Elem}
 use Rattle.ds_rows.specs.IndexedValues.{last_kind}
 

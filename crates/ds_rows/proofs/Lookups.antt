@@ -1,6 +1,6 @@
 -- A property found by its name, among names that strictly ascend.
-use Rattle.std.proofs.Common.{◌≡◌, ◌≢◌, ℕ, zero, suc, ◌+◌, ◌<◌, ◌≤◌, Bool, true, false, cond, List, [], ◌∷◌, length, get_or, refl, ap}
-use Rattle.std.proofs.Common.{sym, subst, ◌∙◌, arith, Option, Some, None, IsTrue, bytes_eq, map, ◌⊎◌, inl, inr}
+use Rattle.std.proofs.Common.{◌≡◌, ℕ, zero, suc, ◌+◌, ◌<◌, ◌≤◌, Bool, true, false, cond, List, [], ◌∷◌, length, get_or, refl, ap}
+use Rattle.std.proofs.Common.{sym, ◌∙◌, arith, Option, Some, None, IsTrue, bytes_eq, map, inl, inr}
 use Rattle.std.specs.Prelude.{find}
 use Rattle.std.specs.Ordering.{is_lt, ordering_reverse}
 use Rattle.std.specs.declared.cmp.Ordering.{Ordering}

@@ -1,5 +1,5 @@
 -- What the indexes hold of an entity: its kind, and the values of its properties.
-use Rattle.std.specs.Prelude.{ℕ, Bool, List, [], ◌∷◌, bytes_eq, codes, cond, find, filter_map, flat_map, fold, length, map}
+use Rattle.std.specs.Prelude.{ℕ, Bool, List, [], ◌∷◌, bytes_eq, cond, find, filter_map, flat_map, fold, length, map}
 use Rattle.std.specs.Option.{option_map_or}
 use Rattle.std.specs.BTreeSet.{insert_key}
 use Rattle.ds_base.specs.declared.key.Elem.{Elem}

@@ -16,7 +16,6 @@ use Rattle.ds_entity.specs.Entities.{EntityParts}
 use Rattle.ds_indexdef.specs.declared.IndexDef.{IndexDef}
 use Rattle.ds_bytes.specs.Lawful.{IsElemOfBytes, IsKeyOfBytes, IsValueOfBytes, IsLawfulValue}
 use Rattle.ds_bytes.specs.LawfulLaws.{key_of_bytes, value_of_bytes}
-use Rattle.ds_bytes.specs.Rows.{IsRow}
 use Rattle.ds_rows.specs.IndexedValues.{kind_in, property_values, indexed_values, column_values, each_way}
 use Rattle.ds_base.specs.KeyColumn.{is_key_name}
 use Rattle.ds_rows.specs.Indexes.{RowIndex, AllByKey, KindByKey, ByProperty, Composite, directions, has_ancestor, front_columns}

@@ -1,5 +1,5 @@
 -- What the bytes of a row tell: the index that it is of, the entity, and the order of the rows of an index.
-use Rattle.std.specs.Prelude.{◌≡◌, ℕ, zero, suc, ◌+◌, ◌*◌, ◌/◌, ◌%◌, ◌^◌, ◌<◌, Bool, true, false, List, [], ◌∷◌, ◌++◌, length, Option}
+use Rattle.std.specs.Prelude.{◌≡◌, ℕ, ◌+◌, ◌*◌, ◌/◌, ◌%◌, ◌^◌, ◌<◌, Bool, true, false, List, [], ◌∷◌, ◌++◌, length, Option}
 use Rattle.std.specs.Prelude.{Some, None, refl}
 use Rattle.std.proofs.Common.{ap, sym, ◌∙◌, append_assoc, append-nil, subst, arith}
 use Rattle.std.specs.declared.cmp.Ordering.{Ordering}
@@ -12,15 +12,14 @@ use Rattle.std.proofs.lemmas.List.{get_or_default}
 use Rattle.std.proofs.Math.Nat.{mod-eq_of_lt}
 use Rattle.std.proofs.lemmas.Nat.{mod-pow-add}
 use Rattle.ds_base.specs.Keys.{KeyParts}
-use Rattle.ds_base.specs.KeyOrder.{bytes_cmp, key_cmp}
+use Rattle.ds_base.specs.KeyOrder.{bytes_cmp}
 use Rattle.ds_indexdef.specs.declared.IndexDef.{IndexDef}
 use Rattle.ds_indexdef.specs.Definitions.{AreDefs}
-use Rattle.ds_bytes.specs.Encoding.{escaped, key_bytes}
-use Rattle.ds_bytes.specs.Lawful.{IsKeyOfBytes}
+use Rattle.ds_bytes.specs.Encoding.{escaped}
 use Rattle.ds_bytes.specs.OrderedLaws.{bytes_cmp-front, orders, nat_cmp-self}
 use Rattle.ds_bytes.specs.EncodingLaws.{key_bytes-ordered, key_encoding-reads_once}
 use Rattle.ds_bytes.specs.AncestorLaws.{escaped-reads_once}
-use Rattle.ds_bytes.specs.Rows.{RowParts, row_bytes, row_cmp, IsRow}
+use Rattle.ds_bytes.specs.Rows.{row_bytes}
 use Rattle.ds_bytes.specs.RowLaws.{row_bytes-ordered, row_bytes-reads_once}
 use Rattle.ds_rows.specs.IndexedValues.{kind_of}
 use Rattle.ds_rows.specs.Indexes.{RowIndex, AllByKey, KindByKey, ByProperty, Composite, directions, index_key_descends, has_ancestor}

@@ -1,5 +1,5 @@
 //! What the rows of an index begin with: of an entity's rows, and of the ranges that a query reads.
-ghost use Rattle.std.specs.Prelude.{◌≡◌, ◌∷◌, ◌++◌, [], if◌then◌else◌, OnOk};
+ghost use Rattle.std.specs.Prelude.{◌≡◌, ℕ, ◌<◌, List, ◌∷◌, ◌++◌, [], if◌then◌else◌, length, OnOk};
 ghost use Rattle.ds_bytes.specs.Encoding.{escaped};
 ghost use Rattle.ds_base.specs.Bytes.{AreBytes};
 ghost use Rattle.ds_indexdef.specs.declared.IndexDef.{IndexDef};
@@ -53,6 +53,25 @@ pub fn put_property_front(
 {
     begin(property_tag(descending), namespace, front)?;
     encode_text(kind, front)?;
+    put_name(name.bytes(), front)
+}
+
+/// Leaves in `front`, in place of what it held, what rows in the index of a property begin with in a namespace and kind, of which
+/// `kind_front` is what rows in the index of the kind begin with: it differs in the first byte alone, and ends before the name.
+pub(crate) fn put_property_front_by(
+    kind_front: &[u8],
+    name: &TextString,
+    descending: bool,
+    front: &mut Buffer,
+) -> Result<(), NoMemory>
+    requires { 0 < length kind_front.now }
+    ensures front { (namespace kind : List ℕ) → kind_front.now ≡ index_front KindByKey namespace kind
+        → OnOk result (front.new.bytes ≡ index_front (ByProperty name.now descending) namespace kind) }
+    ensures name { OnOk result (AreBytes name.now) }
+{
+    front.clear();
+    front.append(&[property_tag(descending)])?;
+    front.append(&kind_front[1..])?;
     put_name(name.bytes(), front)
 }
 

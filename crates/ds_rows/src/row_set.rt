@@ -1,5 +1,5 @@
 //! Lists of rows, in one buffer.
-ghost use Rattle.std.specs.Prelude.{◌≡◌, [], ◌∷◌, ◌++◌, length, slice_get, OnOk, IsOk};
+ghost use Rattle.std.specs.Prelude.{◌≡◌, [], ◌∷◌, ◌++◌, length, slice_get, IfOk, OnOk, IsOk};
 ghost use Rattle.std.specs.Option.{option_copied};
 ghost use Rattle.ds_bytes.specs.Encoding.{encoding};
 ghost use Rattle.ds_bytes.specs.Lawful.{IsLawfulValue};
@@ -76,15 +76,19 @@ impl Model for RowWriter {
 }
 
 impl RowWriter {
-    /// No row. It takes no memory.
-    pub(crate) fn new(alloc: Global) -> RowWriter
-        ensures { result ≡ record { rows = []; begun = [] } }
+    /// No row, with room for so many rows of so many bytes each, which fewer or shorter ones leave unused and more outgrow.
+    /// Refused: want of memory.
+    pub(crate) fn with_room(alloc: Global, rows: usize, each: usize) -> Result<RowWriter, NoMemory>
+        ensures { IfOk result (λ w. w ≡ record { rows = []; begun = [] }) }
     {
-        RowWriter {
-            bytes: Buffer::new(alloc),
-            spans: Vec::new(alloc),
+        let mut bytes = Buffer::new(alloc);
+        bytes.make_room(rows.saturating_mul(each))?;
+        let spans = Vec::with_capacity(alloc, rows)?;
+        Ok(RowWriter {
+            bytes,
+            spans,
             begun: 0,
-        }
+        })
     }
 
     /// Puts bytes at the end of the row.

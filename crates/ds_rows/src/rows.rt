@@ -3,14 +3,14 @@ ghost use Rattle.std.specs.Prelude.{◌≡◌, [], ◌++◌, flat_map, map, All,
 ghost use Rattle.ds_bytes.specs.Encoding.{key_bytes};
 ghost use Rattle.ds_bytes.specs.Lawful.{IsLawfulValue};
 ghost use Rattle.ds_base.specs.Bytes.{AreBytes};
-ghost use Rattle.ds_rows.specs.IndexedValues.{property_values, indexed_values};
+ghost use Rattle.ds_rows.specs.IndexedValues.{kind_of, property_values, indexed_values};
 ghost use Rattle.ds_rows.specs.Indexes.{AllByKey, KindByKey, ByProperty, property_indexes};
-ghost use Rattle.ds_rows.specs.Rows.{rows_in, rows_of};
+ghost use Rattle.ds_rows.specs.Rows.{rows_in, rows_of, index_front};
 ghost use Rattle.ds_rows.specs.Indexable.{IsIndexable};
 ghost use Rattle.ds_rows.specs.Laws.{IsOnce};
 
 use crate::composite::put_composite_rows;
-use crate::fronts::{put_all_front, put_kind_front, put_property_front};
+use crate::fronts::{put_all_front, put_kind_front, put_property_front_by};
 use crate::indexed::{indexed_lists, kind_of};
 use crate::row_set::{RowSet, RowWriter};
 use crate::ways::{ColumnValues, put_rows};
@@ -22,6 +22,9 @@ use std::alloc::Global;
 
 /// Room for the bytes of most keys and most fronts of rows, so that they don't move as they grow.
 const ROOM: usize = 64;
+
+/// Room for the bytes of most rows without their keys.
+const ROW_ROOM: usize = 40;
 
 /// The rows of the entity in all indexes, with these definitions of composite indexes: in the index of all entities, in that of
 /// its kind, in an ascending and a descending index for each property, and in the composite indexes of its kind. Each row is
@@ -42,27 +45,52 @@ pub fn rows_of(alloc: Global, defs: &Defs, entity: &Entity) -> Result<RowSet, No
     encode_key(entity.key(), false, &mut suffix)?;
     let mut front = Buffer::new(alloc);
     front.make_room(ROOM)?;
-    let mut rows = RowWriter::new(alloc);
-    put_key_rows(entity, suffix.bytes(), &mut front, &mut rows)?;
-    put_property_rows(
-        entity,
-        lists.as_slice(),
-        suffix.bytes(),
-        &mut front,
-        &mut rows,
+    let mut kind_front = Buffer::new(alloc);
+    kind_front.make_room(ROOM)?;
+    put_kind_front(
+        entity.key().namespace(),
+        kind_of(entity.key()),
+        &mut kind_front,
     )?;
+    let own = OwnBytes {
+        kind_front: kind_front.bytes(),
+        key: suffix.bytes(),
+    };
+    let mut rows = RowWriter::with_room(
+        alloc,
+        usual_rows(properties.len()),
+        suffix.bytes().len().saturating_add(ROW_ROOM),
+    )?;
+    put_key_rows(entity, &own, &mut front, &mut rows)?;
+    put_property_rows(entity, lists.as_slice(), &own, &mut front, &mut rows)?;
     put_composite_rows(alloc, defs, entity, lists.as_slice(), &mut front, &mut rows)?;
     Ok(rows.finish())
 }
 
-/// Puts the rows in the index of all entities and in that of the entity's kind. `key` is the ascending encoding of its key.
+/// What the rows of an entity have in common.
+#[derive(Drop)]
+struct OwnBytes<'a> {
+    /// What its row in the index of its kind begins with.
+    kind_front: &'a [u8],
+    /// The ascending encoding of its key.
+    key: &'a [u8],
+}
+
+/// How many rows an entity with so many properties usually has: one value in each, and no composite index. Only the room that
+/// is taken depends on it, so no clause tells it.
+fn usual_rows(properties: usize) -> usize {
+    properties.saturating_mul(2).saturating_add(2)
+}
+
+/// Puts the rows in the index of all entities and in that of the entity's kind.
 fn put_key_rows(
     entity: &Entity,
-    key: &[u8],
+    own: &OwnBytes,
     front: &mut Buffer,
     rows: &mut RowWriter,
 ) -> Result<(), NoMemory>
-    requires encoded { key.now ≡ key_bytes entity.now.key }
+    requires encoded { own.now.key.now ≡ key_bytes entity.now.key }
+    requires kind { own.now.kind_front.now ≡ index_front KindByKey entity.now.key.namespace (kind_of entity.now.key) }
     requires begun { rows.old.begun ≡ [] }
     ensures { OnOk result (rows.new ≡ record {
       rows = rows.old.rows
@@ -70,23 +98,22 @@ fn put_key_rows(
       begun = [];
     }) }
 {
-    let own = entity.key();
-    put_all_front(own.namespace(), front)?;
-    put_rows(front.bytes(), &[], key, rows)?;
-    put_kind_front(own.namespace(), kind_of(own), front)?;
-    put_rows(front.bytes(), &[], key, rows)
+    put_all_front(entity.key().namespace(), front)?;
+    put_rows(front.bytes(), &[], own.key, rows)?;
+    put_rows(own.kind_front, &[], own.key, rows)
 }
 
 /// Puts the rows in the indexes of the properties, whose indexed values are given.
 fn put_property_rows(
     entity: &Entity,
     lists: &[IndexValues],
-    key: &[u8],
+    own: &OwnBytes,
     front: &mut Buffer,
     rows: &mut RowWriter,
 ) -> Result<(), NoMemory>
     requires theirs { lists.now ≡ map property_values entity.now.properties }
-    requires encoded { key.now ≡ key_bytes entity.now.key }
+    requires encoded { own.now.key.now ≡ key_bytes entity.now.key }
+    requires kind { own.now.kind_front.now ≡ index_front KindByKey entity.now.key.namespace (kind_of entity.now.key) }
     requires begun { rows.old.begun ≡ [] }
     ensures put { OnOk result (rows.new ≡ record {
       rows = rows.old.rows
@@ -97,7 +124,7 @@ fn put_property_rows(
     ensures names { OnOk result (All (λ p. AreBytes p.name) entity.now.properties) }
 {
     for (place, property) in entity.properties().as_slice().iter().enumerate() {
-        put_both(entity, property, lists[place].as_slice(), key, front, rows)?;
+        put_both(entity, property, lists[place].as_slice(), own, front, rows)?;
     }
     Ok(())
 }
@@ -107,12 +134,13 @@ fn put_both(
     entity: &Entity,
     property: &Property,
     values: &[IndexValue],
-    key: &[u8],
+    own: &OwnBytes,
     front: &mut Buffer,
     rows: &mut RowWriter,
 ) -> Result<(), NoMemory>
     requires theirs { values.now ≡ indexed_values entity.now property.now.name }
-    requires encoded { key.now ≡ key_bytes entity.now.key }
+    requires encoded { own.now.key.now ≡ key_bytes entity.now.key }
+    requires kind { own.now.kind_front.now ≡ index_front KindByKey entity.now.key.namespace (kind_of entity.now.key) }
     requires begun { rows.old.begun ≡ [] }
     ensures put { OnOk result (rows.new ≡ record {
       rows = rows.old.rows
@@ -122,8 +150,8 @@ fn put_both(
     ensures lawful { OnOk result (All IsLawfulValue values.now) }
     ensures name { OnOk result (AreBytes property.now.name) }
 {
-    put_property(entity, &property.name, false, values, key, front, rows)?;
-    put_property(entity, &property.name, true, values, key, front, rows)
+    put_property(entity, &property.name, false, values, own, front, rows)?;
+    put_property(entity, &property.name, true, values, own, front, rows)
 }
 
 /// Puts the rows in one index of the property of this name.
@@ -132,12 +160,13 @@ fn put_property(
     name: &TextString,
     descending: bool,
     values: &[IndexValue],
-    key: &[u8],
+    own: &OwnBytes,
     front: &mut Buffer,
     rows: &mut RowWriter,
 ) -> Result<(), NoMemory>
     requires theirs { values.now ≡ indexed_values entity.now name.now }
-    requires encoded { key.now ≡ key_bytes entity.now.key }
+    requires encoded { own.now.key.now ≡ key_bytes entity.now.key }
+    requires kind { own.now.kind_front.now ≡ index_front KindByKey entity.now.key.namespace (kind_of entity.now.key) }
     requires begun { rows.old.begun ≡ [] }
     ensures put { OnOk result (rows.new ≡ record {
       rows = rows.old.rows
@@ -147,12 +176,11 @@ fn put_property(
     ensures lawful { OnOk result (All IsLawfulValue values.now) }
     ensures name { OnOk result (AreBytes name.now) }
 {
-    let own = entity.key();
-    put_property_front(own.namespace(), kind_of(own), name, descending, front)?;
+    put_property_front_by(own.kind_front, name, descending, front)?;
     put_rows(
         front.bytes(),
         &[ColumnValues { values, descending }],
-        key,
+        own.key,
         rows,
     )
 }

@@ -1,8 +1,8 @@
 -- The versions of all blocks, and the spacing of blocks, where a block changes.
 use Rattle.std.proofs.Common.{◌≡◌, ℕ, zero, suc, ◌+◌, ◌*◌, ◌/◌, ◌<◌, ◌≤◌, List, [], ◌∷◌, ◌++◌, length, take, drop, get_or, refl, ap, sym}
-use Rattle.std.proofs.Common.{◌∙◌, arith, append_assoc}
-use Rattle.std.proofs.Math.ListN.{set}
-use Rattle.std.proofs.lemmas.List.{length-append, append-nil}
+use Rattle.std.proofs.Common.{◌∙◌, arith, append_assoc, add-one}
+use Rattle.std.proofs.Math.ListN.{set, length-set}
+use Rattle.std.proofs.lemmas.List.{length-append, append-nil, length-take, length-drop, get_or-set_same, get_or-set_other}
 use Rattle.std.specs.Prelude.{Option, Some, None, option_to_list}
 use Rattle.std.specs.List.{cons_option, insert}
 use Rattle.std.proofs.lemmas.List.Elements.{filter_map-append}
@@ -10,7 +10,8 @@ use Rattle.std.specs.List.{AllByRecursion as Each}
 use Rattle.ds_table.specs.declared.change.Change.{Change}
 use Rattle.ds_table.specs.Changes.{kept, changed}
 use Rattle.ds_table.specs.Versions.{RowVersion}
-use Rattle.ds_table.specs.Blocks.{joined, IsSpaced}
+use Rattle.ds_table.specs.Blocks.{joined, IsSpaced, IsCut, IsFit}
+use Rattle.ds_table.proofs.Lives.{map_fewer}
 
 pub joined_at : (bs : List (List RowVersion)) (i : ℕ) → i < length bs → joined bs ≡ joined (take i bs) ++ (get_or bs i [] ++ joined (drop (suc i) bs))
 joined_at [] i h = absurd (omega (arith, h))
@@ -36,15 +37,30 @@ filled_set [] i c h l = tt
 filled_set (b ∷ bs) zero c h l = (l, h.1)
 filled_set (b ∷ bs) (suc i) c h l = (h.0, filled_set bs i c h.1 l)
 
--- a block of 256 versions split into halves
-pub spaced_split : (bs : List (List RowVersion)) (i : ℕ) (b₁ b₂ : List RowVersion) → IsSpaced bs → i < length bs → length b₁ ≡ 128 → length b₂ ≡ 128
-    → IsSpaced (take i bs ++ b₁ ∷ b₂ ∷ drop (suc i) bs)
-spaced_split [] i b₁ b₂ h l m n = absurd (omega (arith, l))
-spaced_split (b ∷ []) zero b₁ b₂ h l m n = ((omega (arith, m), omega (arith, n), omega (arith, m, n)), tt)
-spaced_split (b ∷ d ∷ bs) zero b₁ b₂ h l m n = ((omega (arith, m), omega (arith, n), omega (arith, m, n)), ((omega (arith, n), h.0.1, omega (arith, n)), h.1))
-spaced_split (b ∷ []) (suc i) b₁ b₂ h l m n = absurd (omega (arith, l))
-spaced_split (b ∷ d ∷ bs) (suc zero) b₁ b₂ h l m n = ((h.0.0, omega (arith, m), omega (arith, m)), spaced_split (d ∷ bs) zero b₁ b₂ h.1 (omega (arith, l)) m n)
-spaced_split (b ∷ d ∷ bs) (suc (suc i)) b₁ b₂ h l m n = (h.0, spaced_split (d ∷ bs) (suc i) b₁ b₂ h.1 (omega (arith, l)) m n)
+-- a block split into two
+pub spaced_split : (bs : List (List RowVersion)) (i : ℕ) (b₁ b₂ : List RowVersion) → IsSpaced bs → i < length bs → 0 < length b₁ → 0 < length b₂
+    → 128 ≤ length b₁ + length b₂ → ((j : ℕ) → i ≡ suc j → 128 ≤ length (get_or bs j []) + length b₁)
+    → (suc i < length bs → 128 ≤ length b₂ + length (get_or bs (suc i) [])) → IsSpaced (take i bs ++ b₁ ∷ b₂ ∷ drop (suc i) bs)
+spaced_split [] i b₁ b₂ h l m n s p q = absurd (omega (arith, l))
+spaced_split (b ∷ []) zero b₁ b₂ h l m n s p q = ((m, n, s), tt)
+spaced_split (b ∷ d ∷ bs) zero b₁ b₂ h l m n s p q = ((m, n, s), ((n, h.0.1, q (omega arith)), h.1))
+spaced_split (b ∷ []) (suc i) b₁ b₂ h l m n s p q = absurd (omega (arith, l))
+spaced_split (b ∷ d ∷ bs) (suc zero) b₁ b₂ h l m n s p q =
+    ((h.0.0, m, p 0 refl), spaced_split (d ∷ bs) zero b₁ b₂ h.1 (omega (arith, l)) m n s (λ j e. absurd (omega (arith, e))) (λ k. q (omega (arith, k))))
+spaced_split (b ∷ d ∷ bs) (suc (suc i)) b₁ b₂ h l m n s p q =
+    (h.0, spaced_split (d ∷ bs) (suc i) b₁ b₂ h.1 (omega (arith, l)) m n s (λ j e. p (suc j) (ap suc e)) (λ k. q (omega (arith, k))))
+
+-- what a cut leaves is spaced
+pub spaced_cut : (bs : List (List RowVersion)) (i cut : ℕ) → IsSpaced bs → i < length bs → IsCut bs i cut → 256 ≤ length (get_or bs i [])
+    → IsSpaced (take i bs ++ take cut (get_or bs i []) ∷ drop cut (get_or bs i []) ∷ drop (suc i) bs)
+spaced_cut bs i cut h l z full =
+    let b = get_or bs i [] in
+    let m : length (take cut b) ≡ cut = length-take cut b ∙ omega (arith, z.not_all, full) in
+    let n : length (drop cut b) + cut ≡ length b = rw length-drop (omega (arith, z.not_all, full)) in
+    spaced_split bs i (take cut b) (drop cut b) h l
+    (omega (arith, m, z.some)) (omega (arith, n, z.not_all, full)) (omega (arith, m, n, full))
+    (λ j e. omega (arith, m, z.before j (omega (arith, e))))
+    (λ k. omega (arith, n, full, rw add-one at (z.after (omega (arith, k)))))
 
 pub joined_split : (bs : List (List RowVersion)) (i : ℕ) (b₁ b₂ : List RowVersion) → i < length bs → b₁ ++ b₂ ≡ get_or bs i [] → joined (take i bs ++ b₁ ∷ b₂ ∷ drop (suc i) bs) ≡ joined bs
 joined_split [] i b₁ b₂ h e = absurd (omega (arith, h))
@@ -112,11 +128,6 @@ joined_drop_at [] i h = absurd (omega (arith, h))
 joined_drop_at (b ∷ bs) zero h = refl
 joined_drop_at (b ∷ bs) (suc i) h = joined_drop_at bs i (omega (arith, h))
 
-pub joined_take_next : (bs : List (List RowVersion)) (i : ℕ) → i < length bs → joined (take (suc i) bs) ≡ joined (take i bs) ++ get_or bs i []
-joined_take_next [] i h = absurd (omega (arith, h))
-joined_take_next (b ∷ bs) zero h = append-nil b
-joined_take_next (b ∷ bs) (suc i) h = ap (λ l. b ++ l) (joined_take_next bs i (omega (arith, h))) ∙ sym (append_assoc b (joined (take i bs)) (get_or bs i []))
-
 -- ---- a change of all versions
 
 pub change_step : (change : Change) (vs : List RowVersion) (i : ℕ) (d : RowVersion) → i < length vs
@@ -146,6 +157,50 @@ change_next change (b ∷ bs) (suc i) h =
     append_assoc b (joined (take (suc i) (set bs i (changed change (get_or bs i []))))) (changed change (joined (drop (suc i) (set bs i (changed change (get_or bs i []))))))
     ∙ ap (λ l. b ++ l) (change_next change bs i (omega (arith, h)))
     ∙ sym (append_assoc b (joined (take i bs)) (changed change (joined (drop i bs))))
+
+-- the first blocks after one more was changed
+pub joined_set_next : (bs : List (List RowVersion)) (i : ℕ) (c : List RowVersion) → i < length bs → joined (take (suc i) (set bs i c)) ≡ joined (take i bs) ++ c
+joined_set_next [] i c h = absurd (omega (arith, h))
+joined_set_next (b ∷ bs) zero c h = append-nil c
+joined_set_next (b ∷ bs) (suc i) c h = ap (λ l. b ++ l) (joined_set_next bs i c (omega (arith, h))) ∙ sym (append_assoc b (joined (take i bs)) c)
+
+-- they have no more versions than there were
+pub changed_fewer : (change : Change) (bs : List (List RowVersion)) (i : ℕ) (vs : List RowVersion) → i < length bs
+    → joined (take i bs) ++ changed change (joined (drop i bs)) ≡ changed change vs → length (joined (take i bs)) + length (changed change (get_or bs i [])) ≤ length vs
+changed_fewer change bs i vs l h =
+    let c = changed change (get_or bs i []) in
+    let s = set bs i c in
+    let e : length (joined (take (suc i) s) ++ changed change (joined (drop (suc i) s))) ≡ length (changed change vs) = ap length (change_next change bs i l ∙ h) in
+    let f : length (joined (take (suc i) s)) ≡ length (joined (take i bs) ++ c) = ap length (joined_set_next bs i c l) in
+    omega (arith, e, f, length-append (joined (take (suc i) s)) (changed change (joined (drop (suc i) s))), length-append (joined (take i bs)) c, map_fewer (kept change) vs)
+
+-- one block has other versions
+pub spaced_set : (bs : List (List RowVersion)) (i : ℕ) (c : List RowVersion) → IsSpaced bs → (0 < length (get_or bs i []) → 0 < length c)
+    → ((j : ℕ) → i ≡ suc j → 128 ≤ length (get_or bs j []) + length (get_or bs i []) → 128 ≤ length (get_or bs j []) + length c)
+    → (suc i < length bs → 128 ≤ length (get_or bs i []) + length (get_or bs (suc i) []) → 128 ≤ length c + length (get_or bs (suc i) []))
+    → IsSpaced (set bs i c)
+spaced_set [] i c h m p q = tt
+spaced_set (b ∷ []) zero c h m p q = tt
+spaced_set (b ∷ []) (suc i) c h m p q = tt
+spaced_set (b ∷ d ∷ bs) zero c h m p q = ((m h.0.0, h.0.1, q (omega arith) h.0.2), h.1)
+spaced_set (b ∷ d ∷ bs) (suc zero) c h m p q =
+    ((h.0.0, m h.0.1, p 0 refl h.0.2), spaced_set (d ∷ bs) zero c h.1 m (λ j e. absurd (omega (arith, e))) (λ k. q (omega (arith, k))))
+spaced_set (b ∷ d ∷ bs) (suc (suc i)) c h m p q =
+    (h.0, spaced_set (d ∷ bs) (suc i) c h.1 m (λ j e. p (suc j) (ap suc e)) (λ k. q (omega (arith, k))))
+
+-- it stays spaced where what was enough is enough
+pub spaced_fit : (bs : List (List RowVersion)) (i : ℕ) (c : List RowVersion) → i < length bs → IsFit (length (get_or bs i [])) (set bs i c) i → IsSpaced bs
+    → IsSpaced (set bs i c)
+spaced_fit bs i c l z h =
+    let new : length (get_or (set bs i c) i []) ≡ length c = ap length (get_or-set_same bs i c [] l) in
+    spaced_set bs i c h
+    (λ k. omega (arith, new, z.some k))
+    (λ j e k.
+    let o : length (get_or (set bs i c) j []) ≡ length (get_or bs j []) = ap length (get_or-set_other bs i j c [] (λ q. omega (arith, e, q))) in
+    omega (arith, new, o, z.before j (omega (arith, e)) (omega (arith, k, o))))
+    (λ n k.
+    let m : length (get_or (set bs i c) (i + 1) []) ≡ length (get_or bs (suc i) []) = rw add-one (ap length (get_or-set_other bs i (suc i) c [] (λ q. omega (arith, q)))) in
+    omega (arith, new, m, z.behind (omega (arith, n, length-set bs i c)) (omega (arith, k, m))))
 
 -- the only block has versions
 pub one_filled : (bs : List (List RowVersion)) (b : List RowVersion) → length bs ≡ 1 → b ≡ get_or bs 0 b → 0 < length b → Each (λ c. 0 < length c) bs

@@ -1,5 +1,5 @@
 -- Where a place is after a full block was split, and what an insertion makes of all versions.
-use Rattle.std.proofs.Common.{◌≡◌, ℕ, zero, suc, ◌<◌, ◌≤◌, true, false, Bool, List, [], ◌∷◌, ◌++◌, length, take, drop, get_or, refl, ap}
+use Rattle.std.proofs.Common.{◌≡◌, ℕ, zero, suc, ◌+◌, ◌<◌, ◌≤◌, true, false, Bool, List, [], ◌∷◌, ◌++◌, length, take, drop, get_or, refl, ap}
 use Rattle.std.proofs.Common.{sym, ◌∙◌, arith, subst, append_assoc, add-one}
 use Rattle.std.proofs.Math.ListN.{set}
 use Rattle.std.specs.List.{insert}
@@ -48,43 +48,45 @@ long_split [] i b c h = absurd (omega (arith, h))
 long_split (a ∷ bs) zero b c h = refl
 long_split (a ∷ bs) (suc i) b c h = ap suc (long_split bs i b c (omega (arith, h)))
 
--- a row's place is in the first half, or in the second
-module _ (test : RowVersion → Bool) (bs : List (List RowVersion)) (i p : ℕ) (l : i < length bs) (q : IsPlaced test bs i) (r : IsPlace test (get_or bs i []) p) (full : 128 < length (get_or bs i [])) where
-  abbrev half : List RowVersion
-  half = take 128 (get_or bs i [])
+-- a row's place is in the first part, or in the second
+module _ (test : RowVersion → Bool) (bs : List (List RowVersion)) (i p cut : ℕ) (l : i < length bs) (q : IsPlaced test bs i) (r : IsPlace test (get_or bs i []) p) (some : 0 < cut) (full : cut < length (get_or bs i [])) where
+  abbrev first : List RowVersion
+  first = take cut (get_or bs i [])
 
   abbrev rest : List RowVersion
-  rest = drop 128 (get_or bs i [])
+  rest = drop cut (get_or bs i [])
 
   abbrev split : List (List RowVersion)
-  split = take i bs ++ half ∷ rest ∷ drop (suc i) bs
+  split = take i bs ++ first ∷ rest ∷ drop (suc i) bs
 
-  pub placed_first : p ≤ 128 → IsPlaced test split i
+  pub placed_first : p ≤ cut → IsPlaced test split i
   placed_first h = record {
-    within = λ _. omega (arith, long_split bs i half rest l, l);
-    before = rw (take_split bs i half rest l) q.before;
-    after = rw (add-one, drop_split bs i half rest l) (each_append (λ v. test v ≡ false) rest (joined (drop (suc i) bs)) (drop_further (λ v. test v ≡ false) p 128 (get_or bs i []) h r.after) (rw add-one at q.after));
-    begun = λ n d. rw (at_split bs i half rest l, get_or-take 128 (get_or bs i []) 0 d (omega arith)) (q.begun n d);
+    within = λ _. omega (arith, long_split bs i first rest l, l);
+    before = rw (take_split bs i first rest l) q.before;
+    after = rw (add-one, drop_split bs i first rest l) (each_append (λ v. test v ≡ false) rest (joined (drop (suc i) bs)) (drop_further (λ v. test v ≡ false) p cut (get_or bs i []) h r.after) (rw add-one at q.after));
+    begun = λ n d. rw (at_split bs i first rest l, get_or-take cut (get_or bs i []) 0 d some) (q.begun n d);
   }
 
-  pub placed_second : 128 < p → IsPlaced test split (suc i)
+  pub placed_second : cut < p → IsPlaced test split (suc i)
   placed_second h =
-      let t : Each (λ v. test v ≡ true) half = take_fewer (λ v. test v ≡ true) 128 p (get_or bs i []) (omega (arith, h)) r.before in
+      let t : Each (λ v. test v ≡ true) first = take_fewer (λ v. test v ≡ true) cut p (get_or bs i []) (omega (arith, h)) r.before in
       record {
-        within = λ _. omega (arith, long_split bs i half rest l, l);
-        before = rw (joined_take_split bs i half rest l) (each_append (λ v. test v ≡ true) (joined (take i bs)) half q.before t);
-        after = rw (add-one, drop_split_next bs i half rest l) (rw add-one at q.after);
+        within = λ _. omega (arith, long_split bs i first rest l, l);
+        before = rw (joined_take_split bs i first rest l) (each_append (λ v. test v ≡ true) (joined (take i bs)) first q.before t);
+        after = rw (add-one, drop_split_next bs i first rest l) (rw add-one at q.after);
         begun = λ n d.
-            let k : 128 < length (take p (get_or bs i [])) = simp length-take (omega (arith, h, full)) in
-            let e = each_at (λ v. test v ≡ true) (take p (get_or bs i [])) 128 d k r.before in
-            rw (at_split_next bs i half rest l, get_or-drop 128 (get_or bs i []) 0 d) (rw (get_or-take p (get_or bs i []) 128 d h) at e);
+            let k : cut < length (take p (get_or bs i [])) = simp length-take (omega (arith, h, full)) in
+            let e = each_at (λ v. test v ≡ true) (take p (get_or bs i [])) cut d k r.before in
+            let none_more : cut ≡ cut + 0 = omega arith in
+            rw (at_split_next bs i first rest l, get_or-drop cut (get_or bs i []) 0 d)
+            (subst (λ m. test (get_or (get_or bs i []) m d) ≡ true) none_more (rw (get_or-take p (get_or bs i []) cut d h) at e));
       }
 
-  pub room_first : length (get_or split i []) < 256
-  room_first = rw (at_split bs i half rest l, length-take) (omega arith)
+  pub room_first : cut < 256 → length (get_or split i []) < 256
+  room_first h = rw (at_split bs i first rest l, length-take) (omega (arith, h))
 
   pub room_second : length (get_or bs i []) ≤ 256 → length (get_or split (suc i) []) < 256
-  room_second h = rw (at_split_next bs i half rest l, length-drop) (omega (arith, h))
+  room_second h = rw (at_split_next bs i first rest l, length-drop) (omega (arith, h, some, full))
 
 -- ---- what is before a place in a block, and what is behind it
 module _ (row : List ℕ) (bs : List (List RowVersion)) (i p : ℕ) (l : i < length bs) (q : IsPlaced (comes_before row true) bs i) (r : IsPlace (comes_before row true) (get_or bs i []) p) where

@@ -1,5 +1,5 @@
 -- How a table keeps its versions: in blocks, each with its rows and two columns of stamps.
-use Rattle.std.specs.Prelude.{◌≡◌, ℕ, ◌+◌, ◌<◌, ◌≤◌, false, List, [], ◌∷◌, ◌++◌, length}
+use Rattle.std.specs.Prelude.{◌≡◌, ℕ, ◌+◌, ◌<◌, ◌≤◌, false, List, [], ◌∷◌, ◌++◌, length, slice_index_or}
 use Rattle.std.specs.List.{AllByRecursion as Each}
 use Rattle.ds_table.specs.Versions.{RowVersion, IsOfBytes, is_below, never}
 
@@ -61,6 +61,21 @@ abbrev pub IsSpaced : List (List RowVersion) → Type 0
 IsSpaced [] = Unit {0}
 IsSpaced (a ∷ []) = Unit {0}
 IsSpaced (a ∷ b ∷ bs) = ((0 < length a) × (0 < length b) × (128 ≤ length a + length b)) × IsSpaced (b ∷ bs)
+
+-- Where a block of 256 versions may be split: each part has some, and together with the block beside it 128.
+pub record IsCut (blocks : List (List RowVersion)) (i cut : ℕ) : Type 0 where
+  pub some : 0 < cut
+  pub not_all : cut < 256
+  pub before : (j : ℕ) → i ≡ j + 1 → 128 ≤ length (slice_index_or blocks j []) + cut
+  pub after : i + 1 < length blocks → 128 + cut ≤ 256 + length (slice_index_or blocks (i + 1) [])
+
+-- What was enough for a block that had so many versions, to stand beside those around it, still is.
+pub record IsFit (was : ℕ) (blocks : List (List RowVersion)) (i : ℕ) : Type 0 where
+  pub some : 0 < was → 0 < length (slice_index_or blocks i [])
+  pub before : (j : ℕ) → i ≡ j + 1 → 128 ≤ length (slice_index_or blocks j []) + was
+      → 128 ≤ length (slice_index_or blocks j []) + length (slice_index_or blocks i [])
+  pub behind : i + 1 < length blocks → 128 ≤ was + length (slice_index_or blocks (i + 1) [])
+      → 128 ≤ length (slice_index_or blocks i []) + length (slice_index_or blocks (i + 1) [])
 
 -- no version ends before the stamp `due`
 abbrev pub EndFrom : ℕ → List RowVersion → Type 0

@@ -1,6 +1,6 @@
 -- Rows with lifetimes: what a table holds, what is seen of it at a stamp, and what each call makes of it.
-use Rattle.std.specs.Prelude.{ℕ, ◌<◌, suc, Bool, true, ◌&&◌, ◌==◌, not, nat_le, nat_lt, if◌then◌else◌, List, [], ◌∷◌, Option, Some, None}
-use Rattle.std.specs.Prelude.{All, map, filter, bytes_eq}
+use Rattle.std.specs.Prelude.{ℕ, suc, Bool, true, ◌&&◌, ◌==◌, not, nat_le, nat_lt, if◌then◌else◌, List, [], ◌∷◌, Option, Some, None}
+use Rattle.std.specs.Prelude.{map, filter, bytes_eq}
 use Rattle.std.specs.List.{filter_map, list_any}
 use Rattle.std.specs.Ordering.{is_lt}
 use Rattle.ds_base.specs.Bytes.{AreBytes}

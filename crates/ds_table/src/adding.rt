@@ -2,15 +2,16 @@
 ghost use Rattle.std.specs.Prelude.{◌≡◌, ℕ, ◌+◌, ◌<◌, ◌≤◌, true, List, [], ◌∷◌, ◌++◌, length, take, drop, IfOk, OnOk, OnErr};
 ghost use Rattle.std.specs.Prelude.{slice_index_or, slice_set};
 ghost use Rattle.ds_table.specs.Versions.{RowVersion};
-ghost use Rattle.ds_table.specs.Blocks.{joined, IsOrdered, IsSpaced};
+ghost use Rattle.ds_table.specs.Blocks.{joined, IsOrdered, IsSpaced, IsCut};
 ghost use Rattle.ds_table.specs.Places.{comes_before, IsPlaced};
 ghost use Rattle.std.specs.List.{AllByRecursion as Each};
 
 use crate::block::{Block, MOST_VERSIONS};
+use crate::joining::LEAST_OF_TWO;
 use crate::places::block_of;
 use std::alloc::{AllocError, Global};
 
-/// Where a full block is split.
+/// Where a full block is split if rows come to it in no order.
 const HALF: usize = MOST_VERSIONS / 2;
 
 /// The block with room in which a row's place is, behind the versions of the row itself. A full block is split before, and the
@@ -35,8 +36,55 @@ pub fn block_to_add(alloc: Global, blocks: &mut Vec<Block>, row: &[u8]) -> Resul
         return Ok(i);
     }
     let place = blocks[i].place(row, true);
-    split_block(alloc, blocks, i)?;
-    Ok(if place <= HALF { i } else { i + 1 })
+    let cut = cut_of(blocks.as_slice(), i, place);
+    split_block(alloc, blocks, i, cut)?;
+    Ok(if place <= cut { i } else { i + 1 })
+}
+
+/// Where a full block is split to which a row is added at this place: in the middle, unless rows come there in order. Then it is
+/// split there, or as near as may be, so that those which follow come behind the last row of a block, and no row moves for them.
+fn cut_of(blocks: &[Block], i: usize, place: usize) -> usize
+    requires { i < length blocks.now }
+    ensures { IsCut blocks.now i result }
+{
+    if blocks[i].goes_on_at(place) {
+        return place.max(least_cut(blocks, i)).min(most_cut(blocks, i));
+    }
+    HALF
+}
+
+/// How many versions the first part has at least, to have enough together with the block before it.
+fn least_cut(blocks: &[Block], i: usize) -> usize
+    requires { i < length blocks.now }
+    ensures some { 0 < result }
+    ensures within { result ≤ 128 }
+    ensures enough { (j : ℕ) → i ≡ j + 1 → 128 ≤ length (slice_index_or blocks.now j []) + result }
+{
+    if i == 0 {
+        return 1;
+    }
+    let len = blocks[i - 1].len();
+    if len < LEAST_OF_TWO {
+        return LEAST_OF_TWO - len;
+    }
+    1
+}
+
+/// How many versions the first part has at most, so that the second part has enough together with the block behind it.
+fn most_cut(blocks: &[Block], i: usize) -> usize
+    requires { i < length blocks.now }
+    ensures within { 128 ≤ result }
+    ensures not_all { result < 256 }
+    ensures enough { i + 1 < length blocks.now → 128 + result ≤ 256 + length (slice_index_or blocks.now (i + 1) []) }
+{
+    if i + 1 >= blocks.len() {
+        return MOST_VERSIONS - 1;
+    }
+    let len = blocks[i + 1].len();
+    if len < LEAST_OF_TWO {
+        return (HALF + len).min(MOST_VERSIONS - 1);
+    }
+    MOST_VERSIONS - 1
 }
 
 /// Makes the first block.
@@ -51,17 +99,23 @@ fn first_block(alloc: Global, blocks: &mut Vec<Block>, row: &[u8]) -> Result<usi
     Ok(0)
 }
 
-/// Splits a full block into two halves. A refusal changes nothing.
-fn split_block(alloc: Global, blocks: &mut Vec<Block>, i: usize) -> Result<(), AllocError>
+/// Splits a full block into two parts. A refusal changes nothing.
+fn split_block(
+    alloc: Global,
+    blocks: &mut Vec<Block>,
+    i: usize,
+    cut: usize,
+) -> Result<(), AllocError>
     requires within { i < length blocks.old.items }
     requires full { 256 ≤ length (slice_index_or blocks.old.items i []) }
+    requires cut { cut < 256 }
     ensures unchanged { OnErr result (blocks.new.items ≡ blocks.old.items) }
-    ensures halves { OnOk result (blocks.new.items ≡ take i blocks.old.items
-        ++ take 128 (slice_index_or blocks.old.items i []) ∷ drop 128 (slice_index_or blocks.old.items i []) ∷ drop (i + 1)
+    ensures parts { OnOk result (blocks.new.items ≡ take i blocks.old.items
+        ++ take cut (slice_index_or blocks.old.items i []) ∷ drop cut (slice_index_or blocks.old.items i []) ∷ drop (i + 1)
         blocks.old.items) }
 {
     blocks.reserve(1)?;
-    let rest = blocks[i].split(alloc, HALF)?;
+    let rest = blocks[i].split(alloc, cut)?;
     let _ = blocks.insert(i + 1, rest);
     Ok(())
 }

@@ -27,6 +27,8 @@ pub struct Block {
     froms: Vec<u64>,
     tos: Vec<u64>,
     due: u64,
+    // The place behind the version that was put in last, 0 where that isn't known.
+    near: usize,
 }
 
 impl Model for Block {
@@ -64,6 +66,7 @@ impl Block {
             froms,
             tos,
             due: u64::MAX,
+            near: 0,
         })
     }
 
@@ -138,6 +141,13 @@ impl Block {
         self.rows.insert(i, row);
         let _ = self.froms.insert(i, stamp);
         let _ = self.tos.insert(i, u64::MAX);
+        self.near = i + 1;
+    }
+
+    /// Whether a version at this place comes beside the one that was put in last, as where rows come in order. It decides only
+    /// where a block is split, so no clause tells it.
+    pub fn goes_on_at(&self, place: usize) -> bool {
+        place == self.near || place < self.near && self.near - place == 1
     }
 
     /// Ends the version at this place at the stamp.
@@ -231,6 +241,7 @@ impl Block {
             froms,
             tos,
             due: self.due,
+            near: 0,
         })
     }
 
@@ -244,6 +255,7 @@ impl Block {
             mut froms,
             mut tos,
             due,
+            near: _,
         } = other;
         self.rows.append(rows);
         let _ = self.froms.append(&mut froms);

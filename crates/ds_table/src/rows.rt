@@ -1,6 +1,6 @@
 //! The rows of a block, with their first bytes as numbers beside them, so that halving touches few rows.
 ghost use Rattle.std.specs.Prelude.{◌≡◌, ℕ, ◌+◌, ◌<◌, ◌≤◌, Bool, List, [], ◌++◌, length, take, drop, slice_index_or, option_copied, IfOk};
-ghost use Rattle.std.specs.Prelude.{OnErr};
+ghost use Rattle.std.specs.Prelude.{OnErr, IsTrue, true};
 ghost use Rattle.std.specs.List.{insert};
 ghost use Rattle.ds_table.specs.Versions.{is_before};
 ghost use Rattle.ds_table.specs.Places.{row_before, IsPlace, IsRising};
@@ -332,6 +332,9 @@ fn place_among(
     ensures { IsPlace (row_before row.now same_too) rows.now result }
 {
     let head = head_of(row, shared);
+    if last_is_before(rows, heads, shared, row, head, same_too) {
+        return rows.len();
+    }
     let mut low = 0;
     let mut high = rows.len();
     while low < high {
@@ -343,6 +346,28 @@ fn place_among(
         }
     }
     low
+}
+
+/// Whether all of the rows come before this one, or aren't above it where `same_too`: so it is where rows come in order.
+fn last_is_before(
+    rows: &[ByteString],
+    heads: &[u64],
+    shared: usize,
+    row: &[u8],
+    head: u64,
+    same_too: bool,
+) -> bool
+    requires headed { heads.now ≡ heads_of shared rows.now }
+    requires alike { Each (Shares shared row.now) rows.now }
+    requires head { head ≡ head_of shared row.now }
+    requires rising { IsRising rows.now }
+    ensures { IsTrue result → Each (λ r. row_before row.now same_too r ≡ true) rows.now }
+{
+    if rows.len() == 0 {
+        return false;
+    }
+    let last = rows.len() - 1;
+    is_before_at(rows[last].bytes(), heads[last], row, head, same_too)
 }
 
 /// Whether a row comes before this one, or is the same where `same_too`; both come with their heads.

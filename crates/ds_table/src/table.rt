@@ -8,7 +8,7 @@ ghost use Rattle.std.specs.List.{AllByRecursion as Each};
 use crate::adding::block_to_add;
 use crate::block::Block;
 use crate::change::Change;
-use crate::joining::{change_all, count, least_due};
+use crate::joining::change_all;
 use crate::places::block_of;
 use crate::view::TableView;
 use ds_base::ByteString;
@@ -177,8 +177,7 @@ impl Table {
         ensures same_least { self.new.least ≡ self.old.least }
         ensures same_least_undone { self.new.least_undone ≡ self.old.least_undone }
     {
-        change_all(&mut self.blocks, Change::Undo(stamp));
-        self.count = count(self.blocks.as_slice());
+        self.count = change_all(&mut self.blocks, Change::Undo(stamp)).count;
         self.last = stamp;
     }
 
@@ -211,8 +210,8 @@ impl Table {
         if floor < self.due {
             return;
         }
-        change_all(&mut self.blocks, Change::Trim(floor));
-        self.count = count(self.blocks.as_slice());
-        self.due = least_due(self.blocks.as_slice());
+        let left = change_all(&mut self.blocks, Change::Trim(floor));
+        self.count = left.count;
+        self.due = left.due;
     }
 }

@@ -1,5 +1,5 @@
 -- The rows of the ancestors so far; what stood in front stays.
-use Rattle.std.proofs.Common.{◌≡◌, ◌++◌, [], length, take}
+use Rattle.std.proofs.Common.{◌≡◌, ◌++◌, [], take}
 use Rattle.std.specs.Prelude.{flat_map}
 use Rattle.ds_rows.specs.Rows.{ancestors}
 use Rattle.ds_rows.specs.Ways.{ancestor_rows}

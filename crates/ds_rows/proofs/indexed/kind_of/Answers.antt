@@ -1,4 +1,4 @@
-use Rattle.std.proofs.Common.{◌≡◌, ap, sym, ◌∙◌}
+use Rattle.std.proofs.Common.{ap, ◌∙◌}
 use Rattle.ds_base.specs.declared.key.Elem.{Elem}
 use Rattle.ds_rows.proofs.LastKinds.{last_kind_at}
 use Rattle.ds_rows.specs.IndexedValues.{last_kind}

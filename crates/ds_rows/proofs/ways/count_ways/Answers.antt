@@ -1,4 +1,3 @@
-use Rattle.std.proofs.Common.{◌≡◌}
 use Rattle.ds_rows.proofs.WayLaws.{counted_step}
 use Rattle.ds_rows.proofs.ways.count_ways.Goals as goal
 

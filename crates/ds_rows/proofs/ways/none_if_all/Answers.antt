@@ -1,4 +1,4 @@
-use Rattle.std.proofs.Common.{◌≡◌, length, sym, ◌∙◌}
+use Rattle.std.proofs.Common.{length, sym, ◌∙◌}
 use Rattle.std.proofs.lemmas.Bool.{eqb-true}
 use Rattle.ds_rows.proofs.WayLaws.{no_way}
 use Rattle.ds_rows.proofs.ways.none_if_all.Goals as goal

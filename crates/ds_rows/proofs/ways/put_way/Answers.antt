@@ -1,8 +1,7 @@
 use Rattle.std.proofs.Common.{◌≡◌, ◌+◌, ◌/◌, ◌%◌, ◌<◌, length, get_or, drop, refl, ap, sym, subst, ◌∙◌}
 use Rattle.std.proofs.lemmas.List.{get_or_default}
 use Rattle.ds_rows.specs.Spans.{Written}
-use Rattle.ds_rows.specs.Ways.{lists_of}
-use Rattle.ds_rows.proofs.WayLaws.{IsStep, left_step, value_put, lawful_more, behind}
+use Rattle.ds_rows.proofs.WayLaws.{left_step, value_put, lawful_more, behind}
 use Rattle.ds_rows.proofs.ways.put_way.Goals as goal
 
 pub nonzero_div-stride : goal.nonzero_div-stride

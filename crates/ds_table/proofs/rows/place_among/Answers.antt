@@ -3,7 +3,7 @@ use Rattle.std.proofs.lemmas.List.{get_or_read}
 use Rattle.ds_table.specs.Heads.{Shares, head_of}
 use Rattle.ds_table.specs.Places.{row_before}
 use Rattle.ds_table.proofs.Lists.{each_at}
-use Rattle.ds_table.proofs.Heads.{heads_at, heads_long}
+use Rattle.ds_table.proofs.Heads.{heads_at, heads_long, place_last}
 use Rattle.ds_table.proofs.Placing.{rising_before, rising_after}
 use Rattle.ds_table.proofs.rows.place_among.Goals as goal
 
@@ -11,6 +11,9 @@ pub bounds-heads-middle : goal.bounds-heads-middle
 bounds-heads-middle c =
     let n = heads_long c.args.shared c.args.rows.now in
     omega (arith, n, ap length c.requires.headed, c.loop-low.invariant.within, c.loop-low-test.true)
+
+pub returns-then-last_is_before : goal.returns-then-last_is_before
+returns-then-last_is_before c = place_last (row_before c.args.row.now c.args.same_too) c.args.rows.now (c.last_is_before.ensures c.if-last_is_before.true)
 
 pub loop-low-preserved-then-is_before_at : goal.loop-low-preserved-then-is_before_at
 loop-low-preserved-then-is_before_at c =

@@ -1,35 +1,29 @@
-use Rattle.std.proofs.Common.{length, ap, sym, ◌∙◌, arith, subst}
+use Rattle.std.proofs.Common.{sym, ◌∙◌}
 use Rattle.ds_table.specs.declared.change.Change.TheVariants.{Trim}
-use Rattle.ds_table.specs.Blocks.{EndFrom, joined}
-use Rattle.ds_table.specs.Changes.{kept}
-use Rattle.ds_table.proofs.Lives.{map_fewer, trim_ordered, trim_all_given, trimmed_is}
+use Rattle.ds_table.specs.Blocks.{joined}
+use Rattle.ds_table.proofs.Lives.{trim_ordered, trim_all_given, trimmed_is}
 use Rattle.ds_table.proofs.Due.{none_due}
 use Rattle.ds_table.proofs.Bytes.{changed_of_bytes}
 use Rattle.ds_table.proofs.table.Table.take_out.Goals as goal
-
-pub count-self-inside-requires : goal.count-self-inside-requires
-count-self-inside-requires c =
-    let vs = joined c.self.inside.blocks.items in
-    rw (c.as_slice.ensures.value, c.change_all.ensures.changed) (omega (arith, map_fewer (kept (Trim c.args.floor)) vs, c.self.invariant.counted))
 
 pub invariant_of-self : goal.invariant_of-self
 invariant_of-self c =
     let vs = joined c.self.inside.blocks.items in
     let inv = c.self.invariant in
     record {
-      ordered = rw c.change_all.ensures.changed (trim_ordered c.args.floor c.self.inside.last vs inv.given inv.ordered);
-      of_bytes = rw c.change_all.ensures.changed (changed_of_bytes (Trim c.args.floor) vs inv.of_bytes);
-      given = rw c.change_all.ensures.changed (trim_all_given c.args.floor c.self.inside.last vs inv.given);
+      ordered = rw c.change_all-left.ensures.changed (trim_ordered c.args.floor c.self.inside.last vs inv.given inv.ordered);
+      of_bytes = rw c.change_all-left.ensures.changed (changed_of_bytes (Trim c.args.floor) vs inv.of_bytes);
+      given = rw c.change_all-left.ensures.changed (trim_all_given c.args.floor c.self.inside.last vs inv.given);
       below_never = inv.below_never;
-      spaced = c.change_all.ensures.spaced;
-      filled = c.change_all.ensures.filled;
-      counted = c.count-self-inside.ensures ∙ ap (λ l. length (joined l)) c.as_slice.ensures.value;
-      not_due = subst (λ l. EndFrom c.least_due-self-inside.result (joined l)) c.as_slice-2.ensures.value c.least_due-self-inside.ensures.due;
-      due_within = c.least_due-self-inside.ensures.within;
+      spaced = c.change_all-left.ensures.spaced;
+      filled = c.change_all-left.ensures.filled;
+      counted = c.change_all-left.ensures.count;
+      not_due = c.change_all-left.ensures.due;
+      due_within = c.change_all-left.ensures.within;
     }
 
 pub returns-clause-trimmed : goal.returns-clause-trimmed
-returns-clause-trimmed c = rw (← c.self.view_is) (c.change_all.ensures.changed ∙ trimmed_is c.args.floor (joined c.self.inside.blocks.items))
+returns-clause-trimmed c = rw (← c.self.view_is) (c.change_all-left.ensures.changed ∙ trimmed_is c.args.floor (joined c.self.inside.blocks.items))
 
 pub returns-then-floor-self-clause-trimmed : goal.returns-then-floor-self-clause-trimmed
 returns-then-floor-self-clause-trimmed c =

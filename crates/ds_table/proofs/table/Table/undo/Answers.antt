@@ -1,16 +1,10 @@
-use Rattle.std.proofs.Common.{◌≤◌, length, ap, sym, ◌∙◌, arith, subst}
+use Rattle.std.proofs.Common.{◌≤◌, sym, subst}
 use Rattle.ds_table.specs.declared.change.Change.TheVariants.{Undo}
 use Rattle.ds_table.specs.Blocks.{Tabled, joined}
-use Rattle.ds_table.specs.Changes.{kept}
-use Rattle.ds_table.proofs.Lives.{map_fewer, undo_ordered, undo_all_given}
+use Rattle.ds_table.proofs.Lives.{undo_ordered, undo_all_given}
 use Rattle.ds_table.proofs.Bytes.{changed_of_bytes}
 use Rattle.ds_table.proofs.Due.{undone_later}
 use Rattle.ds_table.proofs.table.Table.undo.Goals as goal
-
-pub count-self-inside-requires : goal.count-self-inside-requires
-count-self-inside-requires c =
-    let vs = joined c.self.inside.blocks.items in
-    rw (c.as_slice.ensures.value, c.change_all.ensures.changed) (omega (arith, map_fewer (kept (Undo c.args.stamp)) vs, c.self.invariant.counted))
 
 pub invariant_of-self : goal.invariant_of-self
 invariant_of-self c =
@@ -24,7 +18,7 @@ invariant_of-self c =
       below_never = c.requires.a_stamp;
       spaced = c.change_all.ensures.spaced;
       filled = c.change_all.ensures.filled;
-      counted = c.count-self-inside.ensures ∙ ap (λ l. length (joined l)) c.as_slice.ensures.value;
+      counted = c.change_all.ensures.count;
       not_due = rw c.change_all.ensures.changed (undone_later c.self.inside.due c.args.stamp vs inv.due_within inv.not_due);
       due_within = inv.due_within;
     }
