@@ -7,4 +7,5 @@
 mod number;
 mod reading;
 
+pub use number::read_number;
 pub use reading::read_text;

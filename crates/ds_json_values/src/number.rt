@@ -8,7 +8,7 @@ use serde_json::Number;
 
 /// The number that a text writes; none where it is too large for a float. An integer that doesn't fit 64 bits is a float, and so
 /// is `-0`.
-pub(crate) fn read_number(text: &str) -> Option<Number>
+pub fn read_number(text: &str) -> Option<Number>
     ensures { option_map number_view result ≡ number_of text.now }
 {
     let bytes = text.as_bytes();

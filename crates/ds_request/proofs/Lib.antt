@@ -4,3 +4,5 @@ pub mod EntitiesLemmas
 pub mod SeveralLemmas
 pub mod FoundLemmas
 pub mod LawfulLemmas
+pub mod CommonLaws
+pub mod PropertiesLaws

@@ -4,3 +4,4 @@ pub mod Forms
 pub mod Entities
 pub mod Lawful
 pub mod Members
+pub mod Common

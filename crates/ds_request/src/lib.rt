@@ -7,10 +7,12 @@
 //!
 //! Begin with `call` (what is read) and `line` (`read_request`; `read_request_with` for many lines). `operations` has a file for each
 //! operation that has members, which says what it reads; `members` reads members in order; `forms` has a rule for each form. That of
-//! entities is handed on, for texts other than requests that have such parts.
+//! entities is handed on, for texts other than requests that have such parts. `common` makes the requests of nearly all lines from their
+//! tokens alone (`ds_line_reading`), which are the requests that the definitions give; all other lines are read as a JSON value.
 #![tactic(auto)]
 
 pub mod call;
+mod common;
 mod copying;
 mod forms;
 pub mod line;

@@ -8,6 +8,7 @@ ghost use Rattle.ds_request.specs.Lawful.{IsLawfulCall};
 ghost use Rattle.ds_request.specs.Requests.{operation_of, call_of, object_request_of, data_request_of, line_data, request_of, client_told};
 
 use crate::call::{Call, Request, RequestRefused};
+use crate::common::read_common;
 use crate::members::told::told_at;
 use crate::operation::{Operation, operation_of};
 use crate::operations::allocate_ids::read_allocate_ids;
@@ -53,6 +54,9 @@ pub fn read_request_with(
     ensures lawful { IfOk result (λ r. IsLawfulCall r.call) }
     ensures client { MatchResult result (λ r. r.client ≤ MAX_CLIENT) (λ e. client_told e ≤ MAX_CLIENT) }
 {
+    if let Some(request) = read_common(alloc, line, scratch) {
+        return Ok(request);
+    }
     match parse(alloc, line, scratch) {
         Ok(parsed) => read_data(alloc, parsed),
         Err(_) => Err(RequestRefused::NoMemory),

@@ -1,5 +1,6 @@
 //! The operations by their names.
 ghost use Rattle.std.specs.Prelude.{◌≡◌};
+ghost use Rattle.serde_json.specs.Data.{string};
 ghost use Rattle.serde_json.specs.View.{view};
 ghost use Rattle.ds_request.specs.Requests.{operation_of};
 
@@ -26,9 +27,16 @@ pub(crate) enum Operation {
 pub(crate) fn operation_of(value: &Value) -> Result<Operation, Refusal>
     ensures { result ≡ operation_of (view value.now) }
 {
-    let Some(name) = value.as_str() else {
-        return Err(Refusal::Request);
-    };
+    match value.as_str() {
+        Some(name) => named(name),
+        None => Err(Refusal::Request),
+    }
+}
+
+/// The operation of this name.
+pub(crate) fn named(name: &str) -> Result<Operation, Refusal>
+    ensures { result ≡ operation_of (string name.now) }
+{
     Ok(match name {
         "put" => Operation::Put,
         "delete" => Operation::Delete,

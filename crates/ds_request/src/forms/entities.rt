@@ -154,7 +154,7 @@ impl EntryForm for PropertyForm {
 }
 
 /// The property of these values; none where there is no value.
-fn property_with(name: TextString, indexed: bool, values: Values) -> Option<Property>
+pub(crate) fn property_with(name: TextString, indexed: bool, values: Values) -> Option<Property>
     ensures { result ≡ property_with name (indexed, values) }
 {
     if values.len() == 0 {

@@ -1,15 +1,11 @@
-use Rattle.std.proofs.Common.{◌≡◌, ℕ, List, Bool, true, false, cond, Option, None, IfOk, option_map, refl, sym, ap, subst, ◌∙◌}
+use Rattle.std.proofs.Common.{◌≡◌, ℕ, List, Bool, true, false, cond, Option, None, IfOk, option_map, refl, subst}
 use Rattle.std.specs.Str.{is_utf8, IsUtf8}
-use Rattle.std.proofs.lemmas.Str.{is_utf8-from_IsUtf8, IsUtf8-from_is_utf8}
+use Rattle.std.proofs.lemmas.Str.{IsUtf8-from_is_utf8}
 use Rattle.serde_json.specs.Data.{Data}
 use Rattle.serde_json.specs.Read.{read}
 use Rattle.serde_json.specs.View.{view}
-use Rattle.ds_request.specs.Requests.{line_data}
+use Rattle.ds_request.proofs.CommonLaws.{text_data}
 use Rattle.ds_request.proofs.line.parse.Goals as goal
-
--- the data of bytes that are a text
-text_data : (line text : List ℕ) → text ≡ line → IsUtf8 line → read text ≡ line_data line
-text_data line text same is = ap read same ∙ sym (ap (λ b. cond b (read line) None) (is_utf8-from_IsUtf8 line is))
 
 no_text : (line : List ℕ) (b : Bool) → is_utf8 line ≡ b → ¬ IsUtf8 line → cond b (read line) None ≡ None
 no_text line true is none = absurd (none (IsUtf8-from_is_utf8 line is))
