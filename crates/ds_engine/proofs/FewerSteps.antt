@@ -13,7 +13,7 @@ use Rattle.ds_query.specs.declared.branch.Branch.{Branch}
 use Rattle.ds_query.specs.declared.row.Place.{Place}
 use Rattle.ds_planner.specs.Parts.{branch_of_part, parts}
 use Rattle.ds_rows.specs.Versions.{entities_at}
-use Rattle.ds_engine.specs.BoundSums.{Asked, BoundsAddUp, bound_at, bound_of_all}
+use Rattle.ds_branch.specs.BoundSums.{Asked, BoundsAddUp, bound_at, bound_of_all}
 use Rattle.ds_pages.specs.Pages.{is_between, is_up_to}
 use Rattle.ds_model.specs.Bounds.{given, least, part_rows, stop_at}
 use Rattle.ds_model.specs.Rows.{place_of, rows}

@@ -1,26 +1,4 @@
-pub mod AncestorPaths
 pub mod Apart
-pub mod Behinds
-pub mod BoundLaws
-mod BoundSums
-pub mod Bounded
-pub mod Collected
-pub mod Columns
-pub mod CommonRows
-pub mod Counted
-pub mod EntityRows
-pub mod KeptLaws
-pub mod KeySets
-pub mod Skipping
-pub mod LowBytes
-pub mod Ranged
-pub mod Readings
-pub mod PartRows
-pub mod ScanColumns
-pub mod ScanIndexes
-pub mod ScanRows
-pub mod Walking
-pub mod Ways
 pub mod FewerSteps
 pub mod GlobalPages
 pub mod GroupPages
@@ -36,7 +14,6 @@ pub mod RowLoops
 pub mod ShardPages
 pub mod ShardResults
 pub mod SlotLaws
-pub mod ToldRows
 pub mod UnitedFirsts
 pub mod UnitedResults
 pub mod OneShard

@@ -22,7 +22,7 @@ use Rattle.ds_pages.specs.Places.{placed}
 use Rattle.ds_pages.proofs.PageLaws.{drop-seen}
 use Rattle.ds_model.specs.Bounds.{given}
 use Rattle.ds_model.specs.Results.{branch_results, united}
-use Rattle.ds_engine.specs.BoundSums.{bound_at, bound_of_all, bound_over}
+use Rattle.ds_branch.specs.BoundSums.{bound_at, bound_of_all, bound_over}
 use Rattle.ds_engine.specs.Searches.{all_entities, given_over, most_of, page_in_order, page_over, rows_of_shards, search_bound}
 use Rattle.ds_engine.specs.Searches.{AreOfShards, IsCutOf}
 use Rattle.ds_engine.specs.Snapshots.{SnapshotParts, asked_in, entities_in}

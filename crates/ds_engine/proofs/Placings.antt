@@ -5,7 +5,7 @@ use Rattle.std.specs.Prelude.{All, flat_map}
 use Rattle.std.proofs.lemmas.List.{drop-map, flat_map_more, get_or-map, length-map, map-append, take-map, take_all, take_more}
 use Rattle.std.proofs.lemmas.List.Folds.{fold-map}
 use Rattle.std.proofs.lemmas.List.Sorted.{All-permutation}
-use Rattle.std.proofs.lemmas.List.Elements.{All-append, All-cons, All-drop, All-head, All-nil, All-tail, All-take}
+use Rattle.std.proofs.lemmas.List.Elements.{All-cons, All-drop, All-head, All-nil, All-tail, All-take}
 use Rattle.ds_base.specs.declared.column.Column.{Column}
 use Rattle.ds_bytes.specs.Rows.{RowParts, IsRow}
 use Rattle.ds_cursor.specs.RowsOfColumns.{IsRowOf}
@@ -17,23 +17,16 @@ use Rattle.ds_query.specs.declared.row.Place.{Place}
 use Rattle.ds_query.specs.declared.row.Row.{Row}
 use Rattle.ds_pages.specs.Columns.{directions}
 use Rattle.ds_pages.specs.Pages.{at_most, plus_limit}
-use Rattle.ds_pages.specs.Places.{compare_rows, parts_of, place_of, placed}
+use Rattle.ds_pages.specs.Places.{compare_rows, place_of, placed}
 use Rattle.ds_pages.specs.declared.row_page.RowPage.{RowPage}
 use Rattle.ds_pages.proofs.PageLaws.{drop-seen}
 use Rattle.ds_pages.proofs.PlaceOrder.{folded}
-use Rattle.ds_engine.specs.Behind.{ArePlaces, IsReadable}
+use Rattle.ds_branch.specs.Behind.{ArePlaces, IsReadable}
 use Rattle.ds_engine.specs.Searches.{last_at, page_in_order}
-use Rattle.ds_engine.proofs.Readings.{is_placed}
+use Rattle.ds_branch.proofs.KeptPlaces.{more_places}
+use Rattle.ds_branch.proofs.Readings.{is_placed}
 
 module _ (columns : List Column) where
-  -- the places of rows and of more
-  more_places : (rows more : List RowParts) (places put : List (List ℕ)) → ArePlaces columns rows places → ArePlaces columns more put
-      → ArePlaces columns (rows ++ more) (places ++ put)
-  more_places rows more places put these those = record {
-    are = (λ i. these.are i ++ those.are i) ∙ sym (map-append (place_of columns) rows more);
-    readable = All-append (IsReadable columns) rows more these.readable those.readable;
-  }
-
   -- what stands in a place can be read back from it
   abbrev row_at : (row : RowParts) → IsReadable columns row → IsRowOf columns (place_of columns row)
   row_at row is = record { row = row; long = is.long; values = is.values; key = is.key; written = refl }
@@ -55,26 +48,6 @@ module _ (columns : List Column) where
       (is_placed columns (place_of columns r) (row_at r (All-head (IsReadable columns) r rs all))).lawful
       (lawful_rows rs (All-tail (IsReadable columns) r rs all))
 
-  -- ---- what is kept
-
-  pub places_stay : (rows after : List Row) (places new : List (List ℕ)) → after ≡ rows → new ≡ places
-      → ArePlaces columns (map parts_of rows) places → ArePlaces columns (map parts_of after) new
-  places_stay rows after places new same same_places are =
-      subst (λ ps. ArePlaces columns (map parts_of after) ps) (sym same_places)
-      (subst (λ (rs : List Row). ArePlaces columns (map parts_of rs) places) (sym same) are)
-
-  pub place_put : (place : List ℕ) (r : IsRowOf columns place) (rows after : List Row) (places new : List (List ℕ))
-      → after ≡ rows ++ placed columns r.row ∷ [] → new ≡ places ++ place ∷ [] → ArePlaces columns (map parts_of rows) places
-      → ArePlaces columns (map parts_of after) new
-  place_put place r rows after places new put put_place are =
-      places_stay (rows ++ placed columns r.row ∷ []) after (places ++ place ∷ []) new put put_place
-      (subst (λ rs. ArePlaces columns rs (places ++ place ∷ [])) (sym (map-append parts_of rows (placed columns r.row ∷ [])))
-      (more_places (map parts_of rows) (r.row ∷ []) places (place ∷ []) are (record {
-        are = ap (λ p. p ∷ []) r.written;
-        readable = All-cons (IsReadable columns) r.row []
-            (record { long = r.long; values = r.values; key = r.key }) (All-nil (IsReadable columns));
-      })))
-
   -- ---- item after item
 
   -- the places of one shard more
@@ -86,7 +59,7 @@ module _ (columns : List Column) where
       ap (λ y. flat_map F (take i xs) ++ F y) is ∙ flat_map_more F [] (take i xs) (get_or xs i x)
       ∙ ap (flat_map F) (sym (take_more xs i x below)) in
       subst (λ ps. ArePlaces columns (flat_map F (take (i + 1) xs)) ps) (sym all)
-      (subst (λ rs. ArePlaces columns rs (places ++ put)) one (more_places (flat_map F (take i xs)) (F x) places put so_far this))
+      (subst (λ rs. ArePlaces columns rs (places ++ put)) one (more_places columns (flat_map F (take i xs)) (F x) places put so_far this))
 
   -- the row that stands in a place
   abbrev pub nth_row : (rows : List RowParts) (places : List (List ℕ)) (i : ℕ) (place e : List ℕ) (d : RowParts)

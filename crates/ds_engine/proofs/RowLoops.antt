@@ -1,7 +1,7 @@
 -- Rows that are put behind others, item after item.
 use Rattle.std.proofs.Common.{◌≡◌, ℕ, ◌+◌, ◌<◌, ◌≤◌, List, [], ◌∷◌, ◌++◌, length, map, take, get_or, refl, ap, sym, ◌∙◌, subst}
 use Rattle.std.proofs.Common.{true, cond}
-use Rattle.std.specs.Prelude.{All, Err, IfOk, Ok, OnErr, OnOk, Result, flat_map, slice_index_or}
+use Rattle.std.specs.Prelude.{All, flat_map}
 use Rattle.std.proofs.Common.{append_assoc}
 use Rattle.std.proofs.lemmas.List.{flat_map_more, map-append, take_all, take_more}
 use Rattle.std.proofs.lemmas.List.Elements.{All-append}
@@ -12,33 +12,8 @@ use Rattle.ds_query.specs.declared.branch.Normal.{Normal}
 use Rattle.ds_query.specs.declared.row.Row.{Row}
 use Rattle.ds_pages.specs.Extended.{extended}
 use Rattle.ds_pages.specs.Places.{IsPlaced, placed}
-use Rattle.ds_engine.specs.Merging.{in_merged}
+use Rattle.ds_branch.specs.Merging.{in_merged}
 use Rattle.ds_engine.specs.Searches.{in_columns}
-
--- what holds of an answer that there is
-pub ok_then : {A E : Type 0} {P Q : A → Type 0} (r : Result A E) → IfOk r P → ((a : A) → P a → Q a) → IfOk r Q
-ok_then (Ok a) p f = f a p
-ok_then (Err e) p f = tt
-
-pub ok_both : {A E : Type 0} {P Q R : A → Type 0} (r : Result A E) → IfOk r P → IfOk r Q → ((a : A) → P a → Q a → R a) → IfOk r R
-ok_both (Ok a) p q f = f a p q
-ok_both (Err e) p q f = tt
-
-pub from_ok : {A E : Type 0} (r : Result A E) (P : Type 0) → IfOk r (λ a. P) → OnOk r P
-from_ok (Ok a) P p = p
-from_ok (Err e) P p = tt
-
-pub all_then : {A : Type 0} {P Q : A → Type 0} (xs : List A) → All P xs → ((a : A) → P a → Q a) → All Q xs
-all_then xs all f = λ k d below. f (slice_index_or xs k d) (all k d below)
-
--- what holds anyway
-pub on_err : {A E : Type 0} (r : Result A E) (P : Type 0) → P → OnErr r P
-on_err (Ok a) P p = tt
-on_err (Err e) P p = p
-
-pub on_ok : {A E : Type 0} (r : Result A E) (P : Type 0) → P → OnOk r P
-on_ok (Ok a) P p = p
-on_ok (Err e) P p = tt
 
 module _ {A : Type 0} (merged : List Column) (F : A → List RowParts) (xs : List A) (i : ℕ) (x : A) (below : i < length xs)
     (is : x ≡ get_or xs i x) where
@@ -76,12 +51,3 @@ extended-rows n q parts rows several are =
         → map (in_merged n.merged q) (map (placed q.columns) rs) ≡ map (placed n.merged) (map (extended n.merged q) rs)
     each [] = refl
     each (r ∷ rs) = ap (λ zs. placed n.merged (extended n.merged q r) ∷ zs) (each rs)
-
--- ---- loops over items that are moved
-
--- one item more
-pub pushed : {A B : Type 0} (F : List A → List B) (done new : List B) (left rest : List A) (x : A) (y : B) (whole : List B)
-    → left ≡ x ∷ rest → new ≡ done ++ y ∷ [] → F (x ∷ rest) ≡ y ∷ F rest → done ++ F left ≡ whole → new ++ F rest ≡ whole
-pushed F done new left rest x y whole next put step all =
-    ap (λ ys. ys ++ F rest) put ∙ append_assoc done (y ∷ []) (F rest) ∙ ap (λ ys. done ++ ys) (sym step)
-    ∙ ap (λ xs. done ++ F xs) (sym next) ∙ all

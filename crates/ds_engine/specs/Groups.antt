@@ -12,8 +12,8 @@ use Rattle.ds_log.specs.Logs.{shard_list}
 use Rattle.ds_log.specs.Shards.{shard_of}
 use Rattle.ds_model.specs.Sessions.{last_commit}
 use Rattle.ds_model.specs.Views.{strong_view}
-use Rattle.ds_engine.specs.declared.states.group.GroupFound.{GroupFound}
-use Rattle.ds_engine.specs.declared.states.group.GroupFound.TheVariants as group
+use Rattle.ds_engine.specs.declared.group.GroupFound.{GroupFound}
+use Rattle.ds_engine.specs.declared.group.GroupFound.TheVariants as group
 use Rattle.ds_engine.specs.Searches.{IsResultOf, ancestor_of, look_ups}
 
 -- What was found are the results over the strong view at a place of a journal, where the entries up to the stamp are those that the

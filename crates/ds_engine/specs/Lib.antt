@@ -1,14 +1,6 @@
-pub mod Behind
-pub mod BoundSums
-pub mod Common
 pub mod Counted
 pub mod Groups
-pub mod Kept
 pub mod Lanes
-pub mod Merging
-pub mod Places
 pub mod Plans
-pub mod Reading
-pub mod ScanLaws
 pub mod Searches
 pub mod Snapshots

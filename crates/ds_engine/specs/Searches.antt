@@ -20,7 +20,7 @@ use Rattle.ds_base.specs.Sorting.{sorted_by}
 use Rattle.ds_pages.specs.Pages.{last_of, page_of, plus_limit, with_places}
 use Rattle.ds_pages.specs.Places.{compare_rows}
 use Rattle.ds_pages.specs.declared.row_page.RowPage.{RowPage}
-use Rattle.ds_engine.specs.BoundSums.{bound_of_all}
+use Rattle.ds_branch.specs.BoundSums.{bound_of_all}
 use Rattle.ds_model.specs.Bounds.{given}
 use Rattle.ds_model.specs.Results.{items_of, item_of, result}
 use Rattle.ds_engine.specs.Snapshots.{SnapshotParts, asked_in, entities_in}

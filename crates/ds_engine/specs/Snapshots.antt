@@ -3,7 +3,7 @@ use Rattle.std.specs.Prelude.{ℕ, List, length, map}
 use Rattle.ds_entity.specs.Entities.{EntityParts}
 use Rattle.ds_indexdef.specs.declared.IndexDef.{IndexDef}
 use Rattle.ds_log.specs.declared.Entry.{Entry}
-use Rattle.ds_engine.specs.BoundSums.{Asked}
+use Rattle.ds_branch.specs.BoundSums.{Asked}
 use Rattle.ds_rows.specs.Versions.{entities_at}
 use Rattle.ds_shard.specs.Shards.{ShardParts, shard_of_entries}
 

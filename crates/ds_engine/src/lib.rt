@@ -1,40 +1,44 @@
-//! Answers of queries by index scans: the rows of a branch at a stamp, sought in tables and never walked, and what is found in shards.
+//! Queries over shards, each as it stands at a stamp.
 //!
-//! The Datastore answers a query from its indexes alone. The rows of an index that are bound to the values of equality filters, and
-//! perhaps to an ancestor, begin alike, and what stands behind that beginning is the row's columns and its key, in the order of the
-//! results. So each scan of a plan is a range of rows (`ds_scan`), the strings that all scans have are the branch's rows
-//! (`ds_zigzag` leaps from one to the next), and each is read back into values and a key (`ds_bytes`). Begin with `answering`,
-//! whose calls are `answer`, for a plan, and `branch_rows`, which plans itself. `collecting` walks over the scans, `kept` has what was
-//! reached (of rows before an offset the bytes of their keys alone, `key_bytes`), `behind` is what is given of it, and `reading` reads a
-//! row back. The definitions that the contracts cite are in `specs/`, what a
-//! query finds in those of `ds_model`; `laws` has what is claimed of plans and their scans, as calls that do nothing.
+//! It stands on `ds_shard` (shards) and on `ds_branch` (a branch's results in one shard, and their merged columns). It knows no lock and
+//! no journal: of the running store it is handed the slots through which a reader sees the shards.
 //!
-//! A caller plans a branch once and asks each shard by that plan, within steps that one ledger counts:
+//! A `ShardSnapshot` is a shard at one of the stamps that it keeps. `search` answers a query from the indexes of several snapshots: each
+//! gives its own results, as many as a page may need, and their page is that of the query over the entities of all; `search_wide` scans
+//! all at once. `plans_of` plans each branch once for all shards. `query_slots` enters the shards of a reader for a query without an
+//! ancestor, and `query_slot` searches the one shard of an ancestor's group.
 //!
-//!     let plan = ds_planner::plan(alloc, &branch, &defs)?;
-//!     let tables = shard.tables();
-//!     let rows = answer(alloc, &tables, shard.count(), &branch, &defs, &plan, start, end, Some(most), &mut steps)?;
-//!
-//! The rows have their places, so `ds_pages` makes a page of them, and `merge` one of the rows of several shards or branches: `merging`
-//! unites lists, and `extending` puts the rows of a branch into the merged columns before. Two laws of `proofs/` say that shards can be
-//! answered one by one: `ShardResults` (of a query of one branch the page is told by the first results of each shard, as many as are
-//! skipped and taken) and `UnitedResults` (of a query of several branches by the results of each branch over each shard, put into the
-//! merged columns). `states` answers whole queries so, over the shards that a reader sees.
+//! Begin with `specs/Searches`, then `searching`. `planning` has the plans, `snapshot` a shard at a stamp, `rows` what a shard gives,
+//! `alone` the page where one branch is asked of one shard, `over_shards` that where it is asked of several (which put the places of rows
+//! in order, and read those of the page alone), `items` what is told of each result, and `wide` the scans that run at once; `slots` and
+//! `group` are the calls of the store (`entered` what both ask of a slot), whose promises are in `specs/Counted` and `specs/Groups`.
+//! What is proved of lists and views stands in `proofs/`. Two laws say that shards can be answered one by one: `ShardResults` (of a query
+//! of one branch the page is told by the first results of each shard, as many as are skipped and taken) and `UnitedResults` (of a query of several branches by the results of
+//! each branch over each shard, put into the merged columns). On them stand `ShardPages` (the page of what the shards give is that over
+//! all entities), `OneShard` (so is what the window cuts of one shard's results), `Placings` (and what is read of the places of a page),
+//! `InShards` (an entity is found in the shard of its group), `GlobalPages` and `GroupPages` (these are the views of a journal) and
+//! `FewerSteps` (sums of bounds).
 #![tactic(auto)]
 
-mod answering;
-mod behind;
-mod collecting;
-pub mod extending;
-mod kept;
-mod key_bytes;
-pub mod laws;
-pub mod merging;
-mod reading;
-mod refused;
-pub mod states;
+mod alone;
+mod answer;
+mod entered;
+mod group;
+mod items;
+mod over_shards;
+mod planning;
+mod rows;
+mod searching;
+mod slots;
+mod snapshot;
+mod wide;
 
-pub use answering::{answer, branch_rows};
-pub use extending::extended;
-pub use merging::{Merged, merge};
-pub use refused::EngineRefused;
+pub use answer::Answer;
+pub use ds_branch::EngineRefused;
+pub use entered::state_in;
+pub use group::{GroupFound, query_slot};
+pub use planning::plans_of;
+pub use searching::{Found, search};
+pub use slots::{query_slots, query_slots_wide};
+pub use snapshot::ShardSnapshot;
+pub use wide::search_wide;

@@ -6,7 +6,7 @@ use crate::shown::fail_of;
 use crate::store::{Store, part, whole};
 use crate::written::normal;
 use ds_base::{NoMemory, TryCopy};
-use ds_engine::EngineRefused;
+use ds_branch::EngineRefused;
 use ds_entity::Entity;
 use ds_io::Steps;
 use ds_plain::answer_of;

@@ -5,7 +5,7 @@ use crate::normals::{normal, query};
 use crate::numbered::entities;
 use crate::shown::show_key;
 use ds_base::{Names, NoMemory};
-use ds_engine::{Merged, extended, merge};
+use ds_branch::{Merged, extended, merge};
 use ds_entity::{Entities, Entity};
 use ds_pages::page_of_results;
 use ds_plain::{answer, branch_lists, rows_between};

@@ -1,6 +1,6 @@
 //! Rows as text: a row is the name of its entity, and of a projection behind it the values.
 use ds_base::{Ident, IndexValue, Key, NoMemory};
-use ds_engine::EngineRefused;
+use ds_branch::EngineRefused;
 use ds_query::{Branch, Constraint, Row, Select};
 use std::alloc::Global;
 use std::test::Fail;

@@ -3,7 +3,7 @@ ghost use Rattle.std.specs.Prelude.{◌≡◌, ◌≤◌};
 ghost use Rattle.ds_query.specs.Lawful.{IsLawfulBranch};
 
 use ds_base::{NoMemory, TryCopy};
-use ds_engine::{EngineRefused, branch_rows};
+use ds_branch::{EngineRefused, branch_rows};
 use ds_indexdef::{Defs, read_yaml};
 use ds_io::Steps;
 use ds_log::Entry;

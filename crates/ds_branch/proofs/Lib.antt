@@ -1,0 +1,25 @@
+pub mod AncestorPaths
+pub mod Behinds
+pub mod BoundLaws
+mod BoundSums
+pub mod Bounded
+pub mod Collected
+pub mod Columns
+pub mod CommonRows
+pub mod Counted
+pub mod EntityRows
+pub mod KeptLaws
+pub mod KeySets
+pub mod Skipping
+pub mod LowBytes
+pub mod Ranged
+pub mod Readings
+pub mod PartRows
+pub mod ScanColumns
+pub mod ScanIndexes
+pub mod ScanRows
+pub mod Walking
+pub mod Ways
+pub mod ToldRows
+pub mod KeptPlaces
+pub mod OkLaws

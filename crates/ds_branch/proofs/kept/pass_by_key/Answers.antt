@@ -1,0 +1,18 @@
+use Rattle.ds_pages.specs.Places.{placed}
+use Rattle.ds_branch.proofs.KeySets.{put_known, put_passed}
+use Rattle.ds_branch.proofs.Readings.{is_placed}
+use Rattle.ds_branch.proofs.kept.pass_by_key.Goals as goal
+
+pub returns-then-not-is_new : goal.returns-then-not-is_new
+returns-then-not-is_new c = λ rows r are.
+    let columns = c.args.columns.now in
+    put_known columns c.args.skip c.args.skipped.now c.args.whole.now.items c.args.keys.now.keys c.add_key.new.keys.keys rows
+    (placed columns r.row) c.in_ok-key.key.now c.in_ok-is_new.is_new are (is_placed columns c.args.place.now r) (c.in_ok-key.ensures r).stands
+    c.in_ok-is_new.ensures.taken c.in_ok-is_new.ensures.keys c.if-not-is_new.true
+
+pub returns : goal.returns
+returns c = λ rows r are.
+    let columns = c.args.columns.now in
+    put_passed columns c.args.skip c.args.skipped.now c.args.whole.now.items c.args.keys.now.keys c.add_key.new.keys.keys rows
+    (placed columns r.row) c.in_ok-key.key.now c.in_ok-is_new.is_new are (is_placed columns c.args.place.now r) (c.in_ok-key.ensures r).stands
+    c.in_ok-is_new.ensures.taken c.in_ok-is_new.ensures.keys c.if-not-is_new.false c.requires.front

@@ -1,5 +1,0 @@
-use Rattle.ds_engine.proofs.BoundSums.{add_up}
-use Rattle.ds_engine.proofs.laws.bounds_add_up.Goals as goal
-
-pub returns : goal.returns
-returns c = add_up

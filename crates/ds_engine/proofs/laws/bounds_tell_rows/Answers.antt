@@ -1,5 +1,0 @@
-use Rattle.ds_engine.proofs.BoundLaws.{row_stands}
-use Rattle.ds_engine.proofs.laws.bounds_tell_rows.Goals as goal
-
-pub returns : goal.returns
-returns c = row_stands

@@ -1,5 +1,0 @@
-use Rattle.ds_engine.proofs.CommonRows.{plans_tell}
-use Rattle.ds_engine.proofs.laws.plans_tell_rows.Goals as goal
-
-pub returns : goal.returns
-returns c = plans_tell

@@ -1,5 +1,0 @@
-use Rattle.ds_engine.proofs.ScanRows.{scans_tell}
-use Rattle.ds_engine.proofs.laws.scans_tell_rows.Goals as goal
-
-pub returns : goal.returns
-returns c = scans_tell

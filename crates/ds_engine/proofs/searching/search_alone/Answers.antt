@@ -1,0 +1,54 @@
+use Rattle.std.proofs.Common.{◌≡◌, ◌+◌, ◌≤◌, List, ap, get_or, length, map, subst, sym, ◌∙◌, arith}
+use Rattle.ds_query.specs.declared.branch.Branch.{Branch}
+use Rattle.ds_engine.specs.Searches.{all_entities, look_ups, most_of, page_over, search_bound}
+use Rattle.ds_engine.specs.Snapshots.{SnapshotParts, entities_in}
+use Rattle.ds_engine.proofs.OneShard.{bound_of_one, is_one, page_of_one}
+use Rattle.ds_engine.proofs.Plans.{as_many, plan_at}
+use Rattle.ds_branch.proofs.OkLaws.{all_then, ok_then}
+use Rattle.ds_engine.proofs.searching.search_alone.Goals as goal
+
+pub bounds-plans-0 : goal.bounds-plans-0
+bounds-plans-0 g c =
+    let many = as_many c.args.defs.now c.args.normal.now.branches c.args.plans.now c.requires.plans in
+    let one = c.requires.lawful.single c.requires.single in
+    omega (arith, many, one)
+
+pub page_alone-requires-clause-plan : goal.page_alone-requires-clause-plan
+page_alone-requires-clause-plan g c =
+    let q = c.index-as_slice-0.result in
+    let one = c.requires.lawful.single c.requires.single in
+    plan_at c.args.defs.now c.args.normal.now.branches c.args.plans.now 0 q c.index-plans-0.result c.requires.plans (omega (arith, one))
+    (c.index-as_slice-0.is ∙ ap (λ bs. get_or bs 0 q) c.as_slice.ensures) c.index-plans-0.is
+
+pub returns-clause-found : goal.returns-clause-found
+returns-clause-found g c = λ own.
+    let n = c.args.normal.now in
+    let w = c.args.window.now in
+    let q = c.index-as_slice-0.result in
+    let s = c.index-snapshots-0.result in
+    let branches = is_one n.branches q (c.requires.lawful.single c.requires.single)
+    (c.index-as_slice-0.is ∙ ap (λ bs. get_or bs 0 q) c.as_slice.ensures) in
+    let shards = is_one c.args.snapshots.now s c.requires.one c.index-snapshots-0.is in
+    c.told.ensures.found w
+    (subst (λ (ss : List SnapshotParts). c.in_ok-page.page ≡ page_over n w (all_entities (map entities_in ss))) (sym shards)
+    (page_of_one n w q (entities_in s) c.in_ok-page.page c.requires.lawful c.requires.single branches c.in_ok-page.ensures.page))
+    own
+
+pub returns-clause-steps_bounded : goal.returns-clause-steps_bounded
+returns-clause-steps_bounded g c =
+    let n = c.args.normal.now in
+    let w = c.args.window.now in
+    let q = c.index-as_slice-0.result in
+    let s = c.index-snapshots-0.result in
+    let branches = is_one n.branches q (c.requires.lawful.single c.requires.single)
+    (c.index-as_slice-0.is ∙ ap (λ bs. get_or bs 0 q) c.as_slice.ensures) in
+    let shards = is_one c.args.snapshots.now s c.requires.one c.index-snapshots-0.is in
+    let bound = bound_of_one n w (most_of n w) q s c.args.snapshots.now branches shards in
+    let within = c.in_ok-page.ensures.steps in
+    let total : c.page_alone.new.steps ≤ c.args.steps.now + search_bound n w (most_of n w) c.args.snapshots.now =
+    omega (arith, within, bound) in
+    ok_then c.told.result c.told.ensures.steps (λ found all.
+    all_then {P = λ (b : Branch). c.told.new.steps ≡ c.page_alone.new.steps + look_ups b.select (length found.results)}
+    {Q = λ (b : Branch). c.told.new.steps
+    ≤ (c.args.steps.now + search_bound n w (most_of n w) c.args.snapshots.now) + look_ups b.select (length found.results)}
+    n.branches all (λ b is. omega (arith, is, total)))

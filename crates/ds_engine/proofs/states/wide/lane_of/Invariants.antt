@@ -1,5 +1,0 @@
--- The ledger is that of the blank.
-use Rattle.ds_engine.proofs.states.wide.lane_of.Given as goal
-
-abbrev pub ghosts-scanned : goal.ghosts-scanned
-ghosts-scanned a = record { name = a.blank.name; parts = a.blank.parts }

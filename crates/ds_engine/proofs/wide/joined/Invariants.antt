@@ -1,0 +1,16 @@
+-- The rows of the lanes so far, and that those left are the rows of the shards left.
+use Rattle.std.proofs.Common.{◌≡◌, map, take, drop, length}
+use Rattle.std.specs.Prelude.{All, flat_map}
+use Rattle.ds_pages.specs.Places.{IsPlaced, placed}
+use Rattle.ds_engine.specs.Lanes.{AreLanes}
+use Rattle.ds_engine.specs.Searches.{shard_rows}
+use Rattle.ds_engine.specs.Snapshots.{entities_in}
+use Rattle.ds_engine.proofs.wide.joined.Given as goal
+
+abbrev pub invariant-loop-lane : goal.invariant-loop-lane
+invariant-loop-lane l = record {
+  rows : l.rows.items
+      ≡ map (placed l.normal.merged) (flat_map (λ s. shard_rows l.normal l.window (entities_in s)) (take (length l.yielded) l.snapshots));
+  placed : All (IsPlaced l.normal.merged) l.rows.items;
+  left : AreLanes l.normal l.window (drop (length l.yielded) l.snapshots) l.lane-iterator.rest.items;
+}

@@ -1,0 +1,217 @@
+//! A query over shards.
+ghost use Rattle.std.specs.Prelude.{◌≡◌, ◌+◌, ◌≤◌, [], All, map, length, IfOk, false};
+ghost use Rattle.ds_base.specs.Limits.{most_shards};
+ghost use Rattle.ds_query.specs.Lawful.{IsLawfulNormal, SuitsSeveral};
+ghost use Rattle.ds_query.specs.declared.branch.Window.{Window};
+ghost use Rattle.ds_pages.specs.Places.{IsPlaced, placed};
+ghost use Rattle.ds_engine.specs.Plans.{ArePlansFor};
+ghost use Rattle.ds_engine.specs.Searches.{AreOfShards, IsResultOf, all_entities, look_ups, most_of, page_over, rows_of_shards};
+ghost use Rattle.ds_engine.specs.Searches.{search_bound};
+ghost use Rattle.ds_engine.specs.Snapshots.{entities_in};
+
+use crate::alone::page_alone;
+use crate::items::items;
+use crate::over_shards::page_over_shards;
+use crate::rows::put_shard_rows;
+use crate::snapshot::ShardSnapshot;
+use ds_base::NoMemory;
+use ds_branch::laws::bounds_add_up;
+use ds_entity::Results;
+use ds_indexdef::Defs;
+use ds_io::Steps;
+use ds_pages::{RowPage, page_of_results, page_of_rows};
+use ds_planner::ScanPlan;
+use ds_query::{Normal, Place, Row, Window};
+use std::alloc::Global;
+use std::sync::ledger::Ledger;
+
+/// What a query found.
+#[derive(Drop)]
+pub struct Found {
+    /// What is selected of each result, in their order.
+    pub results: Results,
+    /// The place of the last result skipped or taken, else the window's start: where the next page begins.
+    pub next: Option<Place>,
+}
+
+/// What a query finds in shards, each as its snapshot stands: a page of its results over the entities of all.
+///
+/// It needs the definitions of the shards and for each branch a plan that answers it and has no scan too many, as `plans_of` gives them.
+/// The steps are within the sum of the bounds of all branches over all shards, where a query of one branch asks each shard for as many
+/// results as its page skips or takes; and each entity that is given takes one step more. A refusal is want of memory.
+pub fn search<L: Ledger>(
+    alloc: Global,
+    snapshots: &[ShardSnapshot<'_>],
+    normal: &Normal,
+    window: &Window,
+    defs: &Defs,
+    plans: &[ScanPlan],
+    steps: &mut Steps<L>,
+) -> Result<Found, NoMemory>
+    requires lawful { IsLawfulNormal normal.now }
+    requires placeless { SuitsSeveral normal.now.several window.now }
+    requires some { 1 ≤ length snapshots.now }
+    requires few { length snapshots.now ≤ most_shards }
+    requires definitions { All (λ s. defs.now ≡ s.shard.definitions) snapshots.now }
+    requires plans { ArePlansFor defs.now normal.now.branches plans.now }
+    ensures found { AreOfShards (length (map entities_in snapshots.now)) 0 (map entities_in snapshots.now)
+        → IfOk result (λ f. IsResultOf normal.now window.now (all_entities (map entities_in snapshots.now)) f.results f.next) }
+    ensures steps_bounded { IfOk result (λ f. All (λ q. steps.new ≤ (steps.old
+        + search_bound normal.now window.now (most_of normal.now window.now) snapshots.now) + look_ups q.select (length f.results))
+        normal.now.branches) }
+{
+    if !normal.several {
+        return search_single(alloc, snapshots, normal, window, defs, plans, steps);
+    }
+    let mut rows = Vec::new(alloc);
+    for snapshot in snapshots {
+        put_shard_rows(
+            alloc, snapshot, normal, window, defs, plans, &mut rows, steps,
+        )?;
+    }
+    bounds_add_up();
+    page_of(alloc, snapshots, normal, window, rows, steps)
+}
+
+/// The same of one branch. Over several shards each gives the places of its rows, and the rows of the page alone are read.
+fn search_single<L: Ledger>(
+    alloc: Global,
+    snapshots: &[ShardSnapshot<'_>],
+    normal: &Normal,
+    window: &Window,
+    defs: &Defs,
+    plans: &[ScanPlan],
+    steps: &mut Steps<L>,
+) -> Result<Found, NoMemory>
+    requires lawful { IsLawfulNormal normal.now }
+    requires single { normal.now.several ≡ false }
+    requires some { 1 ≤ length snapshots.now }
+    requires few { length snapshots.now ≤ most_shards }
+    requires definitions { All (λ s. defs.now ≡ s.shard.definitions) snapshots.now }
+    requires plans { ArePlansFor defs.now normal.now.branches plans.now }
+    ensures found { AreOfShards (length (map entities_in snapshots.now)) 0 (map entities_in snapshots.now)
+        → IfOk result (λ f. IsResultOf normal.now window.now (all_entities (map entities_in snapshots.now)) f.results f.next) }
+    ensures steps_bounded { IfOk result (λ f. All (λ q. steps.new ≤ (steps.old
+        + search_bound normal.now window.now (most_of normal.now window.now) snapshots.now) + look_ups q.select (length f.results))
+        normal.now.branches) }
+{
+    if snapshots.len() == 1 {
+        return search_alone(alloc, snapshots, normal, window, defs, plans, steps);
+    }
+    let branch = &normal.branches.as_slice()[0];
+    let plan = &plans[0];
+    let page = page_over_shards(alloc, snapshots, normal, window, defs, branch, plan, steps)?;
+    told(alloc, snapshots, normal, page, steps)
+}
+
+/// The same of one branch over one shard, which gives its results in their order, each once.
+fn search_alone<L: Ledger>(
+    alloc: Global,
+    snapshots: &[ShardSnapshot<'_>],
+    normal: &Normal,
+    window: &Window,
+    defs: &Defs,
+    plans: &[ScanPlan],
+    steps: &mut Steps<L>,
+) -> Result<Found, NoMemory>
+    requires lawful { IsLawfulNormal normal.now }
+    requires single { normal.now.several ≡ false }
+    requires one { length snapshots.now ≡ 1 }
+    requires few { length snapshots.now ≤ most_shards }
+    requires definitions { All (λ s. defs.now ≡ s.shard.definitions) snapshots.now }
+    requires plans { ArePlansFor defs.now normal.now.branches plans.now }
+    ensures found { AreOfShards (length (map entities_in snapshots.now)) 0 (map entities_in snapshots.now)
+        → IfOk result (λ f. IsResultOf normal.now window.now (all_entities (map entities_in snapshots.now)) f.results f.next) }
+    ensures steps_bounded { IfOk result (λ f. All (λ q. steps.new ≤ (steps.old
+        + search_bound normal.now window.now (most_of normal.now window.now) snapshots.now) + look_ups q.select (length f.results))
+        normal.now.branches) }
+{
+    let branch = &normal.branches.as_slice()[0];
+    let page = page_alone(
+        alloc,
+        &snapshots[0],
+        normal,
+        window,
+        defs,
+        branch,
+        &plans[0],
+        steps,
+    )?;
+    told(alloc, snapshots, normal, page, steps)
+}
+
+/// The page of what the shards gave, and what is told of its rows.
+pub(crate) fn page_of<L: Ledger>(
+    alloc: Global,
+    snapshots: &[ShardSnapshot<'_>],
+    normal: &Normal,
+    window: &Window,
+    rows: Vec<Row>,
+    steps: &mut Steps<L>,
+) -> Result<Found, NoMemory>
+    requires lawful { IsLawfulNormal normal.now }
+    requires placeless { SuitsSeveral normal.now.several window.now }
+    requires some { 1 ≤ length snapshots.now }
+    requires few { length snapshots.now ≤ most_shards }
+    requires rows { rows.items ≡ map (placed normal.now.merged) (rows_of_shards normal.now window.now (map entities_in snapshots.now)) }
+    requires placed { All (IsPlaced normal.now.merged) rows.items }
+    ensures found { AreOfShards (length (map entities_in snapshots.now)) 0 (map entities_in snapshots.now)
+        → IfOk result (λ f. IsResultOf normal.now window.now (all_entities (map entities_in snapshots.now)) f.results f.next) }
+    ensures steps { IfOk result (λ f. All (λ q. steps.new ≡ steps.old + look_ups q.select (length f.results)) normal.now.branches) }
+{
+    let page = page_of_all(alloc, snapshots, normal, window, rows)?;
+    told(alloc, snapshots, normal, page, steps)
+}
+
+/// What is told of the rows of a page.
+fn told<L: Ledger>(
+    alloc: Global,
+    snapshots: &[ShardSnapshot<'_>],
+    normal: &Normal,
+    page: RowPage,
+    steps: &mut Steps<L>,
+) -> Result<Found, NoMemory>
+    requires lawful { IsLawfulNormal normal.now }
+    requires some { 1 ≤ length snapshots.now }
+    requires few { length snapshots.now ≤ most_shards }
+    ensures found { (w : Window) → page ≡ page_over normal.now w (all_entities (map entities_in snapshots.now))
+        → AreOfShards (length (map entities_in snapshots.now)) 0 (map entities_in snapshots.now)
+        → IfOk result (λ f. IsResultOf normal.now w (all_entities (map entities_in snapshots.now)) f.results f.next) }
+    ensures steps { IfOk result (λ f. All (λ q. steps.new ≡ steps.old + look_ups q.select (length f.results)) normal.now.branches) }
+{
+    let branch = &normal.branches.as_slice()[0];
+    let results = items(
+        alloc,
+        snapshots,
+        &normal.merged,
+        &branch.select,
+        page.rows,
+        steps,
+    )?;
+    Ok(Found {
+        results,
+        next: page.next,
+    })
+}
+
+/// The page of rows in any order. Where one branch is asked no result is given twice, as each is of one shard.
+fn page_of_all(
+    alloc: Global,
+    snapshots: &[ShardSnapshot<'_>],
+    normal: &Normal,
+    window: &Window,
+    rows: Vec<Row>,
+) -> Result<RowPage, NoMemory>
+    requires lawful { IsLawfulNormal normal.now }
+    requires placeless { SuitsSeveral normal.now.several window.now }
+    requires rows { rows.items ≡ map (placed normal.now.merged) (rows_of_shards normal.now window.now (map entities_in snapshots.now)) }
+    requires placed { All (IsPlaced normal.now.merged) rows.items }
+    ensures { AreOfShards (length (map entities_in snapshots.now)) 0 (map entities_in snapshots.now)
+        → IfOk result (λ page. page ≡ page_over normal.now window.now (all_entities (map entities_in snapshots.now))) }
+{
+    if normal.several {
+        page_of_rows(alloc, rows, &normal.merged, &[], window)
+    } else {
+        page_of_results(alloc, rows, window)
+    }
+}
