@@ -1,7 +1,7 @@
 -- What the ends of the words and of the hubs say of all passes.
-use Rattle.std.proofs.Common.{◌≡◌, ℕ, zero, suc, ◌+◌, ◌-◌, ◌<◌, ◌≤◌, List, [], ◌∷◌, ◌++◌, length, map, get_or, refl, ap, sym, ◌∙◌, subst}
-use Rattle.std.proofs.Common.{arith, append_assoc}
-use Rattle.std.specs.Prelude.{Bool, true, false, nat_le, All, Contains, IsPermutation}
+use Rattle.std.proofs.Common.{◌≡◌, ℕ, suc, ◌+◌, ◌-◌, ◌<◌, ◌≤◌, List, [], ◌∷◌, length, map, get_or, refl, subst}
+use Rattle.std.proofs.Common.{arith}
+use Rattle.std.specs.Prelude.{Bool, true, false, nat_le, All, Contains}
 use Rattle.std.specs.List.{range_with_len}
 use Rattle.std.proofs.lemmas.Bool.{leb-true, leb-false}
 use Rattle.std.proofs.lemmas.List.FromFn.{length-range_with_len, get_or-range_with_len}
@@ -14,12 +14,10 @@ use Rattle.ds_base.specs.Limits.{first_drawn_id}
 use Rattle.ds_log.specs.declared.Commit.{Commit}
 use Rattle.ds_log.specs.declared.Entry.{Entry}
 use Rattle.ds_log.specs.Logs.{shard_list}
-use Rattle.ds_log.specs.ShardLaws.{later_entries, shard_list-append}
 use Rattle.ds_model.specs.Sessions.{list_of}
-use Rattle.ds_model.specs.Worlds.{shard_lists}
-use Rattle.ds_store.specs.Ending.{Begins, IsConfirmed, HaveEnded, commits_of_all, draws_of_all}
-use Rattle.ds_store.specs.Passes.{PassParts}
-use Rattle.ds_store.proofs.Growing.{begins_no_longer, begins_through}
+use Rattle.ds_store_passes.specs.Ending.{Begins, IsConfirmed, HaveEnded, commits_of_all, draws_of_all}
+use Rattle.ds_store_passes.specs.Passes.{PassParts}
+use Rattle.ds_store_passes.proofs.Growing.{begins_no_longer}
 
 -- ---- the numbers of commits
 
@@ -75,27 +73,6 @@ all-begin shards journal passes confirmed each k d lt =
           let low' : s < shards = let many = here.whole in omega (arith, many, low) in
           subst (λ n. IsPrefix (list_of p.lists s) (f n)) at (each s low' k d lt))),
     )
-
--- a longer journal gives each shard a longer list
-shard_list-longer : (known journal : List Commit) (s shards : ℕ) → IsPrefix known journal
-    → IsPrefix (shard_list known s shards) (shard_list journal s shards)
-shard_list-longer known journal s shards p = (
-  later_entries s shards (1 + length known) p.0,
-  sym (shard_list-append known p.0 s shards)
-      ∙ ap (λ cs. shard_list cs s shards) p.1,
-)
-
--- what begins the published entries of a shard begins its list of the journal, which its own reader knows a beginning of
-pub shard-begins : (journal known : List Commit) (s shards many : ℕ) (seen published pending waiting : List Entry) → IsPrefix known journal
-    → (published ++ pending) ++ waiting ≡ shard_list known s many → many ≡ shards → IsPrefix seen published
-    → IsPrefix seen (shard_list journal s shards)
-shard-begins journal known s shards many seen published pending waiting grown list same begins =
-    let whole : (published ++ pending) ++ waiting ≡ shard_list known s shards = list ∙ ap (shard_list known s) same in
-    let first : IsPrefix published (shard_list known s shards) =
-    (pending ++ waiting, sym (append_assoc published pending waiting) ∙ whole) in
-    begins_through seen published (shard_list journal s shards) begins
-    (begins_through published (shard_list known s shards) (shard_list journal s shards) first (shard_list-longer known journal s shards
-    grown))
 
 -- ---- all of it
 

@@ -1,24 +1,23 @@
 -- What a get tells, of where it stands and what is found there.
-use Rattle.std.proofs.Common.{◌≡◌, ℕ, ◌+◌, ◌≤◌, max, List, length, take, Option, None, Some, Bool, true, false, sym, ap, subst, ◌∙◌, arith}
+use Rattle.std.proofs.Common.{◌≡◌, ℕ, ◌+◌, ◌≤◌, max, List, length, take, Option, None, Some, true, sym, ap, subst, ◌∙◌, arith}
+use Rattle.std.proofs.Common.{refl}
 use Rattle.std.specs.Prelude.{is_some}
 use Rattle.std.proofs.lemmas.List.{length-take}
 use Rattle.ds_entity.specs.Entities.{EntityParts}
 use Rattle.ds_base.specs.Keys.{KeyParts, root_of}
 use Rattle.ds_log.specs.declared.Entry.{Entry}
-use Rattle.ds_log.specs.Logs.{shard_list}
 use Rattle.ds_log.specs.Shards.{shard_of}
 use Rattle.ds_model.specs.ByKey.{left_by}
 use Rattle.ds_model.specs.Results.{entity_of}
-use Rattle.ds_model.specs.Sessions.{count_of, last_commit, list_of}
-use Rattle.ds_model.specs.Views.{strong_view}
+use Rattle.ds_model.specs.Sessions.{last_commit, list_of}
 use Rattle.ds_model.proofs.GroupReads.{get_seen}
-use Rattle.ds_store.specs.Answered.{HasReadGroup, IsExpired, IsGot, ReadsAt, entries_up_to}
-use Rattle.ds_store.specs.Passes.{PassParts, HasRead, counts_of}
-use Rattle.ds_store.specs.Standing.{StandsAt}
-use Rattle.ds_store.proofs.Growing.{begins_no_longer}
-use Rattle.ds_store.proofs.PassReads.{read_place}
-use Rattle.ds_store.proofs.Seeing.{HasRead-through}
-use Rattle.ds_store.proofs.SlotLists.{count_there, longer_there}
+use Rattle.ds_store_passes.specs.Answered.{HasReadGroup, IsExpired, IsGot, entries_up_to}
+use Rattle.ds_store_passes.specs.Passes.{PassParts, HasRead}
+use Rattle.ds_store_shards.specs.Standing.{StandsAt}
+use Rattle.ds_store_passes.proofs.Growing.{begins_no_longer}
+use Rattle.ds_store_passes.proofs.PassReads.{read_place}
+use Rattle.ds_store_passes.proofs.Seeing.{HasRead-through}
+use Rattle.ds_store_passes.proofs.SlotLists.{count_there, longer_there}
 
 -- so many entries the pass has seen
 pub stands_seen : (shards shard : ℕ) (before after : PassParts) (asked : Option ℕ) (m entries : ℕ)
@@ -120,3 +119,9 @@ expired_in shards shard window before p q after key asked m entries snapshot app
     let list : list_of p.lists shard ≡ list_of q.lists (shard_of (root_of key) shards) = λ i. list_of (sym same i).lists (is i) in
     expired shards window before q after (root_of key) m snapshot applied commit (omega (arith, snap, app, gone))
     (app ∙ ap (λ (es : List Entry). length es) list) (last ∙ ap last_commit list) shown asked inside there
+
+-- Outside a transaction all entries of the shard are read, to which each window reaches back.
+pub inside_one : (asked : Option ℕ) (entries window long : ℕ) → 1 ≤ window → (asked ≡ None → entries ≡ long) → entries + window ≤ long
+    → is_some asked ≡ true
+inside_one (Some place) entries window long some all gone = refl
+inside_one None entries window long some all gone = absurd (omega (arith, some, all refl, gone))

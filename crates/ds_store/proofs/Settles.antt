@@ -3,17 +3,16 @@ use Rattle.std.proofs.Common.{◌≡◌, ℕ, zero, suc, ◌+◌, ◌<◌, ◌�
 use Rattle.std.proofs.Common.{◌∙◌, arith, add-one}
 use Rattle.std.proofs.Math.Seq.{take-suc-set, take-length}
 use Rattle.std.proofs.lemmas.List.{take_all, length-take-le}
-use mathlib.Core.List.{IsPrefix}
 use Rattle.ds_log.specs.declared.Commit.{Commit}
 use Rattle.ds_log.specs.declared.Entry.{Entry}
 use Rattle.ds_log.specs.Logs.{shard_list}
 use Rattle.ds_model.specs.Sessions.{counted_place, last_commit}
-use Rattle.ds_store.specs.Answered.{AllApplied, HasSettled, entries_up_to}
-use Rattle.ds_store.specs.Passes.{PassParts, HasRead, counts_of}
-use Rattle.ds_store.specs.Standing.{IsSettled}
-use Rattle.ds_store.proofs.Growing.{begins_no_longer}
-use Rattle.ds_store.proofs.Seeing.{HasRead-through}
-use Rattle.ds_store.proofs.ShardLists.{first_of}
+use Rattle.ds_store_passes.specs.Answered.{AllApplied, HasSettled, entries_up_to}
+use Rattle.ds_store_passes.specs.Passes.{PassParts, HasRead}
+use Rattle.ds_store_shards.specs.Standing.{IsSettled}
+use Rattle.ds_store_passes.proofs.Growing.{begins_no_longer}
+use Rattle.ds_store_passes.proofs.Seeing.{HasRead-through}
+use Rattle.ds_store_shards.proofs.ShardLists.{first_of}
 
 -- the first shards are settled at a place: their counts are these, and this is the greatest commit of their last entries
 pub record AreSettled (shards place : ℕ) (before after : PassParts) (done : ℕ) (counts : List ℕ) (commit : ℕ) : Type 0 where

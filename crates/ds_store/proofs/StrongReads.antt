@@ -14,11 +14,11 @@ use Rattle.ds_query.specs.declared.branch.Normal.{Normal}
 use Rattle.ds_query.specs.declared.branch.Window.{Window}
 use Rattle.ds_query.specs.declared.row.Place.{Place}
 use Rattle.ds_engine.specs.Groups.{FindsInGroup, look_ups_of}
-use Rattle.ds_engine.specs.declared.states.group.GroupFound.TheVariants as group
+use Rattle.ds_engine.specs.declared.group.GroupFound.TheVariants as group
 use Rattle.ds_query.specs.declared.branch.Branch.{Branch}
 use Rattle.ds_engine.specs.Searches.{ancestor_of}
-use Rattle.ds_store.specs.Passes.{PassParts}
-use Rattle.ds_store.specs.Standing.{StandsAt}
+use Rattle.ds_store_passes.specs.Passes.{PassParts}
+use Rattle.ds_store_shards.specs.Standing.{StandsAt}
 use Rattle.ds_store.specs.Strong.{IsFoundInGroup}
 use Rattle.ds_store.proofs.Gets.{group_read}
 

@@ -5,20 +5,20 @@ use Rattle.ds_entity.specs.declared.results.Seen.{Seen}
 use Rattle.ds_entity.specs.declared.results.Seen.TheVariants as saw
 use Rattle.ds_base.specs.Keys.{KeyParts}
 use Rattle.ds_model.specs.Views.{strong_view}
-use Rattle.ds_engine.specs.declared.EngineRefused.{EngineRefused}
-use Rattle.ds_engine.specs.declared.EngineRefused.TheVariants as engine
+use Rattle.ds_branch.specs.declared.EngineRefused.{EngineRefused}
+use Rattle.ds_branch.specs.declared.EngineRefused.TheVariants as engine
 use Rattle.ds_planner.specs.Missing.{Missing}
 use Rattle.ds_query.specs.declared.branch.Normal.{Normal}
 use Rattle.ds_query.specs.declared.branch.Window.{Window}
 use Rattle.ds_query.specs.declared.row.Place.{Place}
 use Rattle.ds_engine.specs.Searches.{IsResultOf}
-use Rattle.ds_store.specs.declared.answers.Expired.{Expired}
-use Rattle.ds_store.specs.declared.answers.GetRefused.{GetRefused}
-use Rattle.ds_store.specs.declared.answers.GetRefused.TheVariants as get
-use Rattle.ds_store.specs.declared.answers.StrongRefused.{StrongRefused}
-use Rattle.ds_store.specs.declared.answers.StrongRefused.TheVariants as strong
-use Rattle.ds_store.specs.Answered.{HasReadGroup}
-use Rattle.ds_store.specs.Passes.{PassParts}
+use Rattle.ds_store_passes.specs.declared.answers.Expired.{Expired}
+use Rattle.ds_store_passes.specs.declared.answers.GetRefused.{GetRefused}
+use Rattle.ds_store_passes.specs.declared.answers.GetRefused.TheVariants as get
+use Rattle.ds_store.specs.declared.refused.StrongRefused.{StrongRefused}
+use Rattle.ds_store.specs.declared.refused.StrongRefused.TheVariants as strong
+use Rattle.ds_store_passes.specs.Answered.{HasReadGroup}
+use Rattle.ds_store_passes.specs.Passes.{PassParts}
 
 -- the results are those over the strong view at its place, which it tells
 pub record IsFoundInGroup (shards : ℕ) (before after : PassParts) (group : KeyParts) (asked : Option ℕ) (n : Normal) (w : Window)

@@ -2,16 +2,15 @@
 ghost use Rattle.std.specs.Prelude.{◌≡◌, ◌<◌, ◌≤◌, ◌++◌, ◌∷◌, [], IfOk, MatchOption, OnErr, OnOk, length};
 ghost use Rattle.ds_model.specs.Sessions.{count_of};
 ghost use Rattle.ds_shard.specs.Shards.{last_commit};
-ghost use Rattle.ds_store.specs.Answered.{HasApplied, HasSettled, AreAtLeast};
-ghost use Rattle.ds_store.specs.Passes.{HasRead, counts_of};
-ghost use Rattle.ds_store.specs.Standing.{IsSettled};
+ghost use Rattle.ds_store_passes.specs.Answered.{HasApplied, HasSettled, AreAtLeast};
+ghost use Rattle.ds_store_passes.specs.Passes.{HasRead, counts_of};
+ghost use Rattle.ds_store_shards.specs.Standing.{IsSettled};
 
-use crate::answers::{Applied, Settled};
-use crate::pass::Pass;
-use crate::shard_desk::ShardDesk;
 use crate::store::Store;
 use ds_base::{Counts, NoMemory};
 use ds_store_hubs::Names;
+use ds_store_passes::{Applied, Pass, Settled};
+use ds_store_shards::{ShardDesk, apply_known, settle_known};
 use std::alloc::AllocError;
 use std::sync::Wait;
 use std::thread;
@@ -32,10 +31,7 @@ impl<J: Names, H: Wait + Drop> Store<J, H> {
         ensures applied { IfOk result (λ a. HasApplied self.now.shards pass.old pass.new shard a.moved a.count a.place a.commit) }
         ensures read { OnErr result (HasRead pass.old pass.new) }
     {
-        let mut desk = self.shards[shard as usize].lock(rt);
-        if desk.number != shard {
-            return Err(AllocError);
-        }
+        let mut desk = self.desk_of(rt, shard)?;
         self.apply_with(rt, pass, &mut desk, 1)
     }
 
@@ -68,20 +64,7 @@ impl<J: Names, H: Wait + Drop> Store<J, H> {
     {
         let anyway = !desk.is_behind();
         self.catch_up(rt, desk, pass.least_place(), anyway)?;
-        pass.see_commits(&desk.journal);
-        let place = desk.journal.len();
-        pass.stand(place);
-        desk.show(rt, pass);
-        let moved = desk.apply_next(rt, most)?;
-        desk.show(rt, pass);
-        let commit = desk.last();
-        pass.stand(commit);
-        Ok(Applied {
-            moved,
-            count: desk.writer.writer.published(),
-            place,
-            commit,
-        })
+        apply_known(rt, pass, desk, most)
     }
 
     /// Applies all entries up to a place. A refusal is want of memory; it may then have applied some.
@@ -120,10 +103,7 @@ impl<J: Names, H: Wait + Drop> Store<J, H> {
         ensures settled { IfOk result (λ a. IsSettled self.now.shards pass.old pass.new shard place a.count a.commit) }
         ensures read { OnErr result (HasRead pass.old pass.new) }
     {
-        let mut desk = self.shards[shard as usize].lock(rt);
-        if desk.number != shard {
-            return Err(AllocError);
-        }
+        let mut desk = self.desk_of(rt, shard)?;
         self.settle_with(rt, pass, &mut desk, place)
     }
 
@@ -139,18 +119,7 @@ impl<J: Names, H: Wait + Drop> Store<J, H> {
         ensures read { OnErr result (HasRead pass.old pass.new) }
     {
         self.catch_up(rt, desk, place, false)?;
-        pass.see_commits(&desk.journal);
-        let entries = desk.entries_up_to(place);
-        desk.apply_up_to(rt, entries)?;
-        desk.show(rt, pass);
-        let commit = desk.last();
-        pass.stand(commit);
-        Ok(Applied {
-            moved: false,
-            count: desk.writer.writer.published(),
-            place,
-            commit,
-        })
+        settle_known(rt, pass, desk, place)
     }
 
     /// Meets what another pass has seen, with one count for each shard: this pass's place, counts and id counter are then no lower. It
@@ -173,7 +142,7 @@ impl<J: Names, H: Wait + Drop> Store<J, H> {
     }
 
     /// Looks at the id counter until it isn't below `next`.
-    fn look_up_to<R: Wait>(&self, rt: &R, pass: &mut Pass<J>, next: u64)
+    pub(crate) fn look_up_to<R: Wait>(&self, rt: &R, pass: &mut Pass<J>, next: u64)
         ensures pass { pass.new ≡ record pass.old { next = pass.new.next } }
         ensures next { (pass.old.next ≤ pass.new.next) × (next ≤ pass.new.next) }
     {
@@ -188,7 +157,7 @@ impl<J: Names, H: Wait + Drop> Store<J, H> {
     }
 
     /// Sees what a shard has published until it is no fewer entries than `count`.
-    fn meet_count<R: Wait>(&self, rt: &R, pass: &mut Pass<J>, shard: usize, count: u64)
+    pub(crate) fn meet_count<R: Wait>(&self, rt: &R, pass: &mut Pass<J>, shard: usize, count: u64)
         requires shard { shard < self.now.shards }
         requires seen { shard < length pass.old.lists }
         ensures met { count ≤ count_of (counts_of pass.new) shard }

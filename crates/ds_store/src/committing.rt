@@ -3,14 +3,13 @@ ghost use Rattle.std.specs.Prelude.{◌≡◌, ℕ, ◌+◌, ◌<◌, ◌≤◌,
 ghost use Rattle.ds_base.specs.Limits.{greatest_id};
 ghost use Rattle.ds_journal.specs.Drafts.{is_one_put, renumbered_commit};
 ghost use Rattle.ds_log.specs.Ids.{AreIssued};
-ghost use Rattle.ds_store.specs.Answered.{IsAppended, IsConflict, WhereConflict, WhereExhausted};
-ghost use Rattle.ds_store.specs.Passes.{HasRead};
+ghost use Rattle.ds_store_passes.specs.Answered.{IsAppended, IsConflict, WhereConflict, WhereExhausted};
+ghost use Rattle.ds_store_passes.specs.Passes.{HasRead};
 
-use crate::answers::{NewCommit, NewRefused};
-use crate::pass::Pass;
 use crate::store::Store;
 use ds_journal::{CommitRefused, Draft};
 use ds_store_hubs::Names;
+use ds_store_passes::{NewCommit, NewRefused, Pass};
 use std::sync::Wait;
 
 impl<J: Names, H: Wait + Drop> Store<J, H> {

@@ -2,15 +2,15 @@
 ghost use Rattle.std.specs.Prelude.{◌≡◌, ◌+◌, ◌<◌, ◌≤◌, IfOk, IfErr, None, Some, length};
 ghost use Rattle.ds_base.specs.Limits.{greatest_id};
 ghost use Rattle.ds_log.specs.Ids.{unissued_id};
-ghost use Rattle.ds_store.specs.Answered.{HasLooked, HasDrawn, HasSeenNext, AreAtLeast};
-ghost use Rattle.ds_store.specs.Passes.{HasRead};
+ghost use Rattle.ds_store_passes.specs.Answered.{HasLooked, HasDrawn, HasSeenNext, AreAtLeast};
+ghost use Rattle.ds_store_passes.specs.Passes.{HasRead};
 
-use crate::pass::Pass;
 use crate::store::Store;
 use ds_base::Counts;
 use ds_base::limits::FIRST_DRAWN_ID;
 use ds_journal::{IdNotIssued, IdsExhausted};
 use ds_store_hubs::Names;
+use ds_store_passes::Pass;
 use std::sync::Wait;
 
 impl<J: Names, H: Wait + Drop> Store<J, H> {

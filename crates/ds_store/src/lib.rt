@@ -2,18 +2,19 @@
 //! readers that wait for nobody. Every answer is still that of one serial history.
 //!
 //! The journal's commits stand in a `Book` (`ds_journal`) under the journal's lock, beside the writer of a hub (`ds_hub`) that tells
-//! them. Each shard is the state of a hub of its own, whose writer stands under the shard's lock with a reader of the journal and
-//! the entries that wait. What one caller has seen is a `Pass`: a reader of each hub, and seats (`ds_draw`) with which the numbers
-//! of commits and the ids are drawn. Contracts see a pass as its lists: the journal's commits, and of each shard the entries.
+//! them (`ds_store_journal`). Each shard is the state of a hub of its own, whose writer stands under the shard's lock with a reader of the
+//! journal and the entries that wait (`ds_store_shards`). What one caller has seen is a `Pass` (`ds_store_passes`): a reader of each hub,
+//! and seats (`ds_draw`) with which the numbers of commits and the ids are drawn. Contracts see a pass as its lists: the journal's
+//! commits, and of each shard the entries.
 //!
 //! Of a value under a lock only its type is known, so the names of all hubs and words are ghost members of the trait `Names`, in
 //! which the types are generic (`ds_store_hubs`). `open` makes all hubs and words; a function that is generic in `Names` makes the
 //! store of them by `make`, runs it, and closes it; its caller picks the names, at `Brand`.
 //!
 //! Queries (`searching` for those of all shards, `strong` for those of one group) are answered by `ds_engine`, which knows no lock: a pass
-//! enters its shards, which waits for nobody, and leaves them.
+//! enters its shards, which waits for nobody, and leaves them (`ds_store_reads`). This crate takes the locks, and puts the parts together.
 //!
-//! Begin with `specs/Passes.antt`, what contracts see of a pass and of the store, and with `store`.
+//! Begin with `ds_store_passes/specs/Passes.antt`, what contracts see of a pass and of the store, and with `store`.
 //!
 //! A caller that runs a store, generic in its names `J`:
 //!
@@ -27,30 +28,29 @@
 //!     let Closed { journal, next } = store.close(rt, passes);                // needs all passes
 #![tactic(auto)]
 
-mod answers;
 mod applying;
 mod closing;
 mod committing;
-mod desk;
 mod drawing;
+mod loading;
 mod making;
-mod pass;
+mod meeting;
 mod reading;
+mod refused;
 mod searching;
-mod shard_desk;
 mod standing;
-mod states;
 mod store;
 mod strong;
 mod tailing;
 
-pub use answers::{
-    Applied, Expired, GetRefused, Got, NewCause, NewCommit, NewRefused, Settled, Since,
-    StrongRefused,
-};
 pub use closing::Closed;
-pub use ds_engine::states::Answer;
+pub use ds_engine::Answer;
 pub use ds_store_hubs::{JournalState, Names, Opened, open};
-pub use making::{Made, Passes, Tail, make};
-pub use pass::Pass;
+pub use ds_store_passes::{
+    Applied, Expired, GetRefused, Got, NewCause, NewCommit, NewRefused, Pass, Passes, Settled,
+    Shown, Since,
+};
+pub use loading::Loading;
+pub use making::{Made, Tail, make};
+pub use refused::StrongRefused;
 pub use store::Store;

@@ -1,31 +1,23 @@
 //! Queries without an ancestor.
-ghost use Rattle.std.specs.Prelude.{◌≡◌, ◌≢◌, ◌+◌, ◌≤◌, All, None, Some, length, map, IfErr, IfOk, OnErr, OnOk};
+ghost use Rattle.std.specs.Prelude.{◌≡◌, ◌≢◌, ◌+◌, ◌≤◌, All, None, Some, length, IfErr, IfOk, OnErr, OnOk};
 ghost use Rattle.ds_planner.specs.Missing.{Missing};
 ghost use Rattle.ds_query.specs.Lawful.{IsLawfulNormal, SuitsSeveral};
-ghost use Rattle.ds_base.specs.Limits.{most_shards};
-ghost use Rattle.ds_hub.specs.Growing.{AreLonger};
-ghost use Rattle.ds_hub.specs.Holding.{hub_in, known_in};
-ghost use Rattle.ds_engine.specs.Counted.{FindsGlobally, HasBegun, IsCounted};
-ghost use Rattle.ds_store.specs.Passes.{HasRead};
+ghost use Rattle.ds_engine.specs.Counted.{FindsGlobally};
+ghost use Rattle.ds_store_passes.specs.Passes.{HasRead};
 ghost use Rattle.ds_engine.specs.Plans.{ArePlansFor, first_missing};
-ghost use Rattle.ds_store.specs.Searched.{HasCounted};
+ghost use Rattle.ds_store_reads.specs.Searched.{HasCounted};
 ghost use Rattle.ds_engine.specs.Searches.{look_ups, most_of, search_bound};
 ghost use Rattle.ds_engine.specs.Snapshots.{newest};
 
-use crate::pass::Pass;
 use crate::store::Store;
 use ds_base::NoMemory;
-use ds_engine::EngineRefused;
-use ds_engine::states::{Answer, plans_of, query_slots, query_slots_wide};
-use ds_hub::Slot;
-use ds_indexdef::Defs;
+use ds_engine::{Answer, EngineRefused, plans_of};
 use ds_io::{Gate, Steps};
-use ds_log::Entry;
 use ds_planner::ScanPlan;
 use ds_query::{Normal, Window};
-use ds_shard::ShardState;
 use ds_store_hubs::Names;
-use std::alloc::Global;
+use ds_store_passes::Pass;
+use ds_store_reads::{query, query_wide};
 use std::sync::Wait;
 use std::sync::ledger::Ledger;
 use std::thread::Threads;
@@ -82,7 +74,8 @@ impl<J: Names, H: Wait + Drop> Store<J, H> {
             + look_ups q.select (length a.results)) normal.now.branches) }
         ensures read { OnErr result (HasRead pass.old pass.new) }
     {
-        pass.query(
+        query(
+            pass,
             self.alloc,
             &self.definitions,
             self.window,
@@ -134,8 +127,9 @@ impl<J: Names, H: Wait + Drop> Store<J, H> {
         ensures found { IfOk result (λ a. FindsGlobally pass.new.lists normal.now window.now a.results a.next) }
         ensures read { OnErr result (HasRead pass.old pass.new) }
     {
-        pass.query_wide(
+        query_wide(
             rt,
+            pass,
             self.alloc,
             &self.definitions,
             self.window,
@@ -145,154 +139,4 @@ impl<J: Names, H: Wait + Drop> Store<J, H> {
             gate,
         )
     }
-}
-
-impl<J: Names> Pass<J> {
-    /// Enters all shards, answers a query there and leaves them; the place is then no lower than the last commit of the counted entries.
-    fn query<L: Ledger>(
-        &mut self,
-        alloc: Global,
-        defs: &Defs,
-        kept: u64,
-        normal: &Normal,
-        window: &Window,
-        plans: &[ScanPlan],
-        steps: &mut Steps<L>,
-    ) -> Result<Answer, NoMemory>
-        requires lawful { IsLawfulNormal normal.now }
-        requires placeless { SuitsSeveral normal.now.several window.now }
-        requires plans { ArePlansFor J.definitions normal.now.branches plans.now }
-        requires definitions { defs.now ≡ J.definitions }
-        requires kept { (kept ≡ J.window) × (1 ≤ J.window) }
-        ensures counted { IfOk result (λ a. HasCounted self.old self.new a.seen a.beside) }
-        ensures found { IfOk result (λ a. FindsGlobally self.new.lists normal.now window.now a.results a.next) }
-        ensures steps_bounded { IfOk result (λ a. All (λ q. steps.new ≤ (steps.old
-            + search_bound normal.now window.now (most_of normal.now window.now) (newest J.definitions J.window self.new.lists))
-            + look_ups q.select (length a.results)) normal.now.branches) }
-        ensures read { OnErr result (HasRead self.old self.new) }
-    {
-        let answer = query_shards(
-            alloc,
-            &mut self.shards,
-            defs,
-            kept,
-            normal,
-            window,
-            plans,
-            steps,
-        )?;
-        self.place = self.place.max(answer.beside);
-        Ok(answer)
-    }
-
-    /// The same, where the shards are scanned at once and no steps are counted.
-    fn query_wide<R: Threads + Sync, G: Gate + Sync>(
-        &mut self,
-        rt: &R,
-        alloc: Global,
-        defs: &Defs,
-        kept: u64,
-        normal: &Normal,
-        window: &Window,
-        plans: &[ScanPlan],
-        gate: &G,
-    ) -> Result<Answer, NoMemory>
-        requires lawful { IsLawfulNormal normal.now }
-        requires placeless { SuitsSeveral normal.now.several window.now }
-        requires plans { ArePlansFor J.definitions normal.now.branches plans.now }
-        requires definitions { defs.now ≡ J.definitions }
-        requires kept { (kept ≡ J.window) × (1 ≤ J.window) }
-        ensures counted { IfOk result (λ a. HasCounted self.old self.new a.seen a.beside) }
-        ensures found { IfOk result (λ a. FindsGlobally self.new.lists normal.now window.now a.results a.next) }
-        ensures read { OnErr result (HasRead self.old self.new) }
-    {
-        let answer = query_shards_wide(
-            rt,
-            alloc,
-            &mut self.shards,
-            defs,
-            kept,
-            normal,
-            window,
-            plans,
-            gate,
-        )?;
-        self.place = self.place.max(answer.beside);
-        Ok(answer)
-    }
-}
-
-/// What a query finds in these shards, which are entered and left.
-fn query_shards<L: Ledger>(
-    alloc: Global,
-    shards: &mut Vec<Slot<Entry, ShardState>>,
-    defs: &Defs,
-    kept: u64,
-    normal: &Normal,
-    window: &Window,
-    plans: &[ScanPlan],
-    steps: &mut Steps<L>,
-) -> Result<Answer, NoMemory>
-    requires lawful { IsLawfulNormal normal.now }
-    requires placeless { SuitsSeveral normal.now.several window.now }
-    requires plans { ArePlansFor defs.now normal.now.branches plans.now }
-    requires begun { All (HasBegun defs.now kept) shards.old.items }
-    requires kept { 1 ≤ kept }
-    requires some { 1 ≤ length shards.old.items }
-    requires few { length shards.old.items ≤ most_shards }
-    ensures hubs { map hub_in shards.new.items ≡ map hub_in shards.old.items }
-    ensures known { AreLonger (map known_in shards.old.items) (map known_in shards.new.items) }
-    ensures counted { IfOk result (λ a. IsCounted (map known_in shards.new.items) a.seen a.beside) }
-    ensures found { IfOk result (λ a. FindsGlobally (map known_in shards.new.items) normal.now window.now a.results a.next) }
-    ensures steps_bounded { IfOk result (λ a. All (λ q. steps.new ≤ (steps.old
-        + search_bound normal.now window.now (most_of normal.now window.now) (newest defs.now kept (map known_in shards.new.items)))
-        + look_ups q.select (length a.results)) normal.now.branches) }
-{
-    query_slots(
-        alloc,
-        shards.as_mut_slice(),
-        defs,
-        kept,
-        normal,
-        window,
-        plans,
-        steps,
-    )
-}
-
-/// The same, where the shards are scanned at once and no steps are counted.
-fn query_shards_wide<R: Threads + Sync, G: Gate + Sync>(
-    rt: &R,
-    alloc: Global,
-    shards: &mut Vec<Slot<Entry, ShardState>>,
-    defs: &Defs,
-    kept: u64,
-    normal: &Normal,
-    window: &Window,
-    plans: &[ScanPlan],
-    gate: &G,
-) -> Result<Answer, NoMemory>
-    requires lawful { IsLawfulNormal normal.now }
-    requires placeless { SuitsSeveral normal.now.several window.now }
-    requires plans { ArePlansFor defs.now normal.now.branches plans.now }
-    requires begun { All (HasBegun defs.now kept) shards.old.items }
-    requires kept { 1 ≤ kept }
-    requires some { 1 ≤ length shards.old.items }
-    requires few { length shards.old.items ≤ most_shards }
-    ensures hubs { map hub_in shards.new.items ≡ map hub_in shards.old.items }
-    ensures known { AreLonger (map known_in shards.old.items) (map known_in shards.new.items) }
-    ensures counted { IfOk result (λ a. IsCounted (map known_in shards.new.items) a.seen a.beside) }
-    ensures found { IfOk result (λ a. FindsGlobally (map known_in shards.new.items) normal.now window.now a.results a.next) }
-{
-    query_slots_wide(
-        rt,
-        alloc,
-        shards.as_mut_slice(),
-        defs,
-        kept,
-        normal,
-        window,
-        plans,
-        gate,
-    )
 }

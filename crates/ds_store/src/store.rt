@@ -1,13 +1,14 @@
 //! The store.
-ghost use Rattle.std.specs.Prelude.{◌≡◌, ◌≤◌, length};
+ghost use Rattle.std.specs.Prelude.{◌≡◌, ◌<◌, ◌≤◌, IfOk, length};
 ghost use Rattle.std.specs.Sync.Mutex.{mutex_guard_value};
 ghost use Rattle.ds_base.specs.Limits.{most_shards};
 
-use crate::desk::{JournalDesk, Words};
-use crate::shard_desk::ShardDesk;
+use ds_base::NoMemory;
 use ds_indexdef::Defs;
 use ds_store_hubs::{Names, SeatRoom};
-use std::alloc::Global;
+use ds_store_journal::{JournalDesk, Words};
+use ds_store_shards::ShardDesk;
+use std::alloc::{AllocError, Global};
 use std::marker::Model;
 use std::sync::{Condvar, Mutex, MutexGuard, Wait};
 use std::thread;
@@ -31,7 +32,7 @@ pub struct Store<J: Names, H: Wait + Drop> {
 
 impl<J: Names, H: Wait + Drop> Model for Store<J, H> {
     ghost use Rattle.std.specs.Prelude.{◌≡◌, ◌+◌, ◌≤◌, length};
-    ghost use Rattle.ds_store.specs.Passes.{StoreParts};
+    ghost use Rattle.ds_store_passes.specs.Passes.{StoreParts};
 
     ghost Value = { StoreParts };
 
@@ -59,6 +60,24 @@ impl<J: Names, H: Wait + Drop> Store<J, H> {
             thread::yield_now();
         }
         unreachable!()
+    }
+
+    /// The desk of a shard, once its lock is free. It is refused where another shard's desk lies under the lock, which never is: what lies
+    /// there is known by its type alone.
+    pub(crate) fn desk_of<'a, R: Wait>(
+        &'a self,
+        rt: &R,
+        shard: u32,
+    ) -> Result<MutexGuard<'a, ShardDesk<J, H>>, NoMemory>
+        requires { shard < self.now.shards }
+        ensures number { IfOk result (λ desk. (mutex_guard_value desk).number ≡ shard) }
+        ensures shards { IfOk result (λ desk. (mutex_guard_value desk).shards ≡ self.now.shards) }
+    {
+        let desk = self.shards[shard as usize].lock(rt);
+        if desk.number != shard {
+            return Err(AllocError);
+        }
+        Ok(desk)
     }
 
     /// How many shards there are, from 1 to 16. It takes no memory.

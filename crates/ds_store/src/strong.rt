@@ -5,27 +5,24 @@ ghost use Rattle.ds_base.specs.Keys.{KeyParts, root_of};
 ghost use Rattle.ds_log.specs.Shards.{shard_of};
 ghost use Rattle.ds_model.specs.Sessions.{list_of};
 ghost use Rattle.ds_query.specs.Lawful.{IsLawfulNormal, SuitsSeveral};
-ghost use Rattle.ds_engine.specs.Groups.{IsGroupFound, look_ups_of};
 ghost use Rattle.ds_engine.specs.Plans.{ArePlansFor, first_missing};
 ghost use Rattle.ds_engine.specs.Searches.{ancestor_of, look_ups, most_of, search_bound};
 ghost use Rattle.ds_engine.specs.Snapshots.{snapshot_of};
-ghost use Rattle.ds_store.specs.Answered.{IsExpired, WhereExpired};
-ghost use Rattle.ds_store.specs.Passes.{HasRead};
+ghost use Rattle.ds_store_passes.specs.Answered.{IsExpired, WhereExpired};
+ghost use Rattle.ds_store_passes.specs.Passes.{HasRead};
 ghost use Rattle.ds_store.specs.Strong.{IsFoundInGroup, WhereGone, WhereMissing};
 
-use crate::answers::{Expired, GetRefused, StrongRefused};
-use crate::pass::Pass;
+use crate::refused::StrongRefused;
 use crate::store::Store;
-use ds_base::{Key, NoMemory};
-use ds_engine::EngineRefused;
-use ds_engine::states::{Answer, GroupFound, plans_of, query_slot};
+use ds_base::Key;
+use ds_engine::{Answer, GroupFound, plans_of};
 use ds_entity::Seen;
-use ds_indexdef::Defs;
 use ds_io::Steps;
 use ds_planner::ScanPlan;
 use ds_query::{Branch, Normal, Window};
 use ds_store_hubs::Names;
-use std::alloc::Global;
+use ds_store_passes::{Expired, GetRefused, Pass};
+use ds_store_reads::query_in;
 use std::sync::Wait;
 use std::sync::ledger::Ledger;
 
@@ -107,7 +104,8 @@ impl<J: Names, H: Wait + Drop> Store<J, H> {
         let _elems = ancestor.elems();
         let shard = self.shard_of_key(ancestor)?;
         let stand = self.stand(rt, pass, shard, at)?;
-        let found = pass.query_in(
+        let found = query_in(
+            pass,
             self.alloc,
             shard as usize,
             &self.definitions,
@@ -127,10 +125,6 @@ impl<J: Names, H: Wait + Drop> Store<J, H> {
             }),
             GroupFound::Gone { applied, commit } => {
                 pass.stand(commit);
-                if at.is_none() {
-                    // It never comes: the shard was entered before anything above the place was published.
-                    return Err(GetRefused::NoMemory);
-                }
                 Err(GetRefused::Expired(Expired {
                     snapshot: stand.entries,
                     applied,
@@ -148,76 +142,5 @@ fn ancestor_of(branches: &[Branch]) -> Option<&Key>
     match branches {
         [] => None,
         [first, ..] => first.ancestor.as_ref(),
-    }
-}
-
-impl<J: Names> Pass<J> {
-    /// Answers a query with an ancestor in the shard that was entered, at the stamp of so many entries, and leaves.
-    fn query_in<L: Ledger>(
-        &mut self,
-        alloc: Global,
-        shard: usize,
-        defs: &Defs,
-        kept: u64,
-        entries: u64,
-        normal: &Normal,
-        window: &Window,
-        plans: &[ScanPlan],
-        steps: &mut Steps<L>,
-    ) -> Result<GroupFound, NoMemory>
-        requires lawful { IsLawfulNormal normal.now }
-        requires placeless { SuitsSeveral normal.now.several window.now }
-        requires plans { ArePlansFor J.definitions normal.now.branches plans.now }
-        requires definitions { defs.now ≡ J.definitions }
-        requires kept { (kept ≡ J.window) × (1 ≤ J.window) }
-        requires shard { shard < length self.old.lists }
-        requires entries { entries ≤ length (list_of self.old.lists shard) }
-        ensures same { self.new ≡ self.old }
-        ensures found { IfOk result (IsGroupFound (list_of self.old.lists shard) J.window entries normal.now window.now) }
-        ensures steps_bounded { IfOk result (λ f. All (λ q. steps.new ≤ (steps.old
-            + search_bound normal.now window.now (most_of normal.now window.now)
-            (snapshot_of J.definitions J.window (list_of self.old.lists shard) entries ∷ []))
-            + look_ups_of q.select f) normal.now.branches) }
-    {
-        let slot = &mut self.shards[shard];
-        let found = query_slot(
-            alloc, slot, defs, kept, entries, normal, window, plans, steps,
-        );
-        slot.leave();
-        found
-    }
-}
-
-impl From<EngineRefused> for StrongRefused {
-    ghost use Rattle.std.specs.Prelude.{◌≡◌};
-    ghost use Rattle.ds_store.specs.Strong.{from_engine};
-
-    ghost from_gives = { λ refused strong. strong ≡ from_engine refused };
-
-    fn from(refused: EngineRefused) -> StrongRefused {
-        match refused {
-            EngineRefused::MissingIndex {
-                constraint,
-                suggestion,
-            } => StrongRefused::MissingIndex {
-                constraint,
-                suggestion,
-            },
-            EngineRefused::NoMemory => StrongRefused::NoMemory,
-        }
-    }
-}
-
-impl From<GetRefused> for StrongRefused {
-    ghost use Rattle.std.specs.Prelude.{◌≡◌};
-    ghost use Rattle.ds_store.specs.Strong.{from_get};
-
-    ghost from_gives = { λ refused strong. strong ≡ from_get refused };
-
-    fn from(refused: GetRefused) -> StrongRefused {
-        match refused {
-            GetRefused::Expired(expired) => StrongRefused::Expired(expired),
-            GetRefused::NoMemory => StrongRefused::NoMemory,
-        }
     }
 }

@@ -1,62 +1,21 @@
-use Rattle.std.proofs.Common.{◌≡◌, ◌+◌, ◌≤◌, List, length, map, replicate, ap, sym, ◌∙◌, arith}
-use Rattle.std.specs.Prelude.{Option}
-use Rattle.std.proofs.lemmas.List.{length-map}
-use Rattle.ds_base.specs.Limits.{first_drawn_id}
-use Rattle.ds_draw.specs.Draws.{SeatView, new_seat}
-use Rattle.ds_hub.specs.Line.{HubId}
-use Rattle.ds_log.specs.declared.Commit.{Commit}
-use Rattle.ds_shard.specs.Shards.{ShardParts}
-use Rattle.ds_store_hubs.specs.Opening.{OpenedParts}
-use Rattle.ds_store.specs.Passes.{nothing_seen}
+use Rattle.std.proofs.Common.{◌≡◌, ◌≤◌, ◌-◌, ◌∙◌, ◌++◌, ◌∷◌, [], ap, arith, length, replicate}
+use Rattle.ds_store_passes.specs.Loads.{LoadingParts, loaded}
+use Rattle.ds_store_passes.specs.Passes.{PassParts, nothing_seen}
+use Rattle.ds_store.proofs.Loads.{alike_again, nothing_loaded}
 use Rattle.ds_store.proofs.making.make.Goals as goal
 
-pub all_passes-requires-clause-readers : goal.all_passes-requires-clause-readers
-all_passes-requires-clause-readers g c k d low =
-    let hub = ap (λ (o : OpenedParts). o.journal) c.opened.view_is ∙ sym c.requires.names.journal_is in
-    let reader = c.opened.invariant.1 k d low in
-    (reader.0 ∙ hub, reader.1)
-
-pub invariant_of-desk : goal.invariant_of-desk
-invariant_of-desk g c =
-    let own = c.in_ok-commit_keeper.ensures.seat (new_seat g.J.Names.commits 1) c.all_passes.ensures.commits in
-    let drawn = c.in_ok-id_keeper.ensures.seat (new_seat g.J.Names.ids first_drawn_id) c.all_passes.ensures.ids in
-    let one : c.in_ok-commit_keeper.commit_keeper.counter ≡ 1 = ap (λ (s : SeatView). s.counter) own in
-    let none : length c.make.result.journal ≡ 0 = ap (λ (cs : List Commit). length cs) c.make.ensures.journal in
-    record {
-      of_journal = ap (λ (o : OpenedParts). o.journal) c.opened.view_is ∙ sym c.requires.names.journal_is;
-      of_words = (ap (λ (s : SeatView). s.word) own, ap (λ (s : SeatView). s.word) drawn);
-      told = (c.opened.invariant.0.0 ∙ sym c.make.ensures.journal, c.opened.invariant.0.1);
-      next_is = ap (λ (s : SeatView). s.counter) drawn ∙ sym c.make.ensures.next;
-      numbered = omega (arith, one, none);
-      only_looks = (ap (λ (s : SeatView). s.draws) own, ap (λ (s : SeatView). s.draws) drawn);
-    }
-
-pub invariant_of-store-2 : goal.invariant_of-store-2
-invariant_of-store-2 g c =
-    let opened = c.args.opened in
-    let many : length c.opened.inside.shards.items ≡ length g.J.Names.shards = ap (λ (o : OpenedParts). length o.shards) c.opened.view_is
-    ∙ sym (length-map opened.shards (λ (s : HubId × Option ShardParts). s.0))
-    ∙ sym (ap (λ (hs : List HubId). length hs) c.requires.names.shards_are) in
-    let window : c.opened.inside.window ≡ g.J.Names.window = ap (λ (o : OpenedParts). o.window) c.opened.view_is
-    ∙ sym c.requires.names.window_is in (
-      c.in_ok-shards.ensures,
-      (omega (arith, many, c.opened.invariant.2.0), omega (arith, many, c.opened.invariant.2.1)),
-      ap (λ (o : OpenedParts). o.definitions) c.opened.view_is ∙ sym c.requires.names.definitions_are,
-      window,
-      (omega (arith, window, c.opened.invariant.3.0), omega (arith, window, c.opened.invariant.3.1)),
-      (c.opened.invariant.4.1, c.opened.invariant.5.1),
-    )
-
 pub returns-clause-store : goal.returns-clause-store
-returns-clause-store g c =
-    let many = ap (λ (hs : List HubId). length hs) c.requires.names.shards_are
-    ∙ length-map c.args.opened.shards (λ (s : HubId × Option ShardParts). s.0) in
-    (c.in_ok-shards.ensures ∙ many, ap (λ (o : OpenedParts). o.passes) c.opened.view_is)
+returns-clause-store g c = (
+  c.share.ensures.store.0 ∙ ap (λ (l : LoadingParts). l.shards) c.in_ok-loading.ensures,
+  c.share.ensures.store.1 ∙ ap (λ (l : LoadingParts). l.passes) c.in_ok-loading.ensures,
+)
 
 pub returns-clause-passes : goal.returns-clause-passes
 returns-clause-passes g c =
-    let many = ap (λ (hs : List HubId). length hs) c.requires.names.shards_are
-    ∙ length-map c.args.opened.shards (λ (s : HubId × Option ShardParts). s.0) in
-    c.in_ok-list.ensures.passes
-    ∙ ap (λ n. replicate n (nothing_seen (length g.J.Names.shards))) (ap (λ (o : OpenedParts). o.passes) c.opened.view_is)
-    ∙ ap (λ m. replicate c.args.opened.passes (nothing_seen m)) many
+    let n = c.args.opened.passes in
+    let shards = length c.args.opened.shards in
+    let some : 1 ≤ n = omega (arith, c.share.ensures.some, ap (λ (l : LoadingParts). l.passes) c.in_ok-loading.ensures) in
+    c.share.ensures.passes
+    ∙ ap (λ (l : LoadingParts). replicate (l.passes - 1) (nothing_seen l.shards) ++ loaded l.shards l.journal l.next ∷ []) c.in_ok-loading.ensures
+    ∙ ap (λ (p : PassParts). replicate (n - 1) (nothing_seen shards) ++ p ∷ []) (nothing_loaded shards)
+    ∙ alike_again n (nothing_seen shards) some

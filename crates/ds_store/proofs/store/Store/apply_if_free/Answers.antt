@@ -1,9 +1,9 @@
 use Rattle.std.proofs.Common.{rules, ◌≡◌, Option, None, subst, sym}
 use Rattle.std.specs.Prelude.{MatchOption}
-use Rattle.ds_store.specs.Answered.{HasApplied}
-use Rattle.ds_store.specs.Passes.{HasRead}
-use Rattle.ds_store.specs.declared.answers.Applied.{Applied}
-use Rattle.ds_store.proofs.Seeing.{HasRead-itself}
+use Rattle.ds_store_passes.specs.Answered.{HasApplied}
+use Rattle.ds_store_passes.specs.Passes.{HasRead}
+use Rattle.ds_store_passes.specs.declared.answers.Applied.{Applied}
+use Rattle.ds_store_passes.proofs.Seeing.{HasRead-itself}
 use Rattle.ds_store.proofs.store.Store.apply_if_free.Goals as goal
 
 pub returns-in_err-desk : goal.returns-in_err-desk

@@ -1,10 +1,11 @@
-use Rattle.std.proofs.Common.{◌≡◌, ℕ, ◌<◌, ◌≤◌, List, length, ap, sym, subst, ◌∙◌, All}
+use Rattle.std.proofs.Common.{◌≡◌, ℕ, ◌<◌, List, length, ap, sym, subst, ◌∙◌, All}
 use mathlib.Core.List.{IsPrefix}
 use Rattle.ds_draw.specs.Draws.{HasEachOnce, draws_of}
 use Rattle.ds_log.specs.Logs.{shard_list}
+use Rattle.ds_log.specs.declared.Commit.{Commit}
 use Rattle.ds_model.specs.Sessions.{list_of}
-use Rattle.ds_store.specs.Ending.{HaveEnded, IsConfirmed}
-use Rattle.ds_store.specs.Passes.{PassParts, StoreParts}
+use Rattle.ds_store_passes.specs.Ending.{HaveEnded, IsConfirmed}
+use Rattle.ds_store_passes.specs.Passes.{PassParts, StoreParts}
 use Rattle.ds_store.proofs.Ended.{ended}
 use Rattle.ds_store.proofs.store.Store.close.Goals as goal
 
@@ -18,9 +19,13 @@ returns g c =
     let words = c.self.inside.words in
     let next = c.close-next.result in
     let confirmed = subst (All (IsConfirmed shards journal)) c.as_slice.ensures c.confirm_journal.ensures in
-    let each = subst
-    (λ (ps : List PassParts). (s : ℕ) → s < shards → All (λ (p : PassParts). IsPrefix (list_of p.lists s) (shard_list journal s shards)) ps)
+    let told = desk.writer.writer.published in
+    let of_slice = subst
+    (λ (ps : List PassParts). (s : ℕ) → s < shards → All (λ (p : PassParts). IsPrefix (list_of p.lists s) (shard_list told s shards)) ps)
     c.as_slice-2.ensures c.confirm_shards.ensures in
+    let each = subst
+    (λ (js : List Commit). (s : ℕ) → s < shards → All (λ (p : PassParts). IsPrefix (list_of p.lists s) (shard_list js s shards)) passes)
+    desk.told.0 of_slice in
     let each_commit = subst (λ first. HasEachOnce first c.close.result (draws_of seats.result.0)) words.begun.0 c.close.ensures.each_once in
     let each_id = subst (λ first. HasEachOnce first next (draws_of seats.result.1)) words.begun.1 c.close-next.ensures.each_once in
     let all = ended shards passes journal next c.close.result seats.result.0 seats.result.1 desk.commits confirmed each

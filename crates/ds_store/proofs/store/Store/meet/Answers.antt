@@ -1,13 +1,13 @@
-use Rattle.std.proofs.Common.{◌≡◌, ◌≤◌, length, map, get_or, ap, sym, subst, ◌∙◌, arith}
+use Rattle.std.proofs.Common.{◌≡◌, ◌≤◌, length, get_or, ap, sym, subst, ◌∙◌, arith}
 use Rattle.std.proofs.lemmas.List.{length-map}
 use Rattle.std.specs.Prelude.{List}
 use Rattle.ds_log.specs.declared.Entry.{Entry}
 use Rattle.ds_model.specs.Sessions.{count_of}
-use Rattle.ds_store.specs.Passes.{PassParts, StoreParts, counts_of}
+use Rattle.ds_store_passes.specs.Passes.{PassParts, StoreParts, counts_of}
 use Rattle.ds_store.proofs.Meets.{met_all, met_more}
-use Rattle.ds_store.proofs.PassReads.{read_next, read_place}
-use Rattle.ds_store.proofs.Seeing.{HasRead-through}
-use Rattle.ds_store.proofs.SlotLists.{as_many}
+use Rattle.ds_store_passes.proofs.PassReads.{read_next, read_place}
+use Rattle.ds_store_passes.proofs.Seeing.{HasRead-through}
+use Rattle.ds_store_passes.proofs.SlotLists.{as_many}
 use Rattle.ds_store.proofs.store.Store.meet.Goals as goal
 
 pub loop-shard-init : goal.loop-shard-init

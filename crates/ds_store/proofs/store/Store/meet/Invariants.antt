@@ -1,6 +1,6 @@
 use Rattle.std.proofs.Common.{◌≡◌, ◌≤◌, ◌<◌, ℕ, length, get_or}
 use Rattle.ds_model.specs.Sessions.{count_of}
-use Rattle.ds_store.specs.Passes.{HasRead, counts_of}
+use Rattle.ds_store_passes.specs.Passes.{HasRead, counts_of}
 use Rattle.ds_store.proofs.store.Store.meet.Given as goal
 
 -- the counts of the first shards are met

@@ -1,6 +1,6 @@
 use Rattle.std.proofs.Common.{refl, ◌∙◌, arith}
-use Rattle.ds_store.proofs.Seeing.{HasRead-itself, HasRead-through}
-use Rattle.ds_store.proofs.SlotLists.{as_many}
+use Rattle.ds_store_passes.proofs.Seeing.{HasRead-itself, HasRead-through}
+use Rattle.ds_store_passes.proofs.SlotLists.{as_many}
 use Rattle.ds_store.proofs.store.Store.meet_count.Goals as goal
 
 pub loop-init : goal.loop-init

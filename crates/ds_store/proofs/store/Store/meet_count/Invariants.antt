@@ -1,5 +1,5 @@
 use Rattle.std.proofs.Common.{◌≡◌}
-use Rattle.ds_store.specs.Passes.{HasRead}
+use Rattle.ds_store_passes.specs.Passes.{HasRead}
 use Rattle.ds_store.proofs.store.Store.meet_count.Given as goal
 
 -- nothing but more entries is seen

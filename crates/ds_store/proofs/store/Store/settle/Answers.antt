@@ -1,9 +1,9 @@
-use Rattle.std.proofs.Common.{◌≡◌, ◌+◌, ◌≤◌, max, length, refl, ap, sym, subst, ◌∙◌, arith}
+use Rattle.std.proofs.Common.{◌≡◌, ◌+◌, max, length, refl, ap, sym, subst, ◌∙◌, arith}
 use Rattle.std.specs.Prelude.{List}
 use Rattle.ds_log.specs.declared.Entry.{Entry}
-use Rattle.ds_store.specs.Passes.{PassParts, StoreParts, HasRead}
-use Rattle.ds_store.proofs.PassReads.{on_err}
-use Rattle.ds_store.proofs.Seeing.{HasRead-through}
+use Rattle.ds_store_passes.specs.Passes.{StoreParts, HasRead}
+use Rattle.ds_store_passes.proofs.PassReads.{on_err}
+use Rattle.ds_store_passes.proofs.Seeing.{HasRead-through}
 use Rattle.ds_store.proofs.Settles.{AreSettled, settled_all, settled_more}
 use Rattle.ds_store.proofs.store.Store.settle.Goals as goal
 

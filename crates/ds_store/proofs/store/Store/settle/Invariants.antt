@@ -1,4 +1,4 @@
-use Rattle.std.proofs.Common.{◌≡◌, ◌≤◌}
+use Rattle.std.proofs.Common.{◌≡◌}
 use Rattle.ds_store.proofs.Settles.{AreSettled}
 use Rattle.ds_store.proofs.store.Store.settle.Given as goal
 

@@ -1,52 +1,8 @@
-use Rattle.std.proofs.Common.{◌≡◌, ◌≤◌, ◌++◌, max, length, take, ap, sym, subst, ◌∙◌, arith}
-use Rattle.std.specs.Prelude.{slice_set}
-use mathlib.Core.List.{IsPrefix}
-use Rattle.ds_hub.specs.Holding.{Publishing}
-use Rattle.ds_log.specs.declared.Entry.{Entry}
-use Rattle.ds_model.specs.Sessions.{last_commit}
-use Rattle.ds_shard.specs.Shards.{ShardParts}
-use Rattle.ds_store.specs.Standing.{IsSettled}
-use Rattle.ds_log.specs.Logs.{shard_list}
-use Rattle.ds_store.specs.Passes.{PassParts, HasRead}
-use Rattle.ds_store.proofs.Applies.{settled_one}
-use Rattle.ds_store.proofs.PassReads.{on_err, read_place}
-use Rattle.ds_store.proofs.Seeing.{HasRead-itself, HasRead-through}
+use Rattle.ds_store_passes.specs.Passes.{HasRead}
+use Rattle.ds_store_passes.proofs.PassReads.{on_err}
+use Rattle.ds_store_passes.proofs.Seeing.{HasRead-itself}
 use Rattle.ds_store.proofs.store.Store.settle_with.Goals as goal
 
 pub returns-in_err-catch_up-clause-read : goal.returns-in_err-catch_up-clause-read
 returns-in_err-catch_up-clause-read g c =
     on_err c.from_residual.result (HasRead c.args.pass.now c.args.pass.now) (HasRead-itself c.args.pass.now)
-
-pub returns-clause-settled : goal.returns-clause-settled
-returns-clause-settled g c =
-    let desk = c.args.desk.now in
-    let caught = c.catch_up.new.desk in
-    let applied = c.apply_up_to.new.self in
-    let before = c.args.pass.now in
-    let seen = c.see_commits.new.self in
-    let shown = c.show.new.pass in
-    let after = c.stand.new.self in
-    let known = caught.journal.known in
-    let list = applied.writer.writer.published in
-    let number : caught.number ≡ desk.number = c.in_ok-catch_up.ensures.same.0 in
-    let shards : caught.shards ≡ desk.shards = c.in_ok-catch_up.ensures.same.1 in
-    let number_then : applied.number ≡ desk.number = c.in_ok-apply_up_to.ensures.same.0 ∙ number in
-    let journal : after.journal ≡ seen.journal =
-    ap (λ (p : PassParts). p.journal) c.stand.ensures ∙ ap (λ (p : PassParts). p.journal) c.show.ensures.pass in
-    let begins : IsPrefix known after.journal = subst (IsPrefix known) (sym journal) c.see_commits.ensures.seen in
-    let are : c.entries_up_to-entries.result ≡ length (shard_list (take c.args.place known) desk.number desk.shards) =
-    c.entries_up_to-entries.ensures.is ∙ (λ i. length (shard_list (take c.args.place known) (number i) (shards i))) in
-    let lists : after.lists ≡ slice_set before.lists desk.number list =
-    ap (λ (p : PassParts). p.lists) c.stand.ensures ∙ ap (λ (p : PassParts). p.lists) c.show.ensures.pass
-    ∙ (λ i. slice_set (ap (λ (p : PassParts). p.lists) c.see_commits.ensures.pass i) (number_then i) list) in
-    let read : HasRead before after =
-    HasRead-through before seen after c.see_commits.ensures.read
-    (HasRead-through seen shown after c.show.ensures.read (read_place shown after c.last-commit.result c.stand.ensures)) in
-    let high : c.last-commit.result ≤ after.place = omega (arith, ap (λ (p : PassParts). p.place) c.stand.ensures) in
-    let all = settled_one desk.shards desk.number c.args.place before after known list c.entries_up_to-entries.result c.last-commit.result
-    read begins
-    c.in_ok-catch_up.ensures.known are c.in_ok-apply_up_to.ensures.applied lists
-    (c.last-commit.ensures ∙ ap (λ (w : Publishing ShardParts Entry). last_commit w.published) c.show.ensures.desk.3) high in
-    let count : c.published.result ≡ length list =
-    c.published.ensures ∙ ap (λ (w : Publishing ShardParts Entry). length w.published) c.show.ensures.desk.3 in
-    subst (λ n. IsSettled desk.shards before after desk.number c.args.place n c.last-commit.result) (sym count) all

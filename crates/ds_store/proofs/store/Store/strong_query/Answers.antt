@@ -1,6 +1,6 @@
-use Rattle.ds_store.specs.Passes.{HasRead}
-use Rattle.ds_store.proofs.PassReads.{on_err}
-use Rattle.ds_store.proofs.Seeing.{HasRead-itself}
+use Rattle.ds_store_passes.specs.Passes.{HasRead}
+use Rattle.ds_store_passes.proofs.PassReads.{on_err}
+use Rattle.ds_store_passes.proofs.Seeing.{HasRead-itself}
 use Rattle.ds_store.proofs.store.Store.strong_query.Goals as goal
 
 pub returns-in_err-plans-clause-read : goal.returns-in_err-plans-clause-read

@@ -1,16 +1,16 @@
-use Rattle.std.proofs.Common.{◌≡◌, ◌+◌, ◌≤◌, [], ◌∷◌, Some, length, ap, not, refl, subst, sym, ◌∙◌}
+use Rattle.std.proofs.Common.{◌≡◌, ◌+◌, ◌≤◌, [], ◌∷◌, length, ap, refl, subst, sym, ◌∙◌}
 use Rattle.std.specs.Prelude.{All}
 use Rattle.ds_base.specs.Keys.{KeyParts, root_of}
 use Rattle.ds_log.specs.Shards.{shard_of}
 use Rattle.ds_model.specs.Sessions.{list_of}
 use Rattle.ds_engine.specs.Groups.{IsGroupFound, look_ups_of}
-use Rattle.ds_engine.specs.Searches.{ancestor_of, look_ups, most_of, search_bound}
+use Rattle.ds_engine.specs.Searches.{look_ups, most_of, search_bound}
 use Rattle.ds_engine.specs.Snapshots.{SnapshotParts, snapshot_of}
-use Rattle.ds_store.specs.Answered.{IsExpired}
-use Rattle.ds_store.specs.Passes.{HasRead, PassParts}
-use Rattle.ds_store.proofs.Gets.{expired_in}
-use Rattle.ds_store.proofs.PassReads.{on_err}
-use Rattle.ds_store.proofs.Seeing.{HasRead-itself}
+use Rattle.ds_store_passes.specs.Answered.{IsExpired}
+use Rattle.ds_store_passes.specs.Passes.{HasRead, PassParts}
+use Rattle.ds_store.proofs.Gets.{expired_in, inside_one}
+use Rattle.ds_store_passes.proofs.PassReads.{on_err}
+use Rattle.ds_store_passes.proofs.Seeing.{HasRead-itself}
 use Rattle.ds_store.proofs.StrongReads.{bounded_gone, has_root, strong_in}
 use Rattle.ds_store.proofs.store.Store.strong_query_planned.Goals as goal
 
@@ -31,7 +31,7 @@ returns-in-There-clause-found g c = λ ancestor is.
     let found = subst (IsGroupFound (list_of seen.lists shard) g.J.Names.window stand.entries c.args.normal.now c.args.window.now)
     c.in-There.is
     c.in_ok-found.ensures.found in
-    strong_in c.args.self.now.shards shard c.args.pass.now seen c.query_in.new.self key ancestor c.args.at stand.place stand.entries
+    strong_in c.args.self.now.shards shard c.args.pass.now seen c.query_in.new.pass key ancestor c.args.at stand.place stand.entries
     c.args.normal.now c.args.window.now c.in-There.found.results c.in-There.found.next
     c.in_ok-shard.ensures.is named c.query_in.ensures.same (has_root key c.elems-elems.ensures.lawful) is c.in_ok-stand.ensures.stands found
 
@@ -55,8 +55,8 @@ returns-in-There-clause-steps_bounded g c = λ ancestor is.
     + look_ups q.select (length c.in-There.found.results)) n.branches)
     (λ i. snapshot_of g.J.Names.definitions g.J.Names.window (list_of (sym c.query_in.ensures.same i).lists (there i)) stand.entries) bound
 
-pub returns-else-is_none-clause-expired : goal.returns-else-is_none-clause-expired
-returns-else-is_none-clause-expired g c = λ ancestor is.
+pub returns-in-Gone-clause-expired : goal.returns-in-Gone-clause-expired
+returns-in-Gone-clause-expired g c = λ ancestor is.
     let seen = c.stand.new.pass in
     let stand = c.in_ok-stand.stand in
     let shard = c.in_ok-shard.shard in
@@ -68,14 +68,15 @@ returns-else-is_none-clause-expired g c = λ ancestor is.
     subst (λ (k : KeyParts). IsExpired c.args.self.now.shards g.J.Names.window c.args.pass.now c.stand-in-Gone.new.self (root_of k)
     c.args.at
     stand.entries c.in-Gone.applied c.in-Gone.commit) named
-    (expired_in c.args.self.now.shards shard g.J.Names.window c.args.pass.now seen c.query_in.new.self c.stand-in-Gone.new.self key
+    (expired_in c.args.self.now.shards shard g.J.Names.window c.args.pass.now seen c.query_in.new.pass c.stand-in-Gone.new.self key
     c.args.at
     stand.place stand.entries stand.entries c.in-Gone.applied c.in-Gone.commit
     c.in_ok-shard.ensures.is c.query_in.ensures.same c.in_ok-stand.ensures.stands refl gone.applied_is gone.commit_is gone.gone
-    (c.is_none.ensures ∙ ap not c.if-is_none.false) c.stand-in-Gone.ensures)
+    (inside_one c.args.at stand.entries g.J.Names.window (length (list_of seen.lists shard)) c.self.invariant.4.0 c.in_ok-stand.ensures.all
+    gone.gone) c.stand-in-Gone.ensures)
 
-pub returns-else-is_none-clause-steps_gone : goal.returns-else-is_none-clause-steps_gone
-returns-else-is_none-clause-steps_gone g c = λ ancestor is.
+pub returns-in-Gone-clause-steps_gone : goal.returns-in-Gone-clause-steps_gone
+returns-in-Gone-clause-steps_gone g c = λ ancestor is.
     let seen = c.stand.new.pass in
     let stand = c.in_ok-stand.stand in
     let shard = c.in_ok-shard.shard in
@@ -103,5 +104,5 @@ returns-in_default-clause-read g c = HasRead-itself c.args.pass.now
 
 pub returns-in_err-found-clause-read : goal.returns-in_err-found-clause-read
 returns-in_err-found-clause-read g c =
-    on_err c.from_residual-in_err-found.result (HasRead c.args.pass.now c.query_in.new.self)
+    on_err c.from_residual-in_err-found.result (HasRead c.args.pass.now c.query_in.new.pass)
     (subst (HasRead c.args.pass.now) (sym c.query_in.ensures.same) c.in_ok-stand.ensures.stands.read)

@@ -1,2 +1,0 @@
-//! What a shard's state holds.
-pub(crate) mod entity_at;

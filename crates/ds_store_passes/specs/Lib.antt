@@ -1,0 +1,4 @@
+pub mod Passes
+pub mod Answered
+pub mod Ending
+pub mod Loads

@@ -1,0 +1,2 @@
+pub mod KeptStamps
+pub mod QueryLaws

@@ -1,0 +1,44 @@
+use Rattle.std.proofs.Common.{◌+◌, ◌≤◌, List, length, map, subst, sym, ◌∙◌, arith}
+use Rattle.std.specs.Prelude.{All}
+use Rattle.ds_query.specs.declared.branch.Branch.{Branch}
+use Rattle.ds_hub.specs.Holding.{known_in}
+use Rattle.ds_engine.specs.Plans.{ArePlansFor}
+use Rattle.ds_engine.specs.Searches.{look_ups, most_of, search_bound}
+use Rattle.ds_engine.specs.Snapshots.{SnapshotParts, newest}
+use Rattle.ds_store_reads.proofs.QueryLaws.{begun-of, many-origins}
+use Rattle.ds_store_reads.proofs.searching.query.Goals as goal
+
+pub query_shards-requires-clause-plans : goal.query_shards-requires-clause-plans
+query_shards-requires-clause-plans g c =
+    subst (λ d. ArePlansFor d c.args.normal.now.branches c.args.plans.now) (sym c.requires.definitions) c.requires.plans
+
+pub query_shards-requires-clause-begun : goal.query_shards-requires-clause-begun
+query_shards-requires-clause-begun g c =
+    begun-of g.J.Names.definitions c.args.defs.now g.J.Names.window c.args.kept g.J.Names.shards c.pass.inside.shards.items
+    c.requires.definitions c.requires.kept.0 c.pass.invariant.1
+
+pub query_shards-requires-clause-some : goal.query_shards-requires-clause-some
+query_shards-requires-clause-some g c =
+    let many = many-origins g.J.Names.definitions g.J.Names.window g.J.Names.shards c.pass.inside.shards.items c.pass.invariant.1 in
+    let some = c.pass.invariant.5.0 in
+    omega (arith, many, some)
+
+pub query_shards-requires-clause-few : goal.query_shards-requires-clause-few
+query_shards-requires-clause-few g c =
+    let many = many-origins g.J.Names.definitions g.J.Names.window g.J.Names.shards c.pass.inside.shards.items c.pass.invariant.1 in
+    let few = c.pass.invariant.5.1 in
+    omega (arith, many, few)
+
+pub invariant_of-pass : goal.invariant_of-pass
+invariant_of-pass g c =
+    let inv = c.pass.invariant in
+    (inv.0, c.query_shards.ensures.hubs ∙ inv.1, inv.2, inv.3, inv.4, inv.5, inv.6)
+
+pub returns-clause-steps_bounded : goal.returns-clause-steps_bounded
+returns-clause-steps_bounded g c =
+    let n = c.args.normal.now in
+    let w = c.args.window.now in
+    subst (λ (snapshots : List SnapshotParts). All (λ (q : Branch). c.query_shards.new.steps
+    ≤ (c.args.steps.now + search_bound n w (most_of n w) snapshots) + look_ups q.select (length c.in_ok-answer.answer.results)) n.branches)
+    (λ i. newest (c.requires.definitions i) (c.requires.kept.0 i) (map known_in c.query_shards.new.shards.items))
+    c.in_ok-answer.ensures.steps_bounded

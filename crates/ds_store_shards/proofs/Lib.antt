@@ -1,0 +1,5 @@
+pub mod ShardLists
+pub mod EntryOrder
+pub mod Stands
+pub mod Applies
+pub mod Beginnings
