@@ -23,8 +23,8 @@ use Rattle.ds_request.specs.declared.call.Call.TheVariants as call
 use Rattle.ds_model.specs.Groups.{with_transaction}
 use Rattle.ds_model.specs.Refusals.{refusal_of}
 use Rattle.ds_model.specs.Sessions.{Session, Transaction, saw_next, saw_place}
-use Rattle.ds_store.specs.declared.answers.NewCause.{NewCause}
-use Rattle.ds_store.specs.declared.answers.NewCause.TheVariants as new_cause
+use Rattle.ds_store_passes.specs.declared.answers.NewCause.{NewCause}
+use Rattle.ds_store_passes.specs.declared.answers.NewCause.TheVariants as new_cause
 use Rattle.ds_store.specs.Answered.{IsAppended, WhereExhausted}
 use Rattle.ds_store.specs.Passes.{PassParts, HasRead}
 use Rattle.ds_session.specs.Answering.{HasSaid}

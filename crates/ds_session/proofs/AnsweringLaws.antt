@@ -1,16 +1,15 @@
 -- What a request asks, once it is taken apart: its refusals, and that it takes no step.
-use Rattle.std.proofs.Common.{◌≡◌, ◌⊎◌, inl, inr, ℕ, List, refl, ap, sym, ◌∙◌, subst, Bool, true, false, Option, Some, None}
+use Rattle.std.proofs.Common.{◌≡◌, ◌⊎◌, inl, inr, ℕ, List, refl, ap, sym, ◌∙◌, subst, true, Option, Some, None}
 use Rattle.std.specs.Prelude.{IsTrue, Ok, Err, Result}
 use Rattle.ds_indexdef.specs.declared.IndexDef.{IndexDef}
 use Rattle.ds_request.specs.declared.call.Call.{Call}
 use Rattle.ds_request.specs.declared.call.Call.TheVariants as call
 use Rattle.ds_reply.specs.declared.reply.Body.{Body}
 use Rattle.ds_reply.specs.declared.reply.Body.TheVariants as body
-use Rattle.ds_model.specs.Answers.{AskedAnswers, RequestAnswers}
+use Rattle.ds_model.specs.Answers.{RequestAnswers}
 use Rattle.ds_model.specs.Asked.{Search, has_shard, search_of}
 use Rattle.ds_model.specs.Refusals.{refusal_of}
 use Rattle.ds_model.specs.Sessions.{Session}
-use Rattle.ds_model.specs.Worlds.{World}
 use Rattle.ds_protocol.specs.Operations.{IsAlwaysRefused, IsOperationOf, call_of}
 use Rattle.ds_protocol.specs.Refused.{IsRefusal, is_quiet, operation_body}
 use Rattle.ds_protocol.specs.declared.operations.Operation.{Operation}

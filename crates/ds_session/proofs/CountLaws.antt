@@ -1,26 +1,23 @@
 -- Settles, applies and queries without an ancestor: counts of the shards.
-use Rattle.std.proofs.Common.{◌≡◌, ℕ, zero, suc, ◌+◌, ◌<◌, ◌≤◌, List, [], ◌∷◌, length, map, take, refl, ap, sym, ◌∙◌, subst, arith, Bool}
-use Rattle.std.proofs.Common.{true, false, Option, Some, None}
-use Rattle.std.specs.Prelude.{Result, Ok, Err, max, ⊤}
+use Rattle.std.proofs.Common.{◌≡◌, ℕ, ◌+◌, ◌≤◌, List, [], ◌∷◌, length, map, take, refl, ap, sym, subst, arith, Bool}
+use Rattle.std.proofs.Common.{true, false, Option, None}
+use Rattle.std.specs.Prelude.{Ok, ⊤}
 use Rattle.std.proofs.lemmas.List.{take_all}
 use Rattle.ds_indexdef.specs.declared.IndexDef.{IndexDef}
 use Rattle.ds_log.specs.declared.Commit.{Commit}
 use Rattle.ds_log.specs.declared.Entry.{Entry}
-use Rattle.ds_request.specs.declared.call.Call.{Call}
 use Rattle.ds_request.specs.declared.call.Call.TheVariants as call
-use Rattle.ds_request.specs.declared.call.Request.{Request}
-use Rattle.ds_reply.specs.declared.reply.Body.{Body}
 use Rattle.ds_reply.specs.declared.reply.Body.TheVariants as body
 use Rattle.ds_model.specs.Answers as model
 use Rattle.ds_model.specs.Answers.{CountsWithin}
 use Rattle.ds_model.specs.Refusals.{refusal_of}
-use Rattle.ds_model.specs.Sessions.{Session, count_of, counted_place, greater_counts, last_commit, list_of, raised_at, saw_counts}
+use Rattle.ds_model.specs.Sessions.{Session, count_of, counted_place, last_commit, list_of, saw_counts}
 use Rattle.ds_model.specs.Sessions.{saw_place}
 use Rattle.ds_model.specs.Sessions.{saw_shard_count}
 use Rattle.ds_store.specs.Answered.{AllApplied, AppliedCount, AreAtLeast, HasApplied, HasSettled, entries_up_to}
 use Rattle.ds_store.specs.Passes.{PassParts, HasRead, counts_of}
 use Rattle.ds_session.specs.Answering.{HasSaid}
-use Rattle.ds_session.specs.Sessions.{HasGrown, IsWithin, world_seen}
+use Rattle.ds_session.specs.Sessions.{IsWithin, world_seen}
 use Rattle.ds_session.proofs.GrowthLaws.{grown_by_reading}
 use Rattle.ds_session.proofs.SayingLaws.{call_answers, said_quietly}
 use Rattle.ds_session.proofs.SeeingLaws.{counted_at, least_at, least_greater, least_itself, least_longer, least_raised, within_later}

@@ -1,7 +1,7 @@
 -- What the store found, as the answer to a search that was made ready, and the steps that it took.
 use Rattle.std.proofs.Common.{◌≡◌, ◌⊎◌, inl, inr, ℕ, zero, ◌+◌, ◌<◌, ◌≤◌, List, [], ◌∷◌, length, map, refl, ap, sym, ◌∙◌, subst, arith}
 use Rattle.std.proofs.Common.{Bool, true, false, Option, Some, None}
-use Rattle.std.specs.Prelude.{All, Result, Ok, Err, is_some}
+use Rattle.std.specs.Prelude.{All, Ok, is_some}
 use Rattle.std.specs.Option.{option_map}
 use Rattle.std.proofs.lemmas.List.FromFn.{length-map-range_with_len}
 use Rattle.ds_entity.specs.declared.results.Item.{Item}
@@ -43,15 +43,15 @@ use Rattle.ds_protocol.specs.Searches.{IsSearchOf, is_statement, search_parts}
 use Rattle.ds_engine.specs.Counted.{FindsGlobally}
 use Rattle.ds_engine.specs.Plans as states
 use Rattle.ds_engine.specs.Searches.{IsResultOf, ancestor_of, look_ups, most_of, search_bound}
-use Rattle.ds_engine.specs.Snapshots.{SnapshotParts, newest, snapshot_of}
-use Rattle.ds_store.specs.Answered.{HasReadGroup, IsExpired, entries_up_to}
+use Rattle.ds_engine.specs.Snapshots.{SnapshotParts, snapshot_of}
+use Rattle.ds_store.specs.Answered.{HasReadGroup, IsExpired}
 use Rattle.ds_store.specs.Passes.{PassParts, HasRead, counts_of}
 use Rattle.ds_store.specs.Searched.{HasCounted}
 use Rattle.ds_store.specs.Strong.{IsFoundInGroup}
 use Rattle.ds_session.specs.Answering.{HasSaid}
 use Rattle.ds_session.specs.Sessions.{IsWithin, SessionParts}
 use Rattle.ds_session.specs.Standing.{AskedAt}
-use Rattle.ds_session.specs.Steps.{FoundWithin, GoneWithin, IsWithinSteps, Says, SearchSteps, most_scanned, shards_read}
+use Rattle.ds_session.specs.Steps.{IsWithinSteps, Says, SearchSteps, most_scanned, shards_read}
 use Rattle.ds_session.proofs.SayingLaws.{said_after}
 use Rattle.ds_session.proofs.SearchLaws as laws
 use Rattle.ds_session.proofs.SearchLaws.{IsUnrefused, finds}

@@ -1,27 +1,22 @@
 -- Ids: those that are drawn, and the id counter where it refuses them.
-use Rattle.std.proofs.Common.{◌≡◌, ℕ, ◌+◌, ◌-◌, ◌<◌, ◌≤◌, List, [], ◌∷◌, ◌++◌, refl, ap, sym, ◌∙◌, subst, arith, Bool, true, false}
+use Rattle.std.proofs.Common.{◌≡◌, ℕ, ◌+◌, ◌-◌, ◌<◌, ◌≤◌, List, [], ◌∷◌, ◌++◌, refl, ap, sym, ◌∙◌, subst, arith, Bool, true}
 use Rattle.std.proofs.Common.{Option, Some, None}
-use Rattle.std.specs.Prelude.{All, Result, Ok, Err}
+use Rattle.std.specs.Prelude.{All, Ok}
 use Rattle.std.specs.List.{range_with_len}
 use Rattle.std.proofs.lemmas.List.{append-nil}
 use Rattle.std.proofs.lemmas.List.Elements.{All-nil, All-cons}
-use mathlib.Core.List.{IsPrefix}
 use Rattle.ds_entity.specs.declared.entity.Property.{Property}
 use Rattle.ds_base.specs.Keys.{KeyParts}
 use Rattle.ds_base.specs.Limits.{greatest_id}
 use Rattle.ds_draw.specs.Draws.{numbers}
-use Rattle.ds_hub.specs.Growing.{AreLonger}
 use Rattle.ds_indexdef.specs.declared.IndexDef.{IndexDef}
-use Rattle.ds_log.specs.declared.Commit.{Commit}
-use Rattle.ds_log.specs.declared.Entry.{Entry}
 use Rattle.ds_log.specs.Ids.{first_unissued}
 use Rattle.ds_request.specs.declared.call.Call.{Call}
 use Rattle.ds_request.specs.declared.call.Call.TheVariants as call
-use Rattle.ds_request.specs.declared.call.Request.{Request}
 use Rattle.ds_reply.specs.declared.reply.Body.{Body}
 use Rattle.ds_reply.specs.declared.reply.Body.TheVariants as body
 use Rattle.ds_model.specs.Answers.{BodyAnswers}
-use Rattle.ds_model.specs.Legal.{acknowledged_in, accepted_in, printed_next_in, drawn_by}
+use Rattle.ds_model.specs.Legal.{acknowledged_in, accepted_in, printed_next_in}
 use Rattle.ds_model.specs.Refusals.{refusal_of}
 use Rattle.ds_model.specs.Sessions.{Session, saw_next}
 use Rattle.ds_store.specs.Answered.{HasDrawn, HasSeenNext}

@@ -1,7 +1,7 @@
 -- Writes in a transaction: what the calls before them tell is an answer to them.
-use Rattle.std.proofs.Common.{◌≡◌, ℕ, ◌+◌, ◌<◌, ◌≤◌, List, [], ◌∷◌, ◌++◌, length, take, refl, ap, sym, ◌∙◌, subst, arith, Bool, true, false}
+use Rattle.std.proofs.Common.{◌≡◌, ℕ, ◌+◌, ◌<◌, List, [], ◌∷◌, length, take, refl, ap, sym, ◌∙◌, subst, arith, Bool, true, false}
 use Rattle.std.proofs.Common.{cond, Option, Some, None}
-use Rattle.std.specs.Prelude.{IsTrue, Result, is_some, nat_le, unwrap_or}
+use Rattle.std.specs.Prelude.{IsTrue, is_some, nat_le, unwrap_or}
 use Rattle.std.specs.Option.{option_map}
 use Rattle.ds_entity.specs.declared.entity.Property.{Property}
 use Rattle.ds_base.specs.declared.key.Elem.{Elem}

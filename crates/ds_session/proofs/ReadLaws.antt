@@ -1,7 +1,7 @@
 -- Strong reads: gets, queries with an ancestor, and those whose versions are gone.
-use Rattle.std.proofs.Common.{◌≡◌, ℕ, ◌+◌, ◌<◌, ◌≤◌, List, [], ◌∷◌, ◌++◌, length, map, take, refl, ap, sym, ◌∙◌, subst, arith, Option}
+use Rattle.std.proofs.Common.{◌≡◌, ℕ, ◌≤◌, List, length, take, refl, ap, sym, subst, arith, Option}
 use Rattle.std.proofs.Common.{Some, None}
-use Rattle.std.specs.Prelude.{Result, Ok, Err, max}
+use Rattle.std.specs.Prelude.{Ok}
 use Rattle.std.proofs.lemmas.List.{take_all}
 use Rattle.ds_entity.specs.Entities.{EntityParts}
 use Rattle.ds_base.specs.Keys.{KeyParts, root_of}
@@ -9,19 +9,15 @@ use Rattle.ds_indexdef.specs.declared.IndexDef.{IndexDef}
 use Rattle.ds_log.specs.declared.Commit.{Commit}
 use Rattle.ds_log.specs.declared.Entry.{Entry}
 use Rattle.ds_log.specs.Shards.{shard_of}
-use Rattle.ds_log.specs.Touches.{touch_place}
-use Rattle.ds_request.specs.declared.call.Call.{Call}
 use Rattle.ds_request.specs.declared.call.Call.TheVariants as call
-use Rattle.ds_request.specs.declared.call.Request.{Request}
-use Rattle.ds_reply.specs.declared.reply.Body.{Body}
 use Rattle.ds_reply.specs.declared.reply.Body.TheVariants as body
 use Rattle.ds_model.specs.Answers.{ExpiredAnswers, saw_group}
-use Rattle.ds_model.specs.Groups.{IsSeenPlace, StandsAt, ReadsAt, place_in, touching_if, with_transaction}
+use Rattle.ds_model.specs.Groups.{StandsAt, place_in, touching_if, with_transaction}
 use Rattle.ds_model.specs.Refusals.{refusal_of}
-use Rattle.ds_model.specs.Sessions.{Session, Transaction, count_of, last_commit, list_of, raised_at, saw_place, saw_shard_count}
+use Rattle.ds_model.specs.Sessions.{Session, Transaction, last_commit, list_of, saw_place, saw_shard_count}
 use Rattle.ds_store.specs.Answered as store
 use Rattle.ds_store.specs.Answered.{HasLooked, HasReadGroup, IsExpired, IsGot, entries_up_to}
-use Rattle.ds_store.specs.Passes.{PassParts, HasRead, counts_of}
+use Rattle.ds_store.specs.Passes.{PassParts, counts_of}
 use Rattle.ds_session.specs.Answering.{HasSaid}
 use Rattle.ds_session.specs.Sessions.{HasGrown, IsWithin, world_seen}
 use Rattle.ds_session.specs.Standing.{AskedAt, MayReadAt, Touched}

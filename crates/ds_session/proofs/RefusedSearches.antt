@@ -18,14 +18,13 @@ use Rattle.ds_planner.specs.Missing.{Missing, missing_of}
 use Rattle.ds_request.specs.declared.call.Request.{Request}
 use Rattle.ds_reply.specs.declared.reply.Body.{Body}
 use Rattle.ds_reply.specs.declared.reply.Body.TheVariants as body
-use Rattle.ds_model.specs.Answers.{AskedAnswers, RequestAnswers, SearchAnswers, UnlessRefused}
+use Rattle.ds_model.specs.Answers.{RequestAnswers, SearchAnswers, UnlessRefused}
 use Rattle.ds_model.specs.Asked
 use Rattle.ds_model.specs.Groups.{group_refusal, has_none, new_group_refusal, unless_touched}
 use Rattle.ds_model.specs.Refusals.{IfUnrefused, Told, Refused, Places, PlacesRead, ancestor_group_refusal, ancestor_refusal}
 use Rattle.ds_model.specs.Refusals.{cursor_refusal, first_refusal, form_refusal, missing_body, missing_refusal, normal_refusal}
 use Rattle.ds_model.specs.Refusals.{search_refusal}
 use Rattle.ds_model.specs.Sessions.{Session, Transaction}
-use Rattle.ds_model.specs.Worlds.{World}
 use Rattle.ds_protocol.specs.declared.searching.Search.{Search}
 use Rattle.ds_protocol.specs.Preparing.{IsReady, IsRefused}
 use Rattle.ds_protocol.specs.Refused.{IsRefusal, is_quiet}

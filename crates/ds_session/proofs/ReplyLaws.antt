@@ -1,5 +1,5 @@
 -- From what was said to the reply that was written.
-use Rattle.std.proofs.Common.{◌≡◌, ℕ, ◌+◌, ◌≤◌, ◌⊎◌, inl, inr, List, ◌++◌, refl, ap, sym, ◌∙◌, subst, Bool, true, false, Option, Some}
+use Rattle.std.proofs.Common.{◌≡◌, ℕ, ◌+◌, ◌≤◌, ◌⊎◌, inl, inr, List, ◌++◌, refl, sym, subst, Bool, true, false, Option}
 use Rattle.std.specs.Prelude.{Result, IsTrue}
 use Rattle.ds_indexdef.specs.declared.IndexDef.{IndexDef}
 use Rattle.ds_request.specs.declared.call.Request.{Request}
@@ -7,7 +7,6 @@ use Rattle.ds_reply.specs.declared.reply.Body.{Body}
 use Rattle.ds_reply.specs.declared.reply.Body.TheVariants as body
 use Rattle.ds_reply.specs.Replies.{reply_text}
 use Rattle.ds_model.specs.Answers.{AskedAnswers}
-use Rattle.ds_model.specs.Sessions.{Session}
 use Rattle.ds_protocol.specs.Saying.{no_memory_reply}
 use Rattle.ds_store.specs.Passes.{PassParts, HasRead}
 use Rattle.ds_session.specs.Answering.{HasSaid}

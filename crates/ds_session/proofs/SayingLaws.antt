@@ -1,5 +1,5 @@
 -- What is said after earlier calls of the store, and what tells of no commit and of no id.
-use Rattle.std.proofs.Common.{◌≡◌, ℕ, ◌+◌, ◌<◌, ◌≤◌, List, [], ◌∷◌, ◌++◌, refl, ap, sym, ◌∙◌, subst, arith, Bool, true, false, Option}
+use Rattle.std.proofs.Common.{◌≡◌, ℕ, ◌+◌, ◌<◌, ◌≤◌, List, [], ◌++◌, refl, ap, sym, ◌∙◌, subst, Bool, true, false, Option}
 use Rattle.std.proofs.Common.{Some, None}
 use Rattle.std.specs.Prelude.{All, Result, Ok, Err}
 use Rattle.std.proofs.lemmas.List.{append-nil}
@@ -21,7 +21,7 @@ use Rattle.ds_protocol.specs.Refused.{is_quiet}
 use Rattle.ds_store.specs.Ending.{Begins}
 use Rattle.ds_store.specs.Passes.{PassParts, HasRead}
 use Rattle.ds_session.specs.Answering.{HasSaid}
-use Rattle.ds_session.specs.Sessions.{HasGrown, IsWithin, world_seen}
+use Rattle.ds_session.specs.Sessions.{IsWithin, world_seen}
 use Rattle.ds_session.proofs.GrowthLaws.{answers_go_on, grown_by_reading, grown_through}
 use Rattle.ds_session.proofs.SeeingLaws.{within_later}
 

@@ -1,7 +1,7 @@
 -- Queries and statements: what the store finds is an answer to them.
-use Rattle.std.proofs.Common.{◌≡◌, ℕ, zero, ◌+◌, ◌<◌, ◌≤◌, List, [], ◌∷◌, length, map, refl, ap, sym, ◌∙◌, subst, arith, Bool, true}
+use Rattle.std.proofs.Common.{◌≡◌, ℕ, zero, ◌<◌, ◌≤◌, List, [], ◌∷◌, length, map, refl, ap, sym, ◌∙◌, subst, arith, Bool, true}
 use Rattle.std.proofs.Common.{false, Option, Some, None}
-use Rattle.std.specs.Prelude.{All, Result, Ok, Err}
+use Rattle.std.specs.Prelude.{All, Ok}
 use Rattle.ds_entity.specs.declared.results.Item.{Item}
 use Rattle.ds_entity.specs.declared.results.Seen.{Seen}
 use Rattle.ds_entity.specs.declared.results.Seen.TheVariants as looked
@@ -24,7 +24,7 @@ use Rattle.ds_request.specs.declared.call.Request.{Request}
 use Rattle.ds_reply.specs.declared.reply.Body.{Body}
 use Rattle.ds_reply.specs.declared.reply.Body.TheVariants as body
 use Rattle.ds_model.specs.Answers.{AskedAnswers, BodyAnswers, Finds, cursor_of, page_over, window_of, FoundOver, RequestAnswers}
-use Rattle.ds_model.specs.Answers.{SearchAnswers, SearchRefusedOrAnswered, UnlessRefused, ExpiredUnder, saw_group}
+use Rattle.ds_model.specs.Answers.{SearchAnswers, UnlessRefused, ExpiredUnder, saw_group}
 use Rattle.ds_model.specs.Asked.{Search, search_of}
 use Rattle.ds_model.specs.Refusals.{IfUnrefused, Places, PlacesRead, form_refusal, search_refusal}
 use Rattle.ds_model.specs.Results.{items_of, result}

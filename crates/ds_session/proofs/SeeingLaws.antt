@@ -1,19 +1,16 @@
 -- What a client sees stays within what its pass has seen.
-use Rattle.std.proofs.Common.{◌≡◌, ℕ, zero, suc, ◌+◌, ◌<◌, ◌≤◌, List, [], ◌∷◌, ◌++◌, length, map, take, refl, ap, sym, ◌∙◌, subst, arith}
-use Rattle.std.proofs.Common.{length-append, get_or, Bool, true, false, cond, Option, Some, None}
-use Rattle.std.specs.Prelude.{max, All, slice_get, unwrap_or, is_some}
-use Rattle.std.proofs.lemmas.List.{take_all}
+use Rattle.std.proofs.Common.{◌≡◌, ℕ, zero, suc, ◌+◌, ◌≤◌, List, [], ◌∷◌, ◌++◌, length, map, refl, arith}
+use Rattle.std.proofs.Common.{Bool, true, false, cond, Option, Some, None}
+use Rattle.std.specs.Prelude.{All}
 use Rattle.std.proofs.lemmas.List.Elements.{All-push, All-weaker}
-use mathlib.Core.List.{IsPrefix}
 use Rattle.ds_hub.specs.Growing.{AreLonger}
 use Rattle.ds_base.specs.Keys.{KeyParts}
 use Rattle.ds_base.specs.KeyOrder.{same_key}
-use Rattle.ds_log.specs.declared.Commit.{Commit}
 use Rattle.ds_log.specs.declared.Entry.{Entry}
 use Rattle.ds_log.specs.declared.Touch.{Touch}
 use Rattle.ds_log.specs.JournalLaws.{AreIssued-rises}
 use Rattle.ds_log.specs.Touches.{touch_place, with_touch, is_touched}
-use Rattle.ds_model.specs.Groups.{StandsAt, IsSeenPlace, place_in, touching, touching_if, with_transaction}
+use Rattle.ds_model.specs.Groups.{touching, touching_if, with_transaction}
 use Rattle.ds_model.specs.Sessions.{Session, Transaction, count_of, greater_counts, list_of, raised_at, saw_place, saw_next, saw_entries}
 use Rattle.ds_store.specs.Answered.{AreAtLeast}
 use Rattle.ds_store.specs.Passes.{PassParts, counts_of}

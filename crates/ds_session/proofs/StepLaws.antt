@@ -1,17 +1,15 @@
 -- The steps of an answered line, told of a session in place of its state, whose room is another.
-use Rattle.std.proofs.Common.{◌≡◌, ◌⊎◌, inl, inr, ℕ, List, refl, ap, sym, ◌∙◌, subst, Option, Some, None}
-use Rattle.std.specs.Prelude.{Ok, Err, Result, IsTrue}
+use Rattle.std.proofs.Common.{◌≡◌, inl, inr, ℕ, List, ap, sym, ◌∙◌, subst, Option, Some, None}
+use Rattle.std.specs.Prelude.{Ok, Err, Result}
 use Rattle.ds_indexdef.specs.declared.IndexDef.{IndexDef}
-use Rattle.ds_request.specs.declared.call.Call.{Call}
 use Rattle.ds_request.specs.declared.call.Request.{Request}
-use Rattle.ds_request.specs.Lawful.{IsLawfulCall}
 use Rattle.ds_reply.specs.declared.reply.Body.{Body}
-use Rattle.ds_model.specs.Asked.{Search, has_shard, search_of}
+use Rattle.ds_model.specs.Asked.{Search, search_of}
 use Rattle.ds_asked.specs.declared.lines.Asked.{Asked}
 use Rattle.ds_asked.specs.AskedLines.{IsLawful, was_read, read_as}
 use Rattle.ds_session.specs.Replying.{request_of}
 use Rattle.ds_session.specs.Sessions.{SessionParts}
-use Rattle.ds_session.specs.Steps.{FoundWithin, GoneWithin, IsWithinSteps, SearchSteps}
+use Rattle.ds_session.specs.Steps.{IsWithinSteps, SearchSteps}
 
 module _ (definitions : List IndexDef) (window shards number : ℕ) (before after : SessionParts) (old new room left : ℕ) where
   other-room : (read : Result Request (ℕ × Body)) → IsWithinSteps definitions window shards number read before after old new

@@ -1,8 +1,8 @@
 -- From one reply of a session to an answered line, and replies to lines that ask nothing.
-use Rattle.std.proofs.Common.{◌≡◌, ℕ, ◌+◌, ◌<◌, ◌≤◌, List, [], ◌∷◌, ◌++◌, length, map, replicate, zero, suc, refl, ap, sym, ◌∙◌, subst}
+use Rattle.std.proofs.Common.{◌≡◌, ℕ, ◌+◌, ◌<◌, ◌≤◌, List, [], ◌∷◌, ◌++◌, length, map, replicate, suc, refl, ap, sym, ◌∙◌, subst}
 use Rattle.std.proofs.Common.{arith, Bool, true}
-use Rattle.std.proofs.Common.{false, Option, Some, None}
-use Rattle.std.specs.Prelude.{All, IsTrue, Result, Ok, Err}
+use Rattle.std.proofs.Common.{false, Option}
+use Rattle.std.specs.Prelude.{IsTrue, Result, Err}
 use Rattle.std.proofs.lemmas.List.{append-nil}
 use Rattle.std.proofs.lemmas.List.Elements.{All-same, All-nil}
 use Rattle.ds_base.specs.Limits.{first_drawn_id, greatest_client}
@@ -21,7 +21,7 @@ use Rattle.ds_model.specs.Worlds.{World, world_of}
 use Rattle.ds_protocol.specs.Quiet.{IsQuiet}
 use Rattle.ds_protocol.specs.Saying.{no_memory_reply}
 use Rattle.ds_store.specs.Answered.{AreAtLeast}
-use Rattle.ds_store.specs.Passes.{PassParts, HasRead, counts_of}
+use Rattle.ds_store.specs.Passes.{PassParts, HasRead}
 use Rattle.ds_asked.specs.declared.lines.Asked.{Asked}
 use Rattle.ds_session.specs.Answering.{HasAnswered, HasSaid}
 use Rattle.ds_asked.specs.AskedLines.{Asks, was_read}

@@ -1,22 +1,16 @@
 -- Transactions: their beginning, their commit, and how they end.
-use Rattle.std.proofs.Common.{◌≡◌, ℕ, ◌+◌, ◌-◌, ◌<◌, ◌≤◌, List, [], ◌∷◌, ◌++◌, length, take, refl, ap, sym, ◌∙◌, subst, arith, Bool, true}
+use Rattle.std.proofs.Common.{◌≡◌, ℕ, ◌-◌, ◌<◌, ◌≤◌, List, [], ◌∷◌, length, take, refl, ap, sym, ◌∙◌, subst, arith, Bool}
 use Rattle.std.proofs.Common.{Option, Some, None}
-use Rattle.std.specs.Prelude.{All, Result, Ok, Err, slice_get}
-use Rattle.std.proofs.lemmas.List.{append-nil, take_all}
+use Rattle.std.specs.Prelude.{Ok, slice_get}
+use Rattle.std.proofs.lemmas.List.{take_all}
 use Rattle.std.proofs.lemmas.List.Elements.{All-nil}
 use Rattle.std.proofs.Math.Seq.{take-append_seam}
-use Rattle.ds_base.specs.Keys.{KeyParts}
 use Rattle.ds_indexdef.specs.declared.IndexDef.{IndexDef}
 use Rattle.ds_log.specs.declared.Commit.{Commit}
 use Rattle.ds_log.specs.declared.Conflict.{Conflict}
 use Rattle.ds_log.specs.declared.Touch.{Touch}
-use Rattle.ds_log.specs.declared.Write.{Write}
 use Rattle.ds_log.specs.Conflicts.{IsCommitted, conflict_of}
-use Rattle.ds_log.specs.Ids.{AreIssued}
-use Rattle.ds_request.specs.declared.call.Call.{Call}
 use Rattle.ds_request.specs.declared.call.Call.TheVariants as call
-use Rattle.ds_request.specs.declared.call.Request.{Request}
-use Rattle.ds_reply.specs.declared.reply.Body.{Body}
 use Rattle.ds_reply.specs.declared.reply.Body.TheVariants as body
 use Rattle.ds_model.specs.Answers.{TransactionAnswers, begun, commit_of}
 use Rattle.ds_model.specs.Groups.{with_transaction}
@@ -25,7 +19,7 @@ use Rattle.ds_model.specs.Sessions.{Session, Transaction, saw_place}
 use Rattle.ds_store.specs.Answered.{IsAppended, IsConflict}
 use Rattle.ds_store.specs.Passes.{PassParts, HasRead}
 use Rattle.ds_session.specs.Answering.{HasSaid}
-use Rattle.ds_session.specs.Sessions.{HasGrown, IsWithin, world_seen}
+use Rattle.ds_session.specs.Sessions.{IsWithin, world_seen}
 use Rattle.ds_session.proofs.GrowthLaws.{answers_go_on, grown_by_reading}
 use Rattle.ds_session.proofs.SayingLaws.{call_answers, said_quietly}
 use Rattle.ds_session.proofs.SeeingLaws.{within_later, within_place, within_transaction}

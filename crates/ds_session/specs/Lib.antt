@@ -1,10 +1,9 @@
 pub mod Answering
-pub mod Clients
 pub mod Committing
+pub mod Meeting
 pub mod Refusing
 pub mod Replying
 pub mod Room
-pub mod Runs
 pub mod Sessions
 pub mod Standing
 pub mod Steps

@@ -9,7 +9,7 @@ ghost use Rattle.ds_rounds.specs.Rounds.{NumberedLine};
 ghost use Rattle.ds_session.specs.Answering.{HasAnswered};
 ghost use Rattle.ds_asked.specs.AskedLines.{Asks, MayBeAnswered, was_read};
 ghost use Rattle.ds_session.specs.Room.{most_no_memory};
-ghost use Rattle.ds_session.specs.Runs.{HasTaken};
+ghost use Rattle.ds_session.specs.Meeting.{HasTaken};
 ghost use Rattle.ds_session.specs.Sessions.{IsWithin};
 ghost use Rattle.ds_session.specs.Steps.{IsWithinSteps};
 
@@ -82,7 +82,7 @@ impl<J: Names> Session<J> {
     }
 
     /// A session of a client that has seen nothing, without room for replies. It takes no memory.
-    pub(crate) fn first(alloc: Global, pass: Pass<J>, client: u32, seen: Watermark) -> Session<J>
+    pub fn first(alloc: Global, pass: Pass<J>, client: u32, seen: Watermark) -> Session<J>
         requires client { client ≤ greatest_client }
         requires seen { seen ≡ first_session (length pass.lists) }
         ensures client { result.client ≡ client }
@@ -137,7 +137,7 @@ impl<J: Names> Session<J> {
     }
 
     /// The same for any number of lines.
-    pub(crate) fn make_room_for(&mut self, lines: usize) -> Result<(), NoMemory>
+    pub fn make_room_for(&mut self, lines: usize) -> Result<(), NoMemory>
         ensures same { self.new ≡ record self.old { room = self.new.room } }
         ensures room { OnOk result (lines * most_no_memory ≤ self.new.room) }
         ensures kept { self.old.room ≤ self.new.room }
@@ -179,7 +179,7 @@ impl<J: Names> Session<J> {
     }
 
     /// Answers what a line of this client asks.
-    pub(crate) fn answer_asked<R: Threads + Wait + Sync, H: Wait + Drop, L: Ledger>(
+    pub fn answer_asked<R: Threads + Wait + Sync, H: Wait + Drop, L: Ledger>(
         &mut self,
         rt: &R,
         store: &Store<J, H>,
@@ -228,7 +228,7 @@ impl<J: Names> Session<J> {
     }
 
     /// The client takes what this one has seen, and the pass sees as much. No reply may be left from an earlier round.
-    pub(crate) fn meet<R: Wait, H: Wait + Drop>(
+    pub fn meet<R: Wait, H: Wait + Drop>(
         &mut self,
         rt: &R,
         store: &Store<J, H>,
@@ -253,34 +253,27 @@ impl<J: Names> Session<J> {
         state.seen.raise(greatest);
     }
 
-    /// Where the session takes its memory.
-    pub(crate) fn alloc(&self) -> Global {
+    /// Where the session takes its memory. Contracts see nothing of an allocator.
+    pub fn alloc(&self) -> Global {
         self.state.alloc
     }
 
-    /// How many shards the store has.
-    pub(crate) fn shards(&self) -> u32
-        ensures { result ≡ length self.now.seen.counts }
-    {
-        self.state.pass.shards()
-    }
-
     /// The replies that are not written yet.
-    pub(crate) fn text(&self) -> &[u8]
+    pub fn text(&self) -> &[u8]
         ensures { result.now ≡ self.now.text }
     {
         self.state.text.bytes()
     }
 
     /// Takes the replies out. The room that they had stays.
-    pub(crate) fn clear_text(&mut self)
+    pub fn clear_text(&mut self)
         ensures { self.new ≡ record self.old { text = [] } }
     {
         self.state.text.clear();
     }
 
     /// Gives the replies for an empty text.
-    pub(crate) fn swap_text(&mut self, text: &mut Buffer)
+    pub fn swap_text(&mut self, text: &mut Buffer)
         requires { text.old.bytes ≡ [] }
         ensures session { self.new ≡ record self.old { text = []; room = 0 } }
         ensures text { text.new.bytes ≡ self.old.text }
@@ -290,7 +283,7 @@ impl<J: Names> Session<J> {
     }
 
     /// What the client has seen, whatever its transaction.
-    pub(crate) fn seen(&self) -> &Watermark
+    pub fn seen(&self) -> &Watermark
         ensures { with_transaction None result.now ≡ with_transaction None self.now.seen }
     {
         &self.state.seen

@@ -1,5 +1,5 @@
 //! Which searches go over all shards at once.
-ghost use Rattle.std.specs.Prelude.{◌≡◌, ◌<◌, ◌↔◌, IsTrue, None};
+ghost use Rattle.std.specs.Prelude.{◌<◌, ◌↔◌, IsTrue};
 ghost use Rattle.ds_protocol.specs.Searches.{search_parts};
 ghost use Rattle.ds_session.specs.Wide.{GoesWide, entries_seen, most_scanned_by_one};
 

@@ -1,8 +1,7 @@
-use Rattle.std.proofs.Common.{◌≡◌, ◌+◌, ◌≤◌, Option, List, [], ◌∷◌, ◌++◌, refl, ap, sym, ◌∙◌, subst, Some, None}
+use Rattle.std.proofs.Common.{◌≡◌, ◌+◌, ◌≤◌, Option, [], ◌∷◌, ◌++◌, refl, ap, sym, ◌∙◌, subst, Some, None}
 use Rattle.std.specs.Prelude.{is_some}
 use Rattle.ds_base.specs.Keys.{root_of}
 use Rattle.ds_log.specs.Shards.{shard_of}
-use Rattle.ds_reply.specs.declared.reply.Body.{Body}
 use Rattle.ds_reply.specs.Replies.{reply_text}
 use Rattle.ds_model.specs.Groups.{group_refusal, with_transaction}
 use Rattle.ds_model.specs.Sessions.{Transaction, list_of, saw_entries}
@@ -13,13 +12,12 @@ use Rattle.ds_engine.specs.Searches.{most_of, search_bound}
 use Rattle.ds_engine.specs.Snapshots.{snapshot_of}
 use Rattle.ds_store.specs.Answered.{IsExpired, WhereExpired}
 use Rattle.ds_session.specs.Sessions.{SessionParts}
-use Rattle.ds_session.specs.Steps.{shards_read}
 use Rattle.ds_session.proofs.FoundLaws.{ancestor_is, ancestor_under, found_steps_from, gone_steps_from, gone_told, group_said, group_shards}
 use Rattle.ds_session.proofs.FoundLaws.{plans_kept, read_seen}
 use Rattle.ds_session.proofs.GrowthLaws.{read_itself, read_through}
 use Rattle.ds_session.proofs.SayingLaws.{said_after}
 use Rattle.ds_session.proofs.StandingLaws.{asked_at, expired_commit, within_same}
-use Rattle.ds_session.proofs.StateLaws.{later_from, none_from, told_from, within_parts, within_read}
+use Rattle.ds_session.proofs.StateLaws.{later_from, none_from, told_from, within_parts}
 use Rattle.ds_session.proofs.state.State.find_there.Goals as goal
 
 pub strong_query_planned-asked-requires-clause-plans : goal.strong_query_planned-asked-requires-clause-plans

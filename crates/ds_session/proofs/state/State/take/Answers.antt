@@ -4,7 +4,6 @@ use Rattle.ds_base.specs.declared.key.Elem.{Elem}
 use Rattle.ds_base.specs.Keys.{KeyParts, root_of}
 use Rattle.ds_log.specs.Ids.{first_unissued}
 use Rattle.ds_log.specs.Logs.{key_of}
-use Rattle.ds_reply.specs.declared.reply.Body.{Body}
 use Rattle.ds_reply.specs.declared.reply.WriteAt.TheVariants as at
 use Rattle.ds_reply.specs.Replies.{reply_text}
 use Rattle.ds_model.specs.Groups.{with_transaction}

@@ -1,0 +1,9 @@
+pub mod ClientLaws
+pub mod ClosingLaws
+pub mod KeptLaws
+pub mod MeetingLaws
+pub mod OwnLaws
+pub mod RoundLaws
+pub mod RunLaws
+pub mod SeatLaws
+pub mod TextLaws

@@ -1,0 +1,6 @@
+use Rattle.std.proofs.Common.{◌≡◌, replicate}
+use Rattle.ds_model.specs.Sessions.{first_session}
+use Rattle.ds_clients.proofs.clients.first_marks.Given as goal
+
+abbrev pub invariant-loop-client : goal.invariant-loop-client
+invariant-loop-client l = l.seen.items ≡ replicate l._client (first_session l.shards)

@@ -1,0 +1,10 @@
+-- The clients so far have met.
+use Rattle.std.proofs.Common.{◌≡◌, length}
+use Rattle.ds_session.specs.Meeting.{HasTaken}
+use Rattle.ds_clients.proofs.ClientLaws.{DoneBelow}
+use Rattle.ds_clients.proofs.clients.meet_all.Given as goal
+
+abbrev pub invariant-loop-client : goal.invariant-loop-client
+invariant-loop-client g l =
+    DoneBelow (λ c d. HasTaken l.greatest.seen c.session d.session × (d.own.items ≡ c.own.items) × (d.session.room ≡ c.session.room)
+    × (length d.session.seen.counts ≡ length c.session.seen.counts)) l.client-index l.fn.clients l.client-items

@@ -1,7 +1,0 @@
-use Rattle.std.proofs.Common.{◌≡◌, []}
-use Rattle.ds_session.proofs.ClientLaws.{DoneBelow}
-use Rattle.ds_session.proofs.clients.clear_texts.Given as goal
-
-abbrev pub invariant-loop-client : goal.invariant-loop-client
-invariant-loop-client g l =
-    DoneBelow (λ c d. d.session ≡ record c.session { text = [] }) l.client-index l.fn.clients l.client-items

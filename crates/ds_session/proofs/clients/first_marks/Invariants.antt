@@ -1,6 +1,0 @@
-use Rattle.std.proofs.Common.{◌≡◌, replicate}
-use Rattle.ds_model.specs.Sessions.{first_session}
-use Rattle.ds_session.proofs.clients.first_marks.Given as goal
-
-abbrev pub invariant-loop-client : goal.invariant-loop-client
-invariant-loop-client l = l.seen.items ≡ replicate l._client (first_session l.shards)
