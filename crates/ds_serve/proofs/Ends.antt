@@ -2,8 +2,8 @@
 use Rattle.std.proofs.Common.{◌≡◌, ◌⊎◌, inl, inr, ℕ, ◌+◌, ◌-◌, ◌<◌, ◌≤◌, List, [], ◌∷◌, ◌++◌, length, refl, ap, sym, ◌∙◌}
 use Rattle.std.proofs.Common.{subst, arith}
 use Rattle.std.proofs.Common.{true, false, Option, Some, None, length-append}
-use Rattle.std.specs.Prelude.{All, IfSome, IsPermutation, IsSome, Ok, flat_map}
-use Rattle.std.specs.Io.KnownBytes.{Appends, Consumes}
+use Rattle.std.specs.Prelude.{All, IfSome, IsPermutation, IsSome, flat_map}
+use Rattle.std.specs.Io.KnownBytes.{Consumes}
 use Rattle.std.specs.List.{range_with_len}
 use Rattle.std.proofs.lemmas.List.{length-replicate}
 use Rattle.std.proofs.lemmas.Grind.{flat_map-append}
@@ -11,29 +11,26 @@ use Rattle.std.proofs.lemmas.List.Elements.{All-nil, All-cons, All-head, All-tai
 use Rattle.std.proofs.lemmas.List.Sorted.{IsPermutation-append_comm, IsPermutation-refl, IsPermutation-trans}
 use Rattle.ds_base.specs.Limits.{first_drawn_id, greatest_client, most_input_bytes}
 use Rattle.ds_draw.specs.Draws.{numbers}
-use Rattle.ds_io.specs.FaultLaws.{Rose-next_count}
-use Rattle.ds_io.specs.Faults.{Rose, next_count}
 use Rattle.std.proofs.KnownBytes.{Appends-nil, Consumes-nil}
-use Rattle.ds_rounds.specs.Reading.{ReaderParts, ReadsRound, first_reader}
-use Rattle.ds_rounds.specs.Rounds.{lines_of_round, rounds_in}
-use Rattle.ds_rounds.specs.declared.round.Round.{Round}
+use Rattle.ds_rounds.specs.Rounds.{rounds_in}
 use Rattle.ds_log.specs.declared.Commit.{Commit}
 use Rattle.ds_serve.specs.declared.outcome.Run.{Run}
 use Rattle.ds_serve.specs.declared.stopped.Stopped.{Stopped}
-use Rattle.ds_serve.specs.Runs.{HasTaken, IsBelow, IsLegalRun, IsSteady}
-use Rattle.ds_serve.specs.RunSteps.{HasBegun, HasEnded, IsRunOf, RanFrom}
-use Rattle.ds_serving.specs.Rounds.{HasNone, HasServed, HasStopped, IsEnd}
-use Rattle.ds_serving.specs.Runs.{WasSetUp, WereRun, Wrote, read_faults, write_faults}
+use Rattle.ds_serve.specs.Runs.{IsLegalRun}
+use Rattle.ds_serve.specs.RunSteps.{HasEnded, IsRunOf, Ran}
+use Rattle.ds_serving.specs.Rounds.{RanFrom, HasStopped}
+use Rattle.ds_serving.specs.Runs.{HasBegun, HasTaken, WasSetUp, WereRun, Wrote, read_faults, write_faults}
 use Rattle.ds_serving.specs.Settings.{IsSetting}
 use Rattle.ds_serving.specs.declared.settings.Setting.{Setting}
-use Rattle.ds_serving.proofs.Alike.{all_sessions, length-passes, run_alike}
-use Rattle.ds_serving.proofs.RoundLaws.{all_wrote, ends_here, ends_unsent, served_nothing, served_round, was_set_up}
-use Rattle.ds_session.specs.Clients.{AreAlike, AreNew, WrotePart}
-use Rattle.ds_session.specs.Runs.{HaveRun, IsIdle, passes_of, seen_of, texts_of}
+use Rattle.ds_serving.proofs.Alike.{all_sessions, length-passes}
+use Rattle.ds_serving.proofs.EndLaws.{taken}
+use Rattle.ds_serving.proofs.RoundLaws.{all_wrote, served_nothing, was_set_up}
+use Rattle.ds_clients.specs.Clients.{AreNew}
+use Rattle.ds_clients.specs.Runs.{IsIdle, passes_of, seen_of}
 use Rattle.ds_session.specs.Sessions.{SessionParts}
 use Rattle.ds_protocol.specs.Watermarks.{HaveCounts}
-use Rattle.ds_session.proofs.ClosingLaws.{idle_first, legal_run}
-use Rattle.ds_session.proofs.RoundLaws.{run_more, run_nothing}
+use Rattle.ds_clients.proofs.ClosingLaws.{idle_first, legal_run}
+use Rattle.ds_clients.proofs.RoundLaws.{run_nothing}
 use Rattle.ds_store.specs.Ending.{Begins, HaveEnded}
 use Rattle.ds_store.specs.Passes.{nothing_seen}
 use Rattle.ds_store.specs.Passes.{PassParts}
@@ -48,61 +45,17 @@ false_true is = cc
 -- ---- rounds
 
 -- new sessions, before the first round
-pub first_run : (setting : Setting) (first : List SessionParts) → AreNew setting.shards first → RanFrom setting [] first []
-first_run setting first new = run_nothing setting.defs setting.shards (Some setting.window) first new.seen many idle where
-  many : length first ≡ greatest_client + 1
-  many = sym (length-passes first) ∙ ap (λ (ps : List PassParts). length ps) new.passes
-      ∙ length-replicate (greatest_client + 1) (nothing_seen setting.shards)
+pub first_run : (setting : Setting) (first : List SessionParts) → AreNew setting.shards first → Ran setting [] first []
+first_run setting first new =
+    subst (λ seen. RanFrom setting seen [] first []) new.seen
+    (run_nothing setting.defs setting.shards (Some setting.window) first many idle) where
+      many : length first ≡ greatest_client + 1
+      many = sym (length-passes first) ∙ ap (λ (ps : List PassParts). length ps) new.passes
+          ∙ length-replicate (greatest_client + 1) (nothing_seen setting.shards)
 
-  idle : All (λ s. IsIdle s.pass) first
-  idle = all_sessions IsIdle first (subst (All IsIdle) (sym new.passes)
-      (All-replicate IsIdle (greatest_client + 1) (nothing_seen setting.shards) (idle_first setting.shards)))
-
-module _ (setting : Setting) where
-  ran_more : {rounds : List _} {text : List ℕ} {s t u : List SessionParts} (round : Round) → RanFrom setting rounds s text
-      → HaveRun setting.defs setting.shards (Some setting.window) (lines_of_round round) s t → AreAlike t u
-      → RanFrom setting (rounds ++ lines_of_round round ∷ []) u (text ++ texts_of t)
-  ran_more {rounds} {text} {s} {t} {u} round before ran alike =
-      run_alike setting.defs setting.shards (Some setting.window) (rounds ++ lines_of_round round ∷ []) t u (text ++ texts_of t) alike
-      (run_more setting.defs setting.shards (Some setting.window) rounds (lines_of_round round) s t text before ran)
-
-  -- a round was run, its replies were written, and the sessions' texts cleared
-  pub round_served : {left_first left next held_first held held_next : Option (List ℕ)} {old new : ReaderParts}
-      {s t u : List SessionParts} → HasServed (RanFrom setting) left_first left held_first held old s
-      → (round : Round) × ReadsRound old new left next (Ok (Some round))
-      × HaveRun setting.defs setting.shards (Some setting.window) (lines_of_round round) s t
-      → AreAlike t u → Appends held held_next (texts_of t) → HasServed (RanFrom setting) left_first next held_first held_next new u
-  round_served {t} before given alike wrote =
-      served_round (RanFrom setting) t before given.1 (ran_more given.0 before.has_run given.2 alike) wrote
-
-  -- a write failed
-  pub round_unsent : {left_first left next held_first held held_next : Option (List ℕ)} {old new : ReaderParts}
-      {s t u : List SessionParts} (unsent : List ℕ) → HasServed (RanFrom setting) left_first left held_first held old s
-      → (round : Round) × ReadsRound old new left next (Ok (Some round))
-      × HaveRun setting.defs setting.shards (Some setting.window) (lines_of_round round) s t
-      → AreAlike t u → WrotePart held held_next (texts_of t) unsent
-      → HasStopped (RanFrom setting) status.WriteFault left_first next held_first held_next unsent u
-  round_unsent {t} unsent before given alike wrote =
-      ends_unsent (RanFrom setting) t unsent before given.1 (ran_more given.0 before.has_run given.2 alike) wrote
-
-  -- no further round was run
-  pub none_run : {left_first left next held_first held : Option (List ℕ)} {old new : ReaderParts} {s t : List SessionParts}
-      (how : Status) → HasServed (RanFrom setting) left_first left held_first held old s → HasNone how old new left next s t
-      → HasStopped (RanFrom setting) how left_first next held_first held [] t
-  none_run {s} {t} how before none =
-      ends_here (RanFrom setting) how before
-      (run_alike setting.defs setting.shards (Some setting.window) before.rounds s t before.text none.0 before.has_run) none
-
--- a run that ended where no further round is run had begun to read
-pub begun_end : (how : Status) → IsEnd how → HasBegun how
-begun_end status.Done end = tt
-begun_end status.Usage end = absurd end
-begun_end (status.IndexFile line) end = absurd end
-begun_end status.FileFault end = absurd end
-begun_end status.ReadFault end = tt
-begun_end status.WriteFault end = absurd end
-begun_end status.NoMemory end = tt
-begun_end status.InputLimit end = tt
+      idle : All (λ s. IsIdle s.pass) first
+      idle = all_sessions IsIdle first (subst (All IsIdle) (sym new.passes)
+          (All-replicate IsIdle (greatest_client + 1) (nothing_seen setting.shards) (idle_first setting.shards)))
 
 -- new sessions have a count of each shard
 pub counts_new : (shards : ℕ) (first : List SessionParts) → AreNew shards first → HaveCounts shards (seen_of first)
@@ -203,7 +156,7 @@ ended_turned shards ps qs journal next ended = record {
 -- a run that has stopped is a legal one over the closed journal: the store's passes are those of the sessions, and others that did nothing
 closes : {words : List (List ℕ)} {content : List ℕ → Option (List ℕ)} {how : Status} {left rest old new : Option (List ℕ)}
     {unsent : List ℕ} {setting : Setting} {now : List SessionParts} (passes idle : List PassParts) (journal : List Commit) (next : ℕ)
-    → IsSetting words content setting → HasStopped (RanFrom setting) how left rest old new unsent now
+    → IsSetting words content setting → HasStopped (Ran setting) how left rest old new unsent now
     → passes ≡ idle ++ passes_of now → All IsIdle idle → HaveEnded setting.shards passes journal next
     → IsLegalRun words content how left rest journal old new unsent
 closes {words} {content} {how} {left} {rest} {old} {new} {unsent} {setting} {now} passes idle journal next is_set stopped are idle_all
@@ -235,7 +188,7 @@ pub closed : {setting : Setting} {left rest old new : Option (List ℕ)} {read_o
 closed {setting} {left} {rest} {old} {new} {read_old} {read_new} {write_old} {write_new} {first} {now} s passes idle run are_new ended are
     idle_all same_status same_unsent some closing = record {
       legal = λ words content is_set.
-          told words content is_set (ended.stopped (served_nothing (RanFrom setting) left old first (first_run setting first are_new)))
+          told words content is_set (ended.stopped (served_nothing (Ran setting) left old first (first_run setting first are_new)))
           run.journal closing;
       journal = some;
       unsent = subst (λ (t : Status). (t ≡ status.WriteFault) ⊎ (run.unsent ≡ [])) (sym same_status)
@@ -245,7 +198,7 @@ closed {setting} {left} {rest} {old} {new} {read_old} {read_new} {write_old} {wr
       write_fault = ended.write_fault ∙ sym (ap (λ t. write_faults t write_old) same_status);
     } where
       told : (words : List (List ℕ)) (content : List ℕ → Option (List ℕ)) → IsSetting words content setting
-          → HasStopped (RanFrom setting) s.status left rest old new s.unsent now
+          → HasStopped (Ran setting) s.status left rest old new s.unsent now
           → (journal : Option (List Commit)) → IfSome journal (λ journal. (next : ℕ) × HaveEnded setting.shards passes journal next)
           → IfSome journal (λ journal. IsLegalRun words content run.status left rest journal old new run.unsent)
       told words content is_set stopped None none = tt
@@ -255,13 +208,6 @@ closed {setting} {left} {rest} {old} {new} {read_old} {read_new} {write_old} {wr
           (closes passes idle journal closes_so.0 is_set stopped are idle_all closes_so.1))
 
 -- ---- what else a legal run tells of its end
-
--- at the limit just so many bytes were taken
-taken : (read : List ℕ) (left rest : Option (List ℕ)) → length read ≡ most_input_bytes → Consumes left rest read
-    → HasTaken most_input_bytes left rest
-taken read None rest whole told = tt
-taken read (Some l) None whole told = absurd told
-taken read (Some l) (Some r) whole told = omega (arith, ap (λ (bs : List ℕ). length bs) told, length-append read r, whole)
 
 at_limit : (words : List (List ℕ)) (content : List ℕ → Option (List ℕ)) (how : Status) (left rest old new : Option (List ℕ))
     (journal : List Commit) (unsent : List ℕ) → IsLegalRun words content how left rest journal old new unsent → how ≡ status.InputLimit
@@ -278,28 +224,3 @@ pub limit_of : (words : List (List ℕ)) (content : List ℕ → Option (List �
 limit_of words content how left rest old new None unsent some legal is = false_true some
 limit_of words content how left rest old new (Some journal) unsent some legal is = at_limit words content how left rest old new journal
     unsent legal is
-
--- a count that is the next one rose
-rose : (old new : ℕ) → new ≡ next_count old → Rose old new
-rose old new is = subst (Rose old) (sym is) (Rose-next_count old)
-
--- with no fault and below the limit a run that began ends well or for want of memory
-pub complete : (how : Status) (left rest : Option (List ℕ)) (in_old in_new out_old out_new : ℕ) → HasBegun how
-    → (how ≡ status.InputLimit → HasTaken most_input_bytes left rest) → in_new ≡ read_faults how in_old
-    → out_new ≡ write_faults how out_old → IsBelow most_input_bytes left → IsSteady in_old in_new → IsSteady out_old out_new
-    → (how ≡ status.Done) ⊎ (how ≡ status.NoMemory)
-complete status.Done left rest in_old in_new out_old out_new begun limit reads writes below in_steady out_steady = inl refl
-complete status.Usage left rest in_old in_new out_old out_new begun limit reads writes below in_steady out_steady = absurd begun
-complete (status.IndexFile line) left rest in_old in_new out_old out_new begun limit reads writes below in_steady out_steady = absurd begun
-complete status.ReadFault left rest in_old in_new out_old out_new begun limit reads writes below in_steady out_steady =
-    absurd (in_steady (rose in_old in_new reads))
-complete status.WriteFault left rest in_old in_new out_old out_new begun limit reads writes below in_steady out_steady =
-    absurd (out_steady (rose out_old out_new writes))
-complete status.FileFault left rest in_old in_new out_old out_new begun limit reads writes below in_steady out_steady = absurd begun
-complete status.NoMemory left rest in_old in_new out_old out_new begun limit reads writes below in_steady out_steady = inr refl
-complete status.InputLimit left rest in_old in_new out_old out_new begun limit reads writes below in_steady out_steady =
-    absurd (too_many left rest (limit refl) below) where
-      too_many : (old new : Option (List ℕ)) → HasTaken most_input_bytes old new → IsBelow most_input_bytes old → ⊥
-      too_many None new reached below = below
-      too_many (Some before) None reached below = reached
-      too_many (Some before) (Some after) reached below = omega (arith, reached, below)

@@ -1,12 +1,12 @@
 -- What each round of a run leaves, told of the sessions before and after it: the words of the proof of the main theorem, which itself
 -- doesn't speak of them.
-use Rattle.std.specs.Prelude.{◌≡◌, ◌⊎◌, ℕ, List, [], Option, Some, IfSome, IsSome, ⊤}
+use Rattle.std.specs.Prelude.{◌≡◌, ◌⊎◌, ℕ, List, [], Option, IfSome, IsSome, ⊤}
 use Rattle.ds_rounds.specs.Rounds.{NumberedLine}
 use Rattle.ds_rounds.specs.Reading.{ReaderParts, first_reader}
-use Rattle.ds_session.specs.Runs.{HasRun}
+use Rattle.ds_model.specs.Sessions.{first_sessions}
 use Rattle.ds_session.specs.Sessions.{SessionParts}
-use Rattle.ds_serving.specs.Rounds.{HasServed, HasStopped}
-use Rattle.ds_serving.specs.Runs.{read_faults, write_faults}
+use Rattle.ds_serving.specs.Rounds.{HasServed, HasStopped, RanFrom}
+use Rattle.ds_serving.specs.Runs.{HasBegun, read_faults, write_faults}
 use Rattle.ds_serving.specs.Settings.{IsSetting}
 use Rattle.ds_serving.specs.declared.settings.Setting.{Setting}
 use Rattle.ds_serve.specs.Runs.{IsLegalRun}
@@ -23,16 +23,16 @@ WhereStopped P outcome.Served = ⊤
 WhereStopped P (outcome.Stopped s) = P s
 
 -- what is said of rounds that were run over a setting, from the first sessions on
-abbrev pub RanFrom : Setting → List (List NumberedLine) → List SessionParts → List ℕ → Type 0
-RanFrom setting rounds now text = HasRun setting.defs setting.shards (Some setting.window) rounds now text
+abbrev pub Ran : Setting → List (List NumberedLine) → List SessionParts → List ℕ → Type 0
+Ran setting = RanFrom setting (first_sessions setting.shards)
 
 -- what a round leaves: the run goes on, or has stopped
 abbrev pub Leaves : Setting → RoundOutcome → Option (List ℕ) → Option (List ℕ) → Option (List ℕ) → Option (List ℕ) → ReaderParts
     → List SessionParts → Type 0
 Leaves setting outcome.Served left_first left held_first held reader now =
-    HasServed (RanFrom setting) left_first left held_first held reader now
+    HasServed (Ran setting) left_first left held_first held reader now
 Leaves setting (outcome.Stopped s) left_first left held_first held reader now =
-    HasStopped (RanFrom setting) s.status left_first left held_first held s.unsent now
+    HasStopped (Ran setting) s.status left_first left held_first held s.unsent now
 
 -- the counts of faults after a round
 abbrev pub round_read_faults : RoundOutcome → ℕ → ℕ
@@ -43,19 +43,12 @@ abbrev pub round_write_faults : RoundOutcome → ℕ → ℕ
 round_write_faults outcome.Served faults = faults
 round_write_faults (outcome.Stopped s) faults = write_faults s.status faults
 
--- a status of a run that began to read
-abbrev pub HasBegun : Status → Type 0
-HasBegun status.Usage = ⊥
-HasBegun (status.IndexFile line) = ⊥
-HasBegun status.FileFault = ⊥
-HasBegun _ = ⊤
-
 -- The rounds of an input were served, from the first one on, until the run stopped. The source had this left before and has that left
 -- after, the sink held this before and holds that after; and so with their counts of faults.
 pub record HasEnded (setting : Setting) (left rest old new : Option (List ℕ)) (read_old read_new write_old write_new : ℕ)
     (before after : List SessionParts) (s : Stopped) : Type 0 where
-  pub stopped : HasServed (RanFrom setting) left left old old first_reader before
-      → HasStopped (RanFrom setting) s.status left rest old new s.unsent after
+  pub stopped : HasServed (Ran setting) left left old old first_reader before
+      → HasStopped (Ran setting) s.status left rest old new s.unsent after
   pub unsent : (s.status ≡ status.WriteFault) ⊎ (s.unsent ≡ [])
   pub began : HasBegun s.status
   pub read_fault : read_new ≡ read_faults s.status read_old

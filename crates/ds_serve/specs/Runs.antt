@@ -1,7 +1,6 @@
 -- What a run of the server is: the main theorem's words.
-use Rattle.std.specs.Prelude.{◌≡◌, ℕ, ◌+◌, ◌<◌, List, Bool, true, Option, Some, None, IfSome, IsSomeAnd, length, ⊤}
+use Rattle.std.specs.Prelude.{◌≡◌, ℕ, List, Bool, true, Option, Some, IfSome, ⊤}
 use Rattle.std.specs.Io.KnownBytes.{Consumes}
-use Rattle.ds_io.specs.Faults.{Rose}
 use Rattle.ds_rounds.specs.Rounds.{NumberedLine}
 use Rattle.ds_reply.specs.declared.reply.Reply.{Reply}
 use Rattle.ds_reply.specs.Replies.{replies_text}
@@ -41,16 +40,3 @@ IsUntouched status.Usage = ⊤
 IsUntouched (status.IndexFile line) = ⊤
 IsUntouched status.FileFault = ⊤
 IsUntouched _ = ⊥
-
--- so many bytes were taken of a source that tells what it has left
-abbrev pub HasTaken : ℕ → Option (List ℕ) → Option (List ℕ) → Type 0
-HasTaken n old new = IfSome old (λ before. IsSomeAnd new (λ after. length before ≡ n + length after))
-
--- a source that tells that it has fewer bytes left than so many
-abbrev pub IsBelow : ℕ → Option (List ℕ) → Type 0
-IsBelow limit None = ⊥
-IsBelow limit (Some bytes) = length bytes < limit
-
--- a count of faults that didn't rise
-abbrev pub IsSteady : ℕ → ℕ → Type 0
-IsSteady old new = Rose old new → ⊥

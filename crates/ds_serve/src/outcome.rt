@@ -1,8 +1,8 @@
 //! What a run of the server gives.
 ghost use Rattle.std.specs.Prelude.{◌≡◌, [], Some};
 
+use ds_clients::Unsent;
 use ds_log::Journal;
-use ds_session::Unsent;
 use ds_words::Status;
 use std::alloc::Global;
 

@@ -3,16 +3,17 @@ ghost use Rattle.std.specs.Prelude.{◌≡◌, ◌+◌, ◌<◌, ◌≤◌, ◌�
 ghost use Rattle.ds_base.specs.Limits.{most_input_bytes};
 ghost use Rattle.ds_rounds.specs.Reading.{first_reader};
 ghost use Rattle.ds_protocol.specs.Watermarks.{HaveCounts};
-ghost use Rattle.ds_session.specs.Runs.{AreWritten, seen_of};
+ghost use Rattle.ds_clients.specs.Runs.{AreWritten, seen_of};
+ghost use Rattle.ds_serving.specs.Runs.{HasBegun};
 ghost use Rattle.ds_serving.specs.Rounds.{HasServed};
-ghost use Rattle.ds_serve.specs.RunSteps.{HasBegun, HasEnded, Leaves, RanFrom, WhereStopped};
+ghost use Rattle.ds_serve.specs.RunSteps.{HasEnded, Leaves, Ran, WhereStopped};
 ghost use Rattle.ds_serve.specs.RunSteps.{round_read_faults, round_write_faults};
 
 use crate::stopped::{RoundOutcome, Stopped, stop_with};
+use ds_clients::{Sessions, write_round};
 use ds_io::{Gate, Sink, Source};
 use ds_rounds::Rounds;
 use ds_serving::{NextRound, Serving};
-use ds_session::{Sessions, write_round};
 use ds_store::Names;
 use ds_words::Status;
 use std::alloc::Global;
@@ -68,7 +69,7 @@ fn serve_round<
     requires counts { HaveCounts serving.now.shards (seen_of sessions.old) }
     requires written { AreWritten sessions.old }
     ensures leaves { (left held : Option (List ℕ))
-        → HasServed (RanFrom serving.now) left (I.left input.old) held (O.held output.old) rounds.old sessions.old
+        → HasServed (Ran serving.now) left (I.left input.old) held (O.held output.old) rounds.old sessions.old
         → Leaves serving.now result left (I.left input.new) held (O.held output.new) rounds.new sessions.new }
     ensures counts { HaveCounts serving.now.shards (seen_of sessions.new) }
     ensures written { AreWritten sessions.new }

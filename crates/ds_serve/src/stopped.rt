@@ -1,7 +1,7 @@
 //! How a run stops, before its store is closed.
 ghost use Rattle.std.specs.Prelude.{◌≡◌, []};
 
-use ds_session::Unsent;
+use ds_clients::Unsent;
 use ds_words::Status;
 use std::alloc::Global;
 

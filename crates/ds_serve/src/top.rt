@@ -6,9 +6,8 @@ ghost use Rattle.std.specs.Prelude.{◌≡◌, ◌≤◌, ◌⊎◌, ℕ, List, 
 ghost use Rattle.std.specs.String.{string_bytes};
 ghost use Rattle.ds_base.specs.Limits.{greatest_window, most_appliers, most_input_bytes, most_shards};
 ghost use Rattle.ds_words.specs.Form.{options_of};
-ghost use Rattle.ds_serve.specs.Runs.{HasTaken, IsBelow, IsLegalRun, IsSteady, IsUntouched};
-ghost use Rattle.ds_serving.specs.Runs.{read_faults, write_faults};
-ghost use Rattle.ds_serve.specs.RunSteps.{HasBegun};
+ghost use Rattle.ds_serve.specs.Runs.{IsLegalRun, IsUntouched};
+ghost use Rattle.ds_serving.specs.Runs.{HasBegun, HasTaken, IsBelow, IsSteady, read_faults, write_faults};
 ghost use Rattle.ds_serving.specs.Settings.{FailedToLoad, IsFine, IsSetting, IsToldWrong, NamesWrongFile, file_faults, indexes_named};
 
 use crate::outcome::{Run, nothing_run};
@@ -53,6 +52,7 @@ use std::thread::Threads;
 ///
 /// Where the words have their form, the file is told to have its own, the input tells that it is below the limit and no count of faults
 /// rose, the run ends `Done` or `NoMemory` (`complete`).
+#[tactic(auto, using(ds_serving::proofs::EndLaws::complete))]
 pub fn serve<Rt: Threads + Wait + Sync, F: Files, I: Source, O: Sink, G: Gate + Sync>(
     rt: &Rt,
     alloc: Global,

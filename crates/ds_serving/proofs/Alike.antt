@@ -6,16 +6,16 @@ use Rattle.std.proofs.lemmas.List.Elements.{All-nil, All-cons, All-head, All-tai
 use Rattle.ds_indexdef.specs.declared.IndexDef.{IndexDef}
 use Rattle.ds_model.specs.Asked.{asked}
 use Rattle.ds_model.specs.Legal.{RoundsSteps, acknowledged, answered_lines, drawn_in}
-use Rattle.ds_model.specs.Sessions.{Session, first_sessions}
+use Rattle.ds_model.specs.Sessions.{Session}
 use Rattle.ds_model.specs.Worlds.{world_of}
 use Rattle.ds_rounds.specs.Rounds.{NumberedLine}
 use Rattle.ds_store.specs.Ending.{Begins}
 use Rattle.ds_store.specs.Passes.{PassParts}
-use Rattle.ds_session.specs.Clients.{AreAlike}
-use Rattle.ds_session.specs.Runs.{HasRun, passes_of}
+use Rattle.ds_clients.specs.Clients.{AreAlike}
+use Rattle.ds_clients.specs.Runs.{HasRun, passes_of}
 use Rattle.ds_session.specs.Sessions.{SessionParts}
 
-flat_of : (f : PassParts → List ℕ) (s : List SessionParts) → flat_map f (passes_of s) ≡ flat_map (λ v. f v.pass) s
+pub flat_of : (f : PassParts → List ℕ) (s : List SessionParts) → flat_map f (passes_of s) ≡ flat_map (λ v. f v.pass) s
 flat_of f [] = refl
 flat_of f (x ∷ s) = ap (λ ns. f x.pass ++ ns) (flat_of f s)
 
@@ -46,14 +46,15 @@ pub length-passes : (s : List SessionParts) → length (passes_of s) ≡ length 
 length-passes s = length-map s (λ v. v.pass)
 
 -- the rounds that were run, told of sessions that are alike
-pub run_alike : (definitions : List IndexDef) (shards : ℕ) (window : Option ℕ) (rounds : List (List NumberedLine)) (s t : List SessionParts)
-    (text : List ℕ) → AreAlike s t → HasRun definitions shards window rounds s text → HasRun definitions shards window rounds t text
-run_alike definitions shards window rounds s t text alike run = record {
+pub run_alike : (definitions : List IndexDef) (shards : ℕ) (window : Option ℕ) (first : List Session) (rounds : List (List NumberedLine))
+    (s t : List SessionParts) (text : List ℕ) → AreAlike s t → HasRun definitions shards window first rounds s text
+    → HasRun definitions shards window first rounds t text
+run_alike definitions shards window first rounds s t text alike run = record {
   replies = run.replies;
   clients = sym (length-passes t) ∙ ap (λ (ps : List PassParts). length ps) alike.passes ∙ length-passes s ∙ run.clients;
   steps = λ journal on.
       subst (λ (vs : List Session).
-      RoundsSteps (asked shards) (world_of definitions shards window journal) rounds (first_sessions shards) run.replies vs)
+      RoundsSteps (asked shards) (world_of definitions shards window journal) rounds first run.replies vs)
       (sym alike.seen) (run.steps journal (all-alike (Begins shards journal) s t alike.passes on));
   counted = run.counted;
   printed = run.printed;
@@ -63,3 +64,11 @@ run_alike definitions shards window rounds s t text alike run = record {
   accepts = λ bound below. run.accepts bound (all-alike (λ p. p.next ≤ bound) s t alike.passes below);
   prints = λ bound below. run.prints bound (all-alike (λ p. p.next ≤ bound) s t alike.passes below);
 }
+
+-- their replies are the same
+pub run_alike_replies : (definitions : List IndexDef) (shards : ℕ) (window : Option ℕ) (first : List Session)
+    (rounds : List (List NumberedLine)) (s t : List SessionParts) (text : List ℕ) (alike : AreAlike s t)
+    (run : HasRun definitions shards window first rounds s text)
+    → (run_alike definitions shards window first rounds s t text alike run).replies ≡ run.replies
+unfolding run_alike
+run_alike_replies definitions shards window first rounds s t text alike run = refl

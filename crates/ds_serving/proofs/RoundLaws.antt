@@ -4,7 +4,7 @@ use Rattle.std.proofs.Common.{Bool, true, false, Option, Some, None, length-appe
 use Rattle.std.specs.Prelude.{IfSome, Ok, Err}
 use Rattle.std.specs.Io.KnownBytes.{Appends, Consumes}
 use Rattle.std.proofs.lemmas.List.{append-nil}
-use Rattle.std.proofs.KnownBytes.{Appends-nil, Appends-trans, Consumes-nil, Consumes-trans, Consumes-whole}
+use Rattle.std.proofs.KnownBytes.{Appends-nil, Appends-trans, Consumes-trans, Consumes-whole}
 use Rattle.ds_base.specs.Limits.{most_input_bytes}
 use Rattle.ds_rounds.specs.Reading.{HasRead, MayFollow, ReaderParts, ReadsRound, first_reader}
 use Rattle.ds_rounds.specs.ReadingLaws.{read_all, read_nothing, read_round, read_until_fault, read_until_limit}
@@ -14,13 +14,13 @@ use Rattle.ds_rounds.specs.declared.stage.RoundRefused.{RoundRefused}
 use Rattle.ds_rounds.specs.declared.stage.RoundRefused.TheVariants as refused
 use Rattle.ds_rounds.specs.declared.stage.Stage.{Stage}
 use Rattle.ds_rounds.specs.declared.stage.Stage.TheVariants as stage
-use Rattle.ds_session.specs.Clients.{AreAlike, WrotePart}
-use Rattle.ds_session.specs.Runs.{texts_of}
+use Rattle.ds_clients.specs.Clients.{WrotePart}
+use Rattle.ds_clients.specs.Runs.{texts_of}
 use Rattle.ds_session.specs.Sessions.{SessionParts}
 use Rattle.ds_words.specs.declared.status.Status.{Status}
 use Rattle.ds_words.specs.declared.status.Status.TheVariants as status
 use Rattle.ds_serving.specs.Rounds.{HasNone, HasServed, HasStopped, IsEnd, status_of}
-use Rattle.ds_serving.specs.Runs.{AreFirst, WasSetUp, WereRun, Wrote, read_faults, write_faults}
+use Rattle.ds_serving.specs.Runs.{AreFirst, WasSetUp, WereRun, Wrote, write_faults}
 
 false_true : {A : Type 0} → false ≡ true → A
 false_true is = cc

@@ -1,3 +1,4 @@
+pub mod Continued
 pub mod Rounds
 pub mod Runs
 pub mod Settings

@@ -1,14 +1,15 @@
 -- What is said of the rounds of an input so far, of the next one and of the last, whatever is said of rounds that were run: `Ran` says it
 -- of these rounds, of the sessions that they left, and of the text of their replies.
-use Rattle.std.specs.Prelude.{◌≡◌, ◌⊎◌, ℕ, List, [], Bool, true, Option, Some, None, Ok, Err, IfSome, length, ⊤}
+use Rattle.std.specs.Prelude.{◌≡◌, ◌⊎◌, ℕ, List, Bool, true, Option, Some, None, Ok, Err, IfSome, length, ⊤}
 use Rattle.std.specs.Io.KnownBytes.{Appends, Consumes}
 use Rattle.ds_rounds.specs.Rounds.{NumberedLine, lines_of_round}
 use Rattle.ds_rounds.specs.Reading.{HasRead, ReaderParts, ReadsRound}
 use Rattle.ds_rounds.specs.declared.round.Round.{Round}
 use Rattle.ds_rounds.specs.declared.stage.RoundRefused.{RoundRefused}
 use Rattle.ds_rounds.specs.declared.stage.RoundRefused.TheVariants as refused
-use Rattle.ds_session.specs.Clients.{AreAlike}
-use Rattle.ds_session.specs.Runs.{HaveRun}
+use Rattle.ds_clients.specs.Clients.{AreAlike}
+use Rattle.ds_model.specs.Sessions.{Session}
+use Rattle.ds_clients.specs.Runs.{HasRun, HaveRun}
 use Rattle.ds_session.specs.Sessions.{SessionParts}
 use Rattle.ds_words.specs.declared.status.Status.{Status}
 use Rattle.ds_words.specs.declared.status.Status.TheVariants as status
@@ -61,6 +62,10 @@ next_read_faults next.Ran faults = faults
 next_read_faults (next.Ended how) faults = read_faults how faults
 
 -- ---- rounds so far
+
+-- what is said of rounds that were run over a setting, from what the clients had seen first on
+abbrev pub RanFrom : Setting → List Session → List (List NumberedLine) → List SessionParts → List ℕ → Type 0
+RanFrom setting first rounds now text = HasRun setting.defs setting.shards (Some setting.window) first rounds now text
 
 -- so far the reader's rounds were read and run, and their replies written
 pub record HasServed (Ran : List (List NumberedLine) → List SessionParts → List ℕ → Type 0)

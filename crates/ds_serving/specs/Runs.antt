@@ -1,8 +1,8 @@
 -- Which rounds a run ran, and what of their replies was written, by how it ended.
-use Rattle.std.specs.Prelude.{◌≡◌, ℕ, ◌<◌, ◌⊎◌, List, [], ◌++◌, Bool, true, false, Option, length, ⊤}
+use Rattle.std.specs.Prelude.{◌≡◌, ℕ, ◌+◌, ◌<◌, ◌⊎◌, List, [], ◌++◌, Bool, true, false, Option, Some, None, IfSome, IsSomeAnd, length, ⊤}
 use Rattle.std.specs.Io.KnownBytes.{Appends}
 use Rattle.ds_base.specs.Limits.{most_input_bytes}
-use Rattle.ds_io.specs.Faults.{next_count}
+use Rattle.ds_io.specs.Faults.{Rose, next_count}
 use Rattle.ds_rounds.specs.Rounds.{NumberedLine, ended_rounds, rounds_in, rounds_of_input}
 use Rattle.ds_words.specs.declared.status.Status.{Status}
 use Rattle.ds_words.specs.declared.status.Status.TheVariants as status
@@ -47,3 +47,25 @@ read_faults _ faults = faults
 abbrev pub write_faults : Status → ℕ → ℕ
 write_faults status.WriteFault faults = next_count faults
 write_faults _ faults = faults
+
+-- ---- how a run ends
+
+-- a status of a run that began to read
+abbrev pub HasBegun : Status → Type 0
+HasBegun status.Usage = ⊥
+HasBegun (status.IndexFile line) = ⊥
+HasBegun status.FileFault = ⊥
+HasBegun _ = ⊤
+
+-- so many bytes were taken of a source that tells what it has left
+abbrev pub HasTaken : ℕ → Option (List ℕ) → Option (List ℕ) → Type 0
+HasTaken n old new = IfSome old (λ before. IsSomeAnd new (λ after. length before ≡ n + length after))
+
+-- a source that tells that it has fewer bytes left than so many
+abbrev pub IsBelow : ℕ → Option (List ℕ) → Type 0
+IsBelow limit None = ⊥
+IsBelow limit (Some bytes) = length bytes < limit
+
+-- a count of faults that didn't rise
+abbrev pub IsSteady : ℕ → ℕ → Type 0
+IsSteady old new = Rose old new → ⊥

@@ -1,6 +1,6 @@
 //! Background appliers: they apply entries while the clients' rounds run, and sleep while there are none.
 ghost use Rattle.std.specs.Prelude.{◌≡◌, ◌<◌, All, length};
-ghost use Rattle.ds_session.specs.Runs.{IsIdle};
+ghost use Rattle.ds_clients.specs.Runs.{IsIdle};
 
 use ds_store::{Names, Pass, Store};
 use std::sync::Wait;

@@ -1,15 +1,15 @@
 //! What a run begins with.
-ghost use Rattle.std.specs.Prelude.{◌≡◌, ◌+◌, ◌≤◌, All, IfOk, length, replicate, vec_len};
+ghost use Rattle.std.specs.Prelude.{◌≡◌, ◌+◌, ◌≤◌, All, IfOk, length, vec_len};
 ghost use Rattle.std.specs.Vec.{vec_capacity};
 ghost use Rattle.ds_base.specs.Limits.{greatest_client};
 ghost use Rattle.ds_rounds.specs.Reading.{first_reader};
-ghost use Rattle.ds_session.specs.Clients.{AreNew};
-ghost use Rattle.ds_session.specs.Runs.{IsIdle};
+ghost use Rattle.ds_clients.specs.Clients.{AreNew};
+ghost use Rattle.ds_clients.specs.Runs.{IsIdle};
 ghost use Rattle.ds_store.specs.Passes.{nothing_seen};
 
 use ds_base::NoMemory;
+use ds_clients::Sessions;
 use ds_rounds::Rounds;
-use ds_session::Sessions;
 use ds_store::{Names, Pass, Passes};
 use std::alloc::Global;
 

@@ -2,14 +2,14 @@
 ghost use Rattle.std.specs.Prelude.{◌≡◌, ◌+◌, ◌<◌, ◌≤◌, All, length};
 ghost use Rattle.ds_base.specs.Limits.{most_input_bytes};
 ghost use Rattle.ds_protocol.specs.Watermarks.{HaveCounts};
-ghost use Rattle.ds_session.specs.Runs.{AreWritten, IsIdle, seen_of};
+ghost use Rattle.ds_clients.specs.Runs.{AreWritten, IsIdle, seen_of};
 ghost use Rattle.ds_serving.specs.Rounds.{HasNext, WhereEnded, IsEnd, next_read_faults, status_of};
 
 use crate::appliers::apply_beside;
+use ds_clients::{Sessions, run_round};
 use ds_indexdef::Defs;
 use ds_io::{Gate, Source};
 use ds_rounds::{RoundRefused, Rounds};
-use ds_session::{Sessions, run_round};
 use ds_store::{Names, Pass, Store};
 use ds_words::Status;
 use std::marker::Model;
@@ -48,6 +48,18 @@ pub enum NextRound {
 }
 
 impl<'a, J: Names, Rt, H: Wait + Drop, G> Serving<'a, J, Rt, H, G> {
+    /// The store.
+    pub fn store(&self) -> &'a Store<J, H>
+        ensures { result.now.shards ≡ self.now.shards }
+    {
+        self.store
+    }
+
+    /// The runtime, of which contracts see nothing.
+    pub fn rt(&self) -> &'a Rt {
+        self.rt
+    }
+
     /// A run over a store, whose definitions these are.
     pub fn new(
         rt: &'a Rt,

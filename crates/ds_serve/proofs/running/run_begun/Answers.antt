@@ -1,7 +1,7 @@
 use Rattle.std.proofs.Common.{◌∙◌, subst, sym}
 use Rattle.std.proofs.lemmas.List.Elements.{All-append, All-take}
 use Rattle.ds_protocol.specs.Watermarks.{HaveCounts}
-use Rattle.ds_session.specs.Runs.{IsIdle, seen_of}
+use Rattle.ds_clients.specs.Runs.{IsIdle, seen_of}
 use Rattle.ds_serving.specs.declared.settings.Setting.{Setting}
 use Rattle.ds_serving.proofs.Alike.{all_drop}
 use Rattle.ds_serve.specs.RunSteps.{HasEnded}

@@ -1,7 +1,7 @@
 use Rattle.std.proofs.Common.{◌≡◌, ◌∙◌, All, List, ap, arith, length, subst, sym}
 use Rattle.std.proofs.lemmas.List.{length-replicate}
 use Rattle.std.proofs.lemmas.List.Elements.{All-replicate}
-use Rattle.ds_session.specs.Clients.{AreNew}
+use Rattle.ds_clients.specs.Clients.{AreNew}
 use Rattle.ds_store.specs.Passes.{nothing_seen}
 use Rattle.ds_store.specs.Passes.{PassParts}
 use Rattle.ds_serve.proofs.Ends.{nothing_ran}

@@ -2,7 +2,7 @@ use Rattle.std.proofs.Common.{◌∙◌, ap, arith, refl, subst, sym}
 use Rattle.ds_rounds.specs.Reading.{ReaderParts}
 use Rattle.ds_serving.specs.Rounds.{HasServed}
 use Rattle.ds_serving.specs.Runs.{read_faults, write_faults}
-use Rattle.ds_serve.specs.RunSteps.{RanFrom}
+use Rattle.ds_serve.specs.RunSteps.{Ran}
 use Rattle.ds_serve.proofs.serving.serve_rounds.Goals as goal
 
 pub serve-init : goal.serve-init
@@ -10,7 +10,7 @@ serve-init g c =
     let left = g.I.Source.left c.args.input.now in
     let held = g.O.Sink.held c.args.output.now in
     record {
-      served = λ given. subst (λ (r : ReaderParts). HasServed (RanFrom c.args.serving.now) left left held held r c.args.sessions.now)
+      served = λ given. subst (λ (r : ReaderParts). HasServed (Ran c.args.serving.now) left left held held r c.args.sessions.now)
           (sym c.requires.reader) given;
       counts = c.requires.counts;
       written = c.requires.written;

@@ -2,9 +2,9 @@ use Rattle.std.proofs.Common.{◌≡◌, ◌+◌, ◌-◌, ◌≤◌}
 use Rattle.ds_base.specs.Limits.{most_input_bytes}
 use Rattle.ds_rounds.specs.Reading.{first_reader}
 use Rattle.ds_protocol.specs.Watermarks.{HaveCounts}
-use Rattle.ds_session.specs.Runs.{AreWritten, seen_of}
+use Rattle.ds_clients.specs.Runs.{AreWritten, seen_of}
 use Rattle.ds_serving.specs.Rounds.{HasServed}
-use Rattle.ds_serve.specs.RunSteps.{RanFrom}
+use Rattle.ds_serve.specs.RunSteps.{Ran}
 use Rattle.ds_serve.proofs.serving.serve_rounds.Given as goal
 
 -- each round takes a line at least, and an input has no more lines than bytes and one
@@ -14,9 +14,9 @@ decreases-serve g l = most_input_bytes + 1 - l.rounds.number
 -- so far the rounds were read, run and written, and nothing failed
 abbrev pub invariant-serve : goal.invariant-serve
 invariant-serve g l = record {
-  served : HasServed (RanFrom l.serving) (g.I.Source.left l.fn.input) (g.I.Source.left l.fn.input) (g.O.Sink.held l.fn.output)
+  served : HasServed (Ran l.serving) (g.I.Source.left l.fn.input) (g.I.Source.left l.fn.input) (g.O.Sink.held l.fn.output)
       (g.O.Sink.held l.fn.output) first_reader l.fn.sessions
-      → HasServed (RanFrom l.serving) (g.I.Source.left l.fn.input) (g.I.Source.left l.input) (g.O.Sink.held l.fn.output)
+      → HasServed (Ran l.serving) (g.I.Source.left l.fn.input) (g.I.Source.left l.input) (g.O.Sink.held l.fn.output)
       (g.O.Sink.held l.output) l.rounds l.sessions;
   counts : HaveCounts l.serving.shards (seen_of l.sessions);
   written : AreWritten l.sessions;

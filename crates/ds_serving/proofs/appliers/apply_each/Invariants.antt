@@ -1,4 +1,4 @@
-use Rattle.ds_session.specs.Runs.{IsIdle}
+use Rattle.ds_clients.specs.Runs.{IsIdle}
 use Rattle.ds_serving.proofs.appliers.apply_each.Given as goal
 
 abbrev pub invariant-loop-shard : goal.invariant-loop-shard

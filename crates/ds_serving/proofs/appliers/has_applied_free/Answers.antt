@@ -1,4 +1,4 @@
-use Rattle.ds_session.proofs.ClosingLaws.{idle_later}
+use Rattle.ds_clients.proofs.ClosingLaws.{idle_later}
 use Rattle.ds_serving.proofs.appliers.has_applied_free.Goals as goal
 
 pub returns-in-Some : goal.returns-in-Some
