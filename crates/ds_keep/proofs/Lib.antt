@@ -1,3 +1,4 @@
+mod Histories
 mod Images
 mod Openings
 mod Runs

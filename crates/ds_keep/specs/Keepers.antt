@@ -1,9 +1,12 @@
 -- What a keeper is, and what it and a crash leave on its disk.
-use Rattle.std.specs.Prelude.{◌≡◌, ◌⊎◌, ℕ, ◌+◌, ◌≤◌, List, [], ◌∷◌, ◌++◌, length, drop, Bool, false, IsTrue}
+use Rattle.std.specs.Prelude.{◌≡◌, ◌⊎◌, ℕ, ◌+◌, ◌≤◌, List, [], ◌∷◌, ◌++◌, length, drop, Bool, false, IsTrue, ⊤}
+use Rattle.ds_base.specs.Limits.{first_drawn_id, greatest_id}
 use Rattle.ds_disk.specs.Crashes.{Only}
 use Rattle.ds_log.specs.declared.Commit.{Commit}
 use Rattle.ds_log.specs.Conflicts.{IsSerial}
 use Rattle.ds_log.specs.Ids.{AllIssued}
+use Rattle.ds_keep.specs.declared.refusals.KeepRefused.{KeepRefused}
+use Rattle.ds_keep.specs.declared.refusals.KeepRefused.TheVariants as refused
 use Rattle.ds_kept_file.specs.Files.{Kept, Batch, with_batch, next_number, body_of, sized, BeginsWith, Continues, StandsFor, is_open}
 
 -- the place of the closed gate; how many commits are kept; the kept id counter
@@ -31,6 +34,19 @@ pub record IsSettled {D : Type 0} (is_honest : D → Bool) (contents : D → Lis
   pub durable : Only (contents disk) (images disk)
   pub commits : keeper.commits ≡ length kept.journal
   pub next : keeper.next ≡ kept.next
+
+-- What every file keeps: one serial history, whose written ids were drawn below its counter, which is 2^52 at first and at most 2^63 - 1.
+pub record IsHistory (kept : Kept) : Type 0 where
+  pub serial : IsSerial kept.journal
+  pub issued : AllIssued kept.next kept.journal
+  pub least : first_drawn_id ≤ kept.next
+  pub bounded : kept.next ≤ greatest_id
+
+-- the disk isn't opened, as its file is damaged at this place, or a call of the disk failed, or there was no memory
+abbrev pub TellsDamage : ℕ → KeepRefused → Type 0
+TellsDamage place (refused.Damaged here) = here ≡ place
+TellsDamage place refused.DiskFault = ⊤
+TellsDamage place refused.NoMemory = ⊤
 
 -- each of these images stands for what is kept
 abbrev pub AllStandFor : Kept → (List ℕ → Type 0) → Type 0

@@ -1,11 +1,12 @@
 //! The keeper of a journal on a disk.
-ghost use Rattle.std.specs.Prelude.{◌≡◌, ◌+◌, ◌≤◌, ℕ, All, Err, length, IfOk, IsTrue};
+ghost use Rattle.std.specs.Prelude.{◌≡◌, ◌+◌, ◌≤◌, ℕ, All, Err, length, IfOk, IsTrue, MatchResult};
 ghost use Rattle.ds_base.specs.Limits.{greatest_id, most_commits, most_writes};
 ghost use Rattle.ds_io.specs.Faults.{Rose};
 ghost use Rattle.ds_disk.specs.Crashes.{LeavesOnly, Only};
 ghost use Rattle.ds_kept_file.specs.Files.{Kept, Batch, StandsFor, IsDamaged, with_batch};
 ghost use Rattle.ds_kept_file.specs.Readings.{found};
-ghost use Rattle.ds_keep.specs.Keepers.{KeeperParts, AllStandFor, IsClosedAt, IsSettled, IsBatchPut, MayAppend, StandsForEither, batch_of};
+ghost use Rattle.ds_keep.specs.Keepers.{KeeperParts, AllStandFor, IsClosedAt, IsHistory, TellsDamage, IsSettled};
+ghost use Rattle.ds_keep.specs.Keepers.{IsBatchPut, MayAppend, StandsForEither, batch_of};
 
 use crate::appending::put;
 use crate::opening::close;
@@ -64,6 +65,7 @@ impl Keeper {
         ensures settled { IfOk result (λ o. IsTrue (D.is_honest disk.old)
             → IsSettled D.is_honest D.contents D.images o.keeper (record { journal = o.journal; next = o.next }) disk.new) }
         ensures numbers { IfOk result (λ o. (o.keeper.commits ≡ length o.journal) × (o.keeper.next ≡ o.next)) }
+        ensures history { IfOk result (λ o. IsHistory (record { journal = o.journal; next = o.next })) }
         ensures read { IfOk result (λ o. IsTrue (D.is_honest disk.old)
             → StandsFor (record { journal = o.journal; next = o.next }) (D.contents disk.old)) }
 
@@ -76,6 +78,8 @@ impl Keeper {
             → result ≡ Err (KeepRefused.Damaged place) → ⊥ }
 
         // A damaged file is told, and never changed.
+        ensures tells_damage { (kept : Kept) (place : ℕ) → IsTrue (D.is_honest disk.old) → IsDamaged (D.contents disk.old) place kept
+            → MatchResult result (λ _. ⊥) (TellsDamage place) }
         ensures damaged { (place : ℕ) → result ≡ Err (KeepRefused.Damaged place) → IsTrue (D.is_honest disk.old)
             → (kept : Kept) × IsDamaged (D.contents disk.old) place kept }
         ensures untouched { (place : ℕ) → result ≡ Err (KeepRefused.Damaged place) → IsTrue (D.is_honest disk.old)

@@ -1,8 +1,8 @@
 -- Batches one behind another.
-use Rattle.std.proofs.Common.{◌≡◌, ℕ, ◌<◌, ◌^◌, List, [], ◌∷◌, ◌++◌, length, true, false, refl, sym, ap, ◌∙◌, subst}
+use Rattle.std.proofs.Common.{◌≡◌, ℕ, ◌+◌, ◌<◌, ◌^◌, List, [], ◌∷◌, ◌++◌, length, true, false, refl, sym, ap, ◌∙◌, subst}
 use Rattle.std.proofs.Common.{append_assoc, append-nil, length-append, arith}
 use Rattle.ds_kept_file.specs.Files.{Kept, Batch, nothing, with_batch, next_number, body_of, opened, batches_bytes, is_open, Continues, AreContinuing, kept_after}
-use Rattle.ds_kept_file.specs.Files.{Leads, BeginsWith}
+use Rattle.ds_kept_file.specs.Files.{Leads, BeginsWith, HasNoBatch, sized}
 use Rattle.ds_kept_file.specs.Readings.{IsBodyRead}
 use Rattle.ds_kept_file.proofs.Splits.{opened_alone}
 
@@ -52,69 +52,67 @@ one_more file rest body behind kept now front split gate read =
 pub none_yet : (file : List ℕ) → BeginsWith file nothing file
 none_yet file = record { batches = []; split = refl; continuing = tt; after = refl; gate = λ some. some }
 
--- ---- what a file stands for leads on from what was read
+-- ---- what a file keeps leads on from what was read
 
--- bytes lead from what is kept to all that is kept, and a closed gate
-abbrev pub LeadsTo : Kept → List ℕ → Kept → Type 0
-LeadsTo kept bytes all = (behind : List ℕ) × Leads kept bytes all behind × (is_open behind ≡ false)
+-- bytes lead from what is kept to all that is kept, and behind that stands no batch that may follow
+abbrev pub LeadsTo : Kept → List ℕ → Kept → List ℕ → Type 0
+LeadsTo kept bytes all behind = Leads kept bytes all behind × HasNoBatch all behind
 
--- at an open gate there is a batch that may follow
-pub record HasBatch (kept : Kept) (bytes : List ℕ) (all : Kept) : Type 0 where
-  pub batch : Batch
-  pub behind : List ℕ
-  pub split : bytes ≡ opened (body_of (next_number kept) batch) ++ behind
-  pub gate : 0 < length behind
-  pub continues : Continues kept batch
-  pub others : LeadsTo (with_batch kept batch) behind all
+-- behind a closed gate stands no batch
+pub closed_none : (kept : Kept) (bytes : List ℕ) → is_open bytes ≡ false → HasNoBatch kept bytes
+closed_none kept bytes closed batch gates is some continues = let both : false ≡ true = sym closed ∙ ap is_open is in cc both
 
-pub at_open : (kept : Kept) (bytes : List ℕ) (all : Kept) → is_open bytes ≡ true → LeadsTo kept bytes all → HasBatch kept bytes all
-at_open kept bytes all opens (end, leads, closed) = by leads.batches leads.split leads.continuing leads.after where
-  some : 0 < length bytes
-  some = by bytes opens where
-    by : (l : List ℕ) → is_open l ≡ true → 0 < length l
-    by [] e = absurd (let both : false ≡ true = e in cc both)
-    by (b ∷ l) e = omega arith
+some-bytes : (body rest bytes : List ℕ) → bytes ≡ opened body ++ rest → 0 < length bytes
+some-bytes body rest bytes is =
+    let long : length bytes ≡ length (1 ∷ sized body) + length rest = ap (λ (l : List ℕ). length l) is ∙ length-append (opened body) rest in
+    omega (arith, long)
 
-  by : (batches : List Batch) → bytes ≡ batches_bytes kept batches ++ end → AreContinuing kept batches → kept_after kept batches ≡ all → HasBatch kept bytes all
-  by [] split continuing after = absurd (let both : true ≡ false = sym opens ∙ ap is_open split ∙ closed in cc both)
-  by (b ∷ batches) split continuing after =
-      let rest = batches_bytes (with_batch kept b) batches ++ end in
-      let gate : 0 < length rest = omega (arith, length-append (batches_bytes (with_batch kept b) batches) end, leads.gate some) in
-      record {
-        batch = b;
-        behind = rest;
-        split = split ∙ append_assoc (opened (body_of (next_number kept) b)) (batches_bytes (with_batch kept b) batches) end;
-        gate = gate;
-        continues = continuing.0;
-        others = (
-          end,
+module _ (kept : Kept) (bytes : List ℕ) (all : Kept) (end : List ℕ) where
+  more-split : (b : Batch) (batches : List Batch) → bytes ≡ batches_bytes kept (b ∷ batches) ++ end
+      → bytes ≡ opened (body_of (next_number kept) b) ++ (batches_bytes (with_batch kept b) batches ++ end)
+  more-split b batches split = split ∙ append_assoc (opened (body_of (next_number kept) b)) (batches_bytes (with_batch kept b) batches) end
+
+  more-gate : (b : Batch) (batches : List Batch) → bytes ≡ batches_bytes kept (b ∷ batches) ++ end → (0 < length bytes → 0 < length end)
+      → 0 < length (batches_bytes (with_batch kept b) batches ++ end)
+  more-gate b batches split gate =
+      omega (
+        arith,
+        length-append (batches_bytes (with_batch kept b) batches) end,
+        gate (some-bytes (body_of (next_number kept) b) (batches_bytes (with_batch kept b) batches ++ end) bytes (more-split b batches split)),
+      )
+
+  -- the batch whose body was read is the first of those that lead on
+  pub leads_on : (body behind : List ℕ) (now : Kept) → length bytes < 2 ^ 64 → bytes ≡ opened body ++ behind → 0 < length behind
+      → IsBodyRead kept body now → LeadsTo kept bytes all end → LeadsTo now behind all end
+  leads_on body behind now small split gate read leads = by leads.0.batches leads.0.split leads.0.continuing leads.0.after where
+    by : (batches : List Batch) → bytes ≡ batches_bytes kept batches ++ end → AreContinuing kept batches → kept_after kept batches ≡ all
+        → LeadsTo now behind all end
+    by [] same continuing after =
+        absurd (subst (λ (k : Kept). HasNoBatch k end) (sym after) leads.1 read.batch behind
+        (sym same ∙ split ∙ ap (λ (l : List ℕ). opened l ++ behind) read.is) gate read.continues)
+    by (b ∷ batches) same continuing after =
+        let alone = opened_alone bytes body behind (body_of (next_number kept) b) (batches_bytes (with_batch kept b) batches ++ end) small split
+        (more-split b batches same) in
+        let now_is : now ≡ with_batch kept b = read.alone b alone.0 continuing.0 in
+        subst (λ (k : Kept). LeadsTo k behind all end) (sym now_is)
+        (subst (λ (l : List ℕ). LeadsTo (with_batch kept b) l all end) (sym alone.1) (
           record {
             batches = batches;
             split = refl;
             continuing = continuing.1;
             after = after;
-            gate = λ here. leads.gate some;
+            gate = λ some. leads.0.gate
+                (some-bytes (body_of (next_number kept) b) (batches_bytes (with_batch kept b) batches ++ end) bytes (more-split b batches same));
           },
-          closed,
-        );
-      }
+          leads.1,
+        ))
 
--- the batch whose body was read is that one
-pub leads_on : (kept : Kept) (bytes body behind : List ℕ) (now all : Kept) → length bytes < 2 ^ 64 → is_open bytes ≡ true → bytes ≡ opened body ++ behind
-    → IsBodyRead kept body now → LeadsTo kept bytes all → LeadsTo now behind all
-leads_on kept bytes body behind now all small opens split read leads =
-    let has = at_open kept bytes all opens leads in
-    let same = opened_alone bytes body behind (body_of (next_number kept) has.batch) has.behind small split has.split in
-    let after : now ≡ with_batch kept has.batch = read.alone has.batch same.0 has.continues in
-    subst (λ (k : Kept). LeadsTo k behind all) (sym after)
-    (subst (λ (l : List ℕ). LeadsTo (with_batch kept has.batch) l all) (sym same.1) has.others)
-
--- at a closed gate all is kept
-pub at_closed : (kept : Kept) (bytes : List ℕ) (all : Kept) → is_open bytes ≡ false → LeadsTo kept bytes all → all ≡ kept
-at_closed kept bytes all closed (end, leads, shut) = by leads.batches leads.split leads.after where
-  by : (batches : List Batch) → bytes ≡ batches_bytes kept batches ++ end → kept_after kept batches ≡ all → all ≡ kept
-  by [] split after = sym after
-  by (b ∷ batches) split after = absurd (open_gate (body_of (next_number kept) b) (batches_bytes (with_batch kept b) batches ++ end)
-      (split ∙ append_assoc (opened (body_of (next_number kept) b)) (batches_bytes (with_batch kept b) batches) end)) where
-        open_gate : (body rest : List ℕ) → bytes ≡ opened body ++ rest → ⊥
-        open_gate body rest e = let both : false ≡ true = sym closed ∙ ap is_open e in cc both
+  -- where no batch may follow, they end
+  pub at_end : HasNoBatch kept bytes → LeadsTo kept bytes all end → (all ≡ kept) × (end ≡ bytes)
+  at_end none leads = by leads.0.batches leads.0.split leads.0.continuing leads.0.after where
+    by : (batches : List Batch) → bytes ≡ batches_bytes kept batches ++ end → AreContinuing kept batches → kept_after kept batches ≡ all
+        → (all ≡ kept) × (end ≡ bytes)
+    by [] split continuing after = (sym after, sym split)
+    by (b ∷ batches) split continuing after =
+        absurd (none b (batches_bytes (with_batch kept b) batches ++ end) (more-split b batches split)
+        (more-gate b batches split leads.0.gate) continuing.0)

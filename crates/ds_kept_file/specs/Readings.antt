@@ -1,11 +1,12 @@
 -- What is told of a file that was read, and of its parts.
-use Rattle.std.specs.Prelude.{◌≡◌, ℕ, ◌≤◌, List, ◌++◌, false, length, drop, IsTrue}
+use Rattle.std.specs.Prelude.{◌≡◌, ℕ, ◌≤◌, List, ◌++◌, true, false, length, drop, IsTrue}
 use Rattle.ds_log.specs.declared.Commit.{Commit}
 use Rattle.ds_log.specs.Conflicts.{IsCommitted}
 use Rattle.ds_log.specs.Ids.{AreIssued}
 use Rattle.ds_journal.specs.Books.{BookParts}
 use Rattle.ds_journal_text.specs.Texts.{commits_text}
-use Rattle.ds_kept_file.specs.Files.{Kept, Batch, with_batch, next_number, body_of, MayFollow, Continues, BeginsWith, StandsFor, HasNoBatch, is_open}
+use Rattle.ds_kept_file.specs.Files.{Kept, Batch, with_batch, next_number, body_of, is_open}
+use Rattle.ds_kept_file.specs.Files.{MayFollow, Continues, BeginsWith, StandsFor, HasNoBatch, IsDamaged}
 use Rattle.ds_kept_file.specs.declared.reading.FileRead.{FileRead}
 
 -- ---- a file
@@ -24,6 +25,8 @@ pub record IsReadingOf (file : List ℕ) (read : FileRead) : Type 0 where
   pub none : IsTrue read.damaged → HasNoBatch (found read) (drop read.gate file)
   -- a file that stands for something isn't damaged, and stands for this alone
   pub alone : (other : Kept) → StandsFor other file → (read.damaged ≡ false) × (other ≡ found read)
+  -- a file that is damaged is so at that gate
+  pub there : (place : ℕ) (other : Kept) → IsDamaged file place other → (read.damaged ≡ true) × (place ≡ read.gate)
 
 -- ---- the body of a batch
 

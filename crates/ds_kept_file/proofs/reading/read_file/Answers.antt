@@ -40,8 +40,8 @@ batches-preserved c =
     record {
       front = one_more c.args.file.now rest c.in-Some.body.now c.in-Some.behind.now kept now c.batches.invariant.front c.in-Some.ensures.split
           c.in-Some.ensures.gate read;
-      leads = λ other stands. leads_on kept rest c.in-Some.body.now c.in-Some.behind.now now other small (sym c.is_open.ensures ∙ c.batches-test.true)
-          c.in-Some.ensures.split read (c.batches.invariant.leads other stands);
+      leads = λ other end leads. leads_on kept rest other end c.in-Some.body.now c.in-Some.behind.now now small c.in-Some.ensures.split
+          c.in-Some.ensures.gate read (c.batches.invariant.leads other end leads);
     }
 
 pub returns-clause-read : goal.returns-clause-read
