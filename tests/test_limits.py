@@ -1,4 +1,4 @@
-"""Each limit of docs/protocol.md and one past it, ends of a run that doesn't begin, and a load that has to be served within seconds of processor time.
+"""Each limit of docs/protocol.md and one past it, ends of a run that doesn't begin, and loads that have to be served within seconds of processor time.
 
 The whole of it are the bytes of a round too, for which 320 MB are read.
 """
@@ -10,7 +10,8 @@ import subprocess
 from tests import law
 from tests.case import INDEXED, WHOLE, WORDS, Case, is_slow, run
 
-LOAD_SECONDS = 3
+# The seconds of processor time that a load may take: more than a good run takes, and less than twice as much.
+LOAD_SECONDS, OVERWRITING_SECONDS, WIDE_SECONDS = 3, 6, 6
 # What a server may map that is to run out of memory, in bytes.
 SMALL_MEMORY = 60_000_000
 
@@ -216,16 +217,43 @@ class Limits(Case):
             for size in (rest - 1, rest, rest + 1):
                 self.round_judged(f"64 MiB and {size - rest} bytes", [b"a" * 2_097_154] * 31 + [last(size)] + zero)
 
+    def timed(self, what, lines, most):
+        """The replies to a load; the seconds of processor time that it takes are told, and of a proved server limited."""
+        begun = processor_seconds()
+        replies = answered(lines)
+        seconds = processor_seconds() - begun
+        print(f"{what}: {seconds:.1f} s of processor time")
+        if not is_slow():
+            self.expect(f"whether {seconds:.1f} seconds are at most {most}", seconds <= most, True)
+        return replies
+
     def test_load(self):
         count = 2_000 if is_slow() else 50_000
         puts = [put({"a": n % 7, "b": n % 11, "s": f"text {n}"}, f"n{n}") for n in range(count)]
         query = {"op": "query", "kind": "T", "filters": [["a", "=", 3], ["b", "=", 5]], "select": "keys"}
-        begun = processor_seconds()
-        replies = answered([*puts, {"op": "settle"}, *[query] * 10])
-        seconds = processor_seconds() - begun
+        replies = self.timed(f"{count:,} puts, a settle and ten queries of two equalities", [*puts, {"op": "settle"}, *[query] * 10], LOAD_SECONDS)
         self.expect("the settle behind the puts", parts(replies[count]), {"applied": [count], "ok": "settle", "place": count})
         found = sum(1 for n in range(count) if n % 7 == 3 and n % 11 == 5)
         self.expect("the results of ten queries", [len(reply["results"]) for reply in replies[count + 1:]], [found] * 10)
-        print(f"{count:,} puts, a settle and ten queries of two equalities: {seconds:.1f} s of processor time")
-        if not is_slow():
-            self.expect(f"whether {seconds:.1f} seconds are at most {LOAD_SECONDS}", seconds <= LOAD_SECONDS, True)
+
+    def test_overwriting(self):
+        """The same hundred entities put again and again, with reads between, for which the writes are applied."""
+        count = 1_000 if is_slow() else 30_000
+        puts = [put({"a": n % 7, "s": f"text {n * 7919 % 1_000}", "t": n}, f"n{n % 100}") for n in range(count)]
+        gets = [{"op": "get", "key": [["T", f"n{n}"]]} for n in range(100)]
+        lines = [line for at in range(0, count, 10) for line in (*puts[at:at + 10], gets[at // 10 % 100])]
+        query = {"op": "query", "kind": "T", "orders": [["t", "desc"]], "select": "keys"}
+        replies = self.timed(f"{count:,} puts of a hundred entities, a get behind each ten, and a query", [*lines, {"op": "settle"}, query], OVERWRITING_SECONDS)
+        self.expect("the settle behind the puts", parts(replies[-2]), {"applied": [count], "ok": "settle", "place": count})
+        self.expect("the keys, the last one put first", replies[-1]["results"], [[["T", f"n{n}"]] for n in range(99, -1, -1)])
+
+    def test_wide(self):
+        """Entities with twenty values each, which have 42 rows, put and then put again."""
+        count = 200 if is_slow() else 12_000
+        values = lambda n: {f"p{i:02}": f"text {n * i % 97}" if i % 2 else n * i % 1_009 for i in range(20)}
+        puts = [put(values(n), f"n{n % (count // 2)}") for n in range(count)]
+        query = {"op": "query", "kind": "T", "filters": [["p01", "=", "text 5"], ["p03", "=", "text 15"]], "select": "keys"}
+        replies = self.timed(f"{count:,} puts of {count // 2:,} entities with twenty values, a settle and a query", [*puts, {"op": "settle"}, query], WIDE_SECONDS)
+        self.expect("the settle behind the puts", parts(replies[-2]), {"applied": [count], "ok": "settle", "place": count})
+        found = sorted(f"n{n % (count // 2)}" for n in range(count // 2, count) if n % 97 == 5)
+        self.expect("the keys found", replies[-1].get("results"), [[["T", name]] for name in found])

@@ -26,8 +26,8 @@ TOP = str(case.TOP)
 DESIGN, THEOREM, PROMISES, PROTOCOL = "docs/design.md", "docs/theorem.md", "docs/promises.md", "docs/protocol.md"
 # How many words each page may have. A page that isn't here is a fault.
 MOST_WORDS = {
-    "README.md": 1_000, "CHANGELOG.md": 1_500, "CONTRIBUTING.md": 1_500, "docs/python.md": 4_500, PROTOCOL: 3_500, "docs/tools.md": 1_500, DESIGN: 3_000,
-    THEOREM: 2_500, PROMISES: 5_600, "docs/DECISIONS.md": 2_500, "docs/measurements.md": 2_500,
+    "README.md": 1_050, "CHANGELOG.md": 1_500, "CONTRIBUTING.md": 1_600, "docs/python.md": 4_550, PROTOCOL: 3_800, "docs/tools.md": 1_950, DESIGN: 3_000,
+    THEOREM: 2_500, PROMISES: 6_300, "docs/DECISIONS.md": 2_600, "docs/measurements.md": 2_500,
 }
 MOST_TERMS = 15
 LIMITS = "crates/ds_base/specs/Limits.antt"
@@ -322,7 +322,7 @@ WRONG = [
     ("docs/tools.md", "It stands in `ds_base/src/nothing`.", "no file or folder"),
     (PROTOCOL, "| an entity's size | 1,048,575 | `TooLarge` |", "greatest_entity_size is 1048576"),
     (PROTOCOL, "`--window` 1 to many", "greatest_window is 65536"),
-    (PROTOCOL, "| 8 | `no reason` | never |", "the statuses are"),
+    (PROTOCOL, "| 12 | `no reason` | never |", "the statuses are"),
     (DESIGN, "Call `ds_serve::reserve`.", "defines no"),
     (DESIGN, "| `ds_base` | once more | |", "in their order"),
     (DESIGN, "So says clause `legible` of `ds_serve::serve`.", "has not all"),
@@ -332,7 +332,7 @@ WRONG = [
     (PROMISES, "There are 1 mutants, in `must-fail` of 1 crates.", "mutants, in"),
     ("CONTRIBUTING.md", "A `forgotten_helper_of_old` does it.", "stands nowhere"),
     ("docs/DECISIONS.md", "One is said. Another one follows it.", "two sentences"),
-    ("docs/DECISIONS.md", "word " * 2_500, "and may have 2500"),
+    ("docs/DECISIONS.md", "word " * 2_500, "and may have 2600"),
 ]
 
 
