@@ -23,3 +23,4 @@ pub mod TransactionLaws
 pub mod WideLaws
 pub mod WriteLaws
 pub mod WrittenLaws
+pub mod MovingLaws

@@ -20,6 +20,7 @@
 mod answering;
 mod counting;
 mod drawing;
+mod moving;
 mod reads;
 mod refusing;
 mod searches;

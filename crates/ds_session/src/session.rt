@@ -38,7 +38,7 @@ pub(crate) const MOST_NO_MEMORY: usize = 96;
 pub struct Session<J: Names> {
     pub(crate) state: State<J>,
     /// So many bytes are kept for replies that there was no memory.
-    room: usize,
+    pub(crate) room: usize,
 }
 
 impl<J: Names> Model for Session<J> {

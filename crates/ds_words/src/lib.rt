@@ -5,11 +5,12 @@
 #![tactic(auto)]
 
 mod item;
-mod number;
+pub mod number;
 pub mod options;
 pub mod status;
 pub mod words;
 
+pub use number::number_of;
 pub use options::{Options, WordsRefused};
 pub use status::Status;
 pub use words::read_words;

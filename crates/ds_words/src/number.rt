@@ -4,7 +4,7 @@ ghost use Rattle.ds_words.specs.Form.{is_digits, number_of};
 
 /// The number that a text of at most so many decimal digits stands for, where it lies within these bounds. Leading zeros are
 /// digits like others.
-pub(crate) fn number_of(text: &str, digits: usize, least: u32, greatest: u32) -> Option<u32>
+pub fn number_of(text: &str, digits: usize, least: u32, greatest: u32) -> Option<u32>
     requires { digits ≤ 5 }
     ensures { result ≡ number_of digits least greatest text.now }
 {
