@@ -22,7 +22,7 @@ pub record SeatedSoFar (shards n : ℕ) (sessions : List SessionParts) : Type 0 
 pub none_seated : (shards : ℕ) → SeatedSoFar shards 0 []
 none_seated shards = record { seen = refl; passes = refl; written = tt; clients = refl }
 
-mapped-push : {A B : Type 0} (f : A → B) (xs : List A) (x : A) → map f (xs ++ x ∷ []) ≡ map f xs ++ f x ∷ []
+pub mapped-push : {A B : Type 0} (f : A → B) (xs : List A) (x : A) → map f (xs ++ x ∷ []) ≡ map f xs ++ f x ∷ []
 mapped-push f [] x = refl
 mapped-push f (y ∷ xs) x = ap (λ ys. f y ∷ ys) (mapped-push f xs x)
 
@@ -75,11 +75,11 @@ pub first_mark : (shards : ℕ) (mark : Session) (more rest : List Session) → 
 first_mark shards mark more rest is all =
     All-head (λ m. m ≡ first_session shards) mark more (subst (All (λ m. m ≡ first_session shards)) is all)
 
-last-is : {A : Type 0} (P : A → Type 0) (xs : List A) (x : A) → All P (xs ++ x ∷ []) → P x
+pub last-is : {A : Type 0} (P : A → Type 0) (xs : List A) (x : A) → All P (xs ++ x ∷ []) → P x
 last-is P [] x all = All-head P x [] all
 last-is P (y ∷ xs) x all = last-is P xs x (All-tail P y (xs ++ x ∷ []) all)
 
-front-is : {A : Type 0} (P : A → Type 0) (xs : List A) (x : A) → All P (xs ++ x ∷ []) → All P xs
+pub front-is : {A : Type 0} (P : A → Type 0) (xs : List A) (x : A) → All P (xs ++ x ∷ []) → All P xs
 front-is P [] x all = All-nil P
 front-is P (y ∷ xs) x all =
     All-cons P y xs (All-head P y (xs ++ x ∷ []) all) (front-is P xs x (All-tail P y (xs ++ x ∷ []) all))

@@ -1,3 +1,4 @@
 pub mod Clients
+pub mod Moving
 pub mod Runs
 pub mod Showing

@@ -4,16 +4,17 @@
 //! writes their replies; what an output doesn't take is handed out as `Unsent`. How one line is answered stands in `ds_session`.
 //!
 //! Begin with `rounds`. `clients` does with each client what a round asks, `rounds` and `output` do it with all; `kept` has what whoever
-//! keeps the journal asks of them.
+//! keeps the journal asks of them, `moving` how they go on over another store.
 //!
 //! `specs/` has how sessions begin, what stays of them where no line is answered, and how their texts are written (`Clients`), what rounds
-//! leave of them (`Runs`), and what their passes show (`Showing`). `proofs/` leads from an answered line to a legal run: `OwnLaws` and
-//! `ClientLaws` what was done with each client, `MeetingLaws`, `RunLaws` and `RoundLaws` rounds, `TextLaws` texts, `ClosingLaws` the legal
-//! run, once the store has ended.
+//! leave of them (`Runs`), what their passes show (`Showing`), and what a move to another store leaves (`Moving`). `proofs/` leads from
+//! an answered line to a legal run: `OwnLaws` and `ClientLaws` what was done with each client, `MeetingLaws`, `RunLaws` and `RoundLaws`
+//! rounds, `TextLaws` texts, `ClosingLaws` the legal run, once the store has ended.
 #![tactic(auto)]
 
 mod clients;
 mod kept;
+mod moving;
 mod output;
 mod rounds;
 
