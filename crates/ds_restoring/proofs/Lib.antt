@@ -1,0 +1,3 @@
+mod Loads
+mod Parting
+mod Starting
