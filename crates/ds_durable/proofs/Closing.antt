@@ -1,31 +1,29 @@
 -- The end of a run behind what was kept, once the store has closed.
-use Rattle.std.proofs.Common.{◌≡◌, ◌⊎◌, inl, inr, ℕ, ◌+◌, ◌-◌, ◌<◌, ◌≤◌, List, [], ◌∷◌, ◌++◌, length, refl, ap, sym, ◌∙◌, subst, arith}
-use Rattle.std.proofs.Common.{Bool, true, false, Option, Some, None}
-use Rattle.std.specs.Prelude.{All, IfSome, IsSome, IsTrue, flat_map}
+use Rattle.std.proofs.Common.{◌≡◌, ◌⊎◌, inl, ℕ, ◌+◌, ◌-◌, ◌<◌, ◌≤◌, List, [], ◌∷◌, ◌++◌, length, refl, ap, sym, ◌∙◌, subst, arith}
+use Rattle.std.proofs.Common.{Bool, Option, Some, None}
+use Rattle.std.specs.Prelude.{All, IfSome, IsSome}
 use Rattle.std.proofs.lemmas.List.{length-map, length-replicate}
-use Rattle.std.proofs.lemmas.List.Elements.{All-head, All-nil, All-replicate, All-weaker}
+use Rattle.std.proofs.lemmas.List.Elements.{All-nil, All-replicate, All-weaker}
 use mathlib.Core.List.{IsPrefix}
 use Rattle.ds_base.specs.Limits.{first_drawn_id, greatest_client}
 use Rattle.ds_clients.specs.Runs.{IsIdle, passes_of, seen_of}
 use Rattle.ds_clients.proofs.RoundLaws.{run_nothing}
-use Rattle.ds_io.specs.Faults.{Rose}
 use Rattle.ds_keep.specs.Keepers.{KeeperParts}
 use Rattle.ds_kept_file.specs.Files.{Kept}
 use Rattle.ds_log.specs.declared.Commit.{Commit}
 use Rattle.ds_model.specs.Asked.{asked}
 use Rattle.ds_model.specs.Sessions.{Session}
 use Rattle.ds_serving.specs.Continued.{HasLoaded}
-use Rattle.ds_serving.specs.Rounds.{HasServed, RanFrom}
+use Rattle.ds_serving.specs.Rounds.{RanFrom}
 use Rattle.ds_serving.specs.declared.settings.Setting.{Setting}
 use Rattle.ds_serving.proofs.ContinuedLaws.{legal_behind, of_loader}
 use Rattle.ds_serving.proofs.RoundLaws.{served_nothing}
 use Rattle.ds_protocol.specs.Watermarks.{HaveCounts}
-use Rattle.ds_rounds.specs.Reading.{ReaderParts, first_reader}
+use Rattle.ds_rounds.specs.Reading.{ReaderParts}
 use Rattle.ds_session.specs.Sessions.{SessionParts}
 use Rattle.ds_store.specs.Ending.{Begins, HaveEnded}
 use Rattle.ds_store.specs.Loads.{loaded}
 use Rattle.ds_store.specs.Passes.{HasRead, PassParts, StoreParts}
-use Rattle.ds_words.specs.declared.status.Status.TheVariants as status
 use Rattle.ds_durable.specs.declared.outcome.KeptRun.{KeptRun}
 use Rattle.ds_kept_rounds.specs.declared.status.KeptStatus.{KeptStatus}
 use Rattle.ds_kept_rounds.specs.declared.status.KeptStatus.TheVariants as kept

@@ -1,7 +1,7 @@
 -- What a run over a kept journal gives, from what it gives behind what was opened.
-use Rattle.std.proofs.Common.{◌≡◌, ◌⊎◌, inl, inr, ℕ, ◌+◌, ◌<◌, ◌≤◌, List, [], ◌++◌, length, refl, ap, sym, ◌∙◌, subst, arith}
+use Rattle.std.proofs.Common.{◌≡◌, ◌⊎◌, inl, inr, ℕ, ◌≤◌, List, [], refl, ap, sym, ◌∙◌, subst, arith}
 use Rattle.std.proofs.Common.{Bool, true, false, Option, Some, None}
-use Rattle.std.specs.Prelude.{Err, IfSome, IsSome, IsTrue}
+use Rattle.std.specs.Prelude.{IfSome, IsSome, IsTrue}
 use Rattle.std.proofs.lemmas.List.{append-nil}
 use Rattle.ds_base.specs.Limits.{most_input_bytes}
 use Rattle.ds_disk.specs.CrashLaws.{joined, weakened}
@@ -12,31 +12,29 @@ use Rattle.ds_keep.specs.declared.refusals.KeepRefused.{KeepRefused}
 use Rattle.ds_keep.specs.declared.refusals.KeepRefused.TheVariants as refused
 use Rattle.ds_kept_file.specs.Files.{IsDamaged, Kept, StandsFor}
 use Rattle.ds_log.specs.declared.Commit.{Commit}
-use Rattle.ds_serving.specs.Runs.{HasBegun, HasTaken, IsBelow, IsSteady, WereRun, read_faults, write_faults}
+use Rattle.ds_serving.specs.Runs.{HasBegun, HasTaken, IsBelow, IsSteady, WereRun}
 use Rattle.ds_serving.specs.declared.settings.Setting.{Setting}
 use Rattle.ds_serving.proofs.EndLaws.{complete, taken}
 use Rattle.ds_words.specs.declared.status.Status.{Status}
 use Rattle.ds_words.specs.declared.status.Status.TheVariants as status
-use Rattle.ds_restoring.specs.declared.fitting.Unfit.{Unfit}
-use Rattle.ds_restoring.specs.declared.fitting.Unfit.TheVariants as unfit
 use Rattle.ds_durable.specs.declared.outcome.KeptRun.{KeptRun}
 use Rattle.ds_kept_rounds.specs.declared.status.KeptStatus.{KeptStatus}
 use Rattle.ds_kept_rounds.specs.declared.status.KeptStatus.TheVariants as kept
 use Rattle.ds_durable.specs.Behind.{IsRunBehind, IsRunOver}
 use Rattle.ds_kept_rounds.specs.Ending.{HasBegunKept}
-use Rattle.ds_restoring.specs.Fitting.{AreChecked, too_many_rows}
-use Rattle.ds_durable.specs.KeptRuns.{HasTooManyRows, IsKeptRun, IsKeptWrong, IsUnbegun, IsUnfit, IsUnopened, MayBeUnbegun, MayTell}
+use Rattle.ds_restoring.specs.Fitting.{too_many_rows}
+use Rattle.ds_durable.specs.KeptRuns.{IsKeptRun, IsKeptWrong, IsUnbegun, IsUnfit, IsUnopened, MayBeUnbegun, MayTell}
 use Rattle.ds_durable.specs.KeptRuns.{RanBehind}
 use Rattle.ds_kept_rounds.specs.KeptEnds.{kept_read_faults, kept_write_faults, run_as}
 use Rattle.ds_durable.specs.KeptSettings.{IsKeptSetting}
 use Rattle.ds_keeping.specs.Moments.{IsLeft}
-use Rattle.ds_durable.specs.Statuses.{status_of, status_unfit}
+use Rattle.ds_durable.specs.Statuses.{status_of}
 use Rattle.ds_keeping.proofs.Between.{between_first}
 
 false-true : {A : Type 0} → false ≡ true → A
 false-true is = cc
 
--- ---- behind what was opened: no round was run
+-- ---- no round was run
 
 -- The run ended before it read anything.
 pub record NotServed (how : KeptStatus) (start : ℕ) (run : KeptRun) : Type 0 where
@@ -44,57 +42,6 @@ pub record NotServed (how : KeptStatus) (start : ℕ) (run : KeptRun) : Type 0 w
   pub start_is : run.start ≡ start
   pub none : run.journal ≡ None
   pub all_sent : run.unsent ≡ []
-
-module _ (setting : Setting) (before : Kept) (left held : Option (List ℕ)) (reads writes : ℕ) (honest : Bool) (images : List ℕ → Type 0)
-    (faults : ℕ) (run : KeptRun) where
-  nothing : (journal : Option (List Commit)) → journal ≡ None → IfSome journal (λ js.
-      (too_many_rows setting.defs 1 before.journal ≡ None)
-      × RanBehind setting before run.status left left js held held run.unsent honest images)
-  nothing None none = tt
-  nothing (Some js) none = cc
-
-  -- there was no memory
-  pub no_memory_behind : NotServed (kept.Served status.NoMemory) (length before.journal) run
-      → IsRunBehind setting before left left held held reads reads writes writes honest images faults faults run
-  no_memory_behind not = record {
-    ran = nothing run.journal not.none;
-    unfit = λ commit count is. let other : kept.Served status.NoMemory ≡ kept.TooManyRows commit count = sym not.status_is ∙ is in cc;
-    start = not.start_is;
-    unbegun = inr (inl not.status_is);
-    none = λ unfit. absurd (subst IsUnfit not.status_is unfit);
-    unsent = inr not.all_sent;
-    began = inl (subst HasBegunKept (sym not.status_is) tt);
-    read_fault = sym (ap (λ s. kept_read_faults s reads) not.status_is);
-    write_fault = sym (ap (λ s. kept_write_faults s writes) not.status_is);
-    disk_fault = λ is. let other : kept.Served status.NoMemory ≡ kept.DiskFault = sym not.status_is ∙ is in cc;
-    disk_faults = omega arith;
-  }
-
-  -- a put has too many rows, or there was no memory to count them
-  pub unfit_behind : (why : Unfit) → AreChecked setting.defs before.journal (Err why)
-      → NotServed (status_unfit why) (length before.journal) run
-      → IsRunBehind setting before left left held held reads reads writes writes honest images faults faults run
-  unfit_behind (unfit.TooManyRows commit count) checked not = record {
-    ran = nothing run.journal not.none;
-    unfit = λ n rows is.
-        let same : kept.TooManyRows commit count ≡ kept.TooManyRows n rows = sym not.status_is ∙ is in
-        checked ∙ (λ i. Some (number same i, rows_of same i));
-    start = not.start_is;
-    unbegun = inr (inr (subst IsUnfit (sym not.status_is) tt));
-    none = λ is. not.none;
-    unsent = inr not.all_sent;
-    began = inr (subst IsUnfit (sym not.status_is) tt);
-    read_fault = sym (ap (λ s. kept_read_faults s reads) not.status_is);
-    write_fault = sym (ap (λ s. kept_write_faults s writes) not.status_is);
-    disk_fault = λ is. let other : kept.TooManyRows commit count ≡ kept.DiskFault = sym not.status_is ∙ is in cc;
-    disk_faults = omega arith;
-  } where
-    number : {c d n m : ℕ} → kept.TooManyRows c n ≡ kept.TooManyRows d m → c ≡ d
-    number is = cc
-
-    rows_of : {c d n m : ℕ} → kept.TooManyRows c n ≡ kept.TooManyRows d m → n ≡ m
-    rows_of is = cc
-  unfit_behind unfit.NoMemory checked not = no_memory_behind not
 
 -- ---- over what the disk kept
 

@@ -1,8 +1,8 @@
 -- What the words of a run over a kept journal set up: behind `--kept FILE` they are those of the server.
-use Rattle.std.specs.Prelude.{◌≡◌, ℕ, List, Option, Some, None, option_and_then, option_map}
+use Rattle.std.specs.Prelude.{◌≡◌, ℕ, List, Option, Some, option_and_then, option_map}
 use Rattle.ds_words.specs.Form.{options_of}
 use Rattle.ds_words.specs.declared.options.Options.{Options}
-use Rattle.ds_serving.specs.Settings.{IsFine, IsSetting, IsToldWrong, FailedToLoad, NamesWrongFile, indexes_named}
+use Rattle.ds_serving.specs.Settings.{IsSetting, indexes_named}
 use Rattle.ds_serving.specs.declared.settings.Setting.{Setting}
 use Rattle.ds_durable.specs.KeptWords.{kept_form}
 

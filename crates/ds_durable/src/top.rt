@@ -2,7 +2,7 @@
 //!
 //! `specs/KeptRuns` and `specs/Moments` have the words of its clauses: begin there with `IsKeptRun` and `IsLeft`. What the words and the
 //! index file set up stands in `specs/KeptSettings`, over those of `ds_serving`.
-ghost use Rattle.std.specs.Prelude.{◌≡◌, ◌≤◌, ◌⊎◌, ℕ, List, Option, [], map, Some, None, IfSome, IsSome, IsTrue, length};
+ghost use Rattle.std.specs.Prelude.{◌≡◌, ◌≤◌, ◌⊎◌, ℕ, [], map, Some, None, IfSome, IsSome, IsTrue, length};
 ghost use Rattle.std.specs.String.{string_bytes};
 ghost use Rattle.ds_base.specs.Limits.{greatest_window, most_appliers, most_input_bytes, most_shards};
 ghost use Rattle.ds_disk.specs.Crashes.{LeavesOnly};

@@ -1,24 +1,23 @@
 -- Which images a run of appends leaves.
-use Rattle.std.proofs.Common.{◌≡◌, ◌⊎◌, inl, inr, ℕ, ◌+◌, ◌<◌, ◌≤◌, List, [], ◌∷◌, ◌++◌, length, take, drop, refl, ap, sym, ◌∙◌, subst}
+use Rattle.std.proofs.Common.{◌≡◌, inl, inr, ℕ, ◌+◌, ◌≤◌, List, [], ◌∷◌, ◌++◌, length, take, refl, ap, sym, ◌∙◌, subst}
 use Rattle.std.proofs.Common.{append_assoc, arith, length-append}
-use Rattle.std.specs.Prelude.{All, Bool, IsTrue, Option, Some, None, slice_get}
-use Rattle.std.proofs.lemmas.List.{append-nil, length-take-le}
-use Rattle.std.proofs.Math.Seq.{take-append_seam, drop-append_seam}
+use Rattle.std.specs.Prelude.{All, Bool, Option, Some, None, slice_get}
+use Rattle.std.proofs.lemmas.List.{append-nil}
 use Rattle.std.proofs.lemmas.List.Elements.{All-nil, All-cons}
 use mathlib.Core.List.{IsPrefix}
 use Rattle.ds_base.specs.Limits.{most_writes}
 use Rattle.ds_disk.specs.CrashLaws.{joined, started, weakened}
-use Rattle.ds_disk.specs.Crashes.{LeavesOnly, Only}
-use Rattle.ds_keep.specs.Keepers.{IsSettled, IsWholeTo, KeeperParts, MayAppend, StandsForEither, batch_of}
+use Rattle.ds_disk.specs.Crashes.{LeavesOnly}
+use Rattle.ds_keep.specs.Keepers.{IsSettled, KeeperParts, StandsForEither, batch_of}
 use Rattle.ds_kept_file.specs.Files.{Kept, StandsFor, with_batch}
 use Rattle.ds_log.specs.declared.Commit.{Commit}
-use Rattle.ds_log.specs.Conflicts.{IsCommitted, IsSerial}
+use Rattle.ds_log.specs.Conflicts.{IsSerial}
 use Rattle.ds_store.specs.Answered.{AreSince}
-use Rattle.ds_store.specs.Passes.{HasRead, PassParts}
-use Rattle.ds_keeping.specs.Holding.{HoldsUpTo, StandsWith, kept_at}
-use Rattle.ds_keeping.specs.Moments.{IsBetween, IsLeft, StandsBehind}
+use Rattle.ds_store.specs.Passes.{PassParts}
+use Rattle.ds_keeping.specs.Holding.{HoldsUpTo}
+use Rattle.ds_keeping.specs.Moments.{IsBetween, IsLeft}
 use Rattle.ds_store_passes.proofs.Growing.{begins_through}
-use Rattle.ds_keeping.proofs.Lists.{begins_as, begins_no_longer}
+use Rattle.ds_keeping.proofs.Lists.{begins_as}
 
 -- ---- images
 
@@ -99,19 +98,6 @@ either_between kept commits top next image is rises (inr stands) = record {
   front = sym is ∙ sym (append-nil (kept.journal ++ commits));
 }
 
--- a keeper that had nothing to append has appended nothing
-pub settled_same : {D : Type 0} (is_honest : D → Bool) (contents : D → List ℕ) (images : D → List ℕ → Type 0) (keeper : KeeperParts)
-    (kept : Kept) (disk : D) (commits : List Commit) (next : ℕ) → commits ≡ [] → next ≡ keeper.next
-    → IsSettled is_honest contents images keeper kept disk
-    → IsSettled is_honest contents images keeper (with_batch kept (batch_of commits next)) disk
-settled_same is_honest contents images keeper kept disk commits next none same settled =
-    subst (λ (k : Kept). IsSettled is_honest contents images keeper k disk) (λ i. record {
-      journal = journals i;
-      next = (sym settled.next ∙ sym same) i;
-    }) settled where
-      journals : kept.journal ≡ kept.journal ++ commits
-      journals = sym (append-nil kept.journal) ∙ ap (λ cs. kept.journal ++ cs) (sym none)
-
 -- a disk that is settled and wasn't touched leaves what is kept
 pub untouched : {D : Type 0} (is_honest : D → Bool) (contents : D → List ℕ) (images : D → List ℕ → Type 0) (moment : D → ℕ)
     (left_since : D → ℕ → List ℕ → Type 0) (keeper : KeeperParts) (kept : Kept) (disk : D) (P : List ℕ → Type 0)
@@ -145,26 +131,3 @@ module _ (p q : PassParts) (from place next : ℕ) (commits : List Commit) (sinc
 
   pub since_few : IsSerial q.journal → All (λ c. length c.writes ≤ most_writes) commits
   since_few serial = few_behind (take from q.journal) commits (subst IsSerial since.all serial)
-
-  -- the keeper stands then where the pass does
-  pub since_stands : (keeper : KeeperParts) → from ≤ length p.journal → keeper.commits ≡ from + length commits → keeper.next ≡ next
-      → StandsWith keeper q
-  since_stands keeper within many counter = record {
-    commits = many ∙ sym counted;
-    place = omega (arith, many, counted, since.looked.whole, since.looked.stands);
-    next = omega (arith, counter, since.next_is);
-  } where
-    counted : length q.journal ≡ from + length commits
-    counted =
-        let longer = begins_no_longer p.journal q.journal since.looked.read.journal in
-        let split = ap (λ (js : List Commit). length js) since.all ∙ length-append (take from q.journal) commits in
-        let front = length-take-le from q.journal (omega (arith, within, longer)) in
-        omega (arith, split, front)
-
-  -- it has reached what the pass was shown
-  pub since_reached : (keeper : KeeperParts) → StandsWith keeper q → keeper.next ≡ next
-      → (p.place ≤ keeper.commits) × (p.next ≤ keeper.next)
-  since_reached keeper stands counter = (
-    omega (arith, stands.commits, since.looked.whole, since.looked.stands, since.looked.read.place),
-    omega (arith, counter, since.next_is, since.looked.read.next),
-  )

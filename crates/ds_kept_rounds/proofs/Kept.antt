@@ -1,13 +1,13 @@
 -- Rounds that were run, with what is kept of them.
-use Rattle.std.proofs.Common.{◌≡◌, ◌⊎◌, inl, inr, ℕ, ◌+◌, ◌<◌, ◌≤◌, List, [], ◌∷◌, ◌++◌, length, refl, ap, sym, ◌∙◌, subst, arith}
-use Rattle.std.proofs.Common.{Option, Some, append_assoc, length-append}
+use Rattle.std.proofs.Common.{◌≡◌, ℕ, ◌+◌, ◌<◌, ◌≤◌, List, [], ◌∷◌, ◌++◌, length, refl, ap, sym, ◌∙◌, subst, arith}
+use Rattle.std.proofs.Common.{Some, append_assoc, length-append}
 use Rattle.std.specs.Prelude.{All, flat_map}
 use Rattle.std.proofs.lemmas.Grind.{flat_map-append}
 use Rattle.std.proofs.lemmas.List.{append-nil, append_cancel_left}
 use Rattle.std.proofs.lemmas.List.Elements.{All-append, All-head, All-nil, All-tail}
 use Rattle.std.proofs.lemmas.List.Sorted.{All-permutation, IsPermutation-sym}
 use Rattle.ds_clients.specs.Clients.{AreAlike}
-use Rattle.ds_clients.specs.Runs.{HaveRun, passes_of, texts_of}
+use Rattle.ds_clients.specs.Runs.{HaveRun, texts_of}
 use Rattle.ds_model.specs.Asked.{asked}
 use Rattle.ds_model.specs.Legal.{acknowledged, answered_lines, by_client, drawn_in}
 use Rattle.ds_model.specs.Sessions.{Session}

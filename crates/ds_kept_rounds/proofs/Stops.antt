@@ -1,7 +1,7 @@
 -- From one round to the next and to the end of the rounds, with what is kept of them.
-use Rattle.std.proofs.Common.{◌≡◌, ◌⊎◌, inl, inr, ℕ, ◌+◌, ◌<◌, ◌≤◌, List, [], ◌∷◌, ◌++◌, length, refl, ap, sym, ◌∙◌, subst, arith}
+use Rattle.std.proofs.Common.{◌≡◌, ◌⊎◌, inl, inr, ℕ, List, [], ◌∷◌, refl, ap, sym, subst, arith}
 use Rattle.std.proofs.Common.{Option, Some, Bool}
-use Rattle.std.specs.Prelude.{All, IsTrue, Ok}
+use Rattle.std.specs.Prelude.{IsTrue, Ok}
 use Rattle.std.specs.Io.KnownBytes.{Appends}
 use Rattle.std.proofs.KnownBytes.{Appends-nil}
 use Rattle.ds_clients.specs.Clients.{AreAlike, WrotePart}

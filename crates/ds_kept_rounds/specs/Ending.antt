@@ -7,7 +7,6 @@ use Rattle.ds_session.specs.Sessions.{SessionParts}
 use Rattle.ds_keep.specs.Keepers.{KeeperParts}
 use Rattle.ds_serving.specs.Rounds.{HasServed, HasStopped}
 use Rattle.ds_serving.specs.declared.settings.Setting.{Setting}
-use Rattle.ds_words.specs.declared.status.Status.{Status}
 use Rattle.ds_words.specs.declared.status.Status.TheVariants as status
 use Rattle.ds_kept_rounds.specs.Going.{HasRunKept}
 use Rattle.ds_keeping.specs.Holding.{HoldsUpTo}

@@ -1,6 +1,6 @@
 //! Whether the kept puts fit the index file of this run: its definitions may give an entity more rows than the ones under which it was
 //! put.
-ghost use Rattle.std.specs.Prelude.{◌≡◌, ℕ, ◌+◌, ◌≤◌, ◌<◌, ◌^◌, length, List, Option, None, Some, IfOk, IfErr, MatchResult};
+ghost use Rattle.std.specs.Prelude.{◌+◌, ◌<◌, ◌^◌, length};
 ghost use Rattle.ds_restoring.specs.Fitting.{AreChecked, IsChecked, first_too_many, too_many_in};
 
 use ds_indexdef::Defs;

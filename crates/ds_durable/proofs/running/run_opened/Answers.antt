@@ -1,4 +1,4 @@
-use Rattle.std.proofs.Common.{◌≡◌, ◌∙◌, List, ℕ, ap, length, subst, sym}
+use Rattle.std.proofs.Common.{◌≡◌, ap, subst}
 use Rattle.ds_disk.specs.Crashes.{LeavesOnly}
 use Rattle.ds_kept_file.specs.Files.{Kept}
 use Rattle.ds_store.specs.Passes.{PassParts}

@@ -1,11 +1,10 @@
-use Rattle.std.proofs.Common.{◌≡◌, ◌∙◌, ◌++◌, ◌∷◌, [], All, List, ℕ, ap, subst, sym}
+use Rattle.std.proofs.Common.{◌∙◌, All, ap, subst, sym}
 use Rattle.std.proofs.lemmas.List.Elements.{All-append, All-take}
-use Rattle.ds_clients.specs.Runs.{IsIdle, passes_of}
+use Rattle.ds_clients.specs.Runs.{IsIdle}
 use Rattle.ds_disk.specs.CrashLaws.{weakened}
 use Rattle.ds_serving.specs.declared.settings.Setting.{Setting}
 use Rattle.ds_serving.proofs.Alike.{all_drop}
 use Rattle.ds_store.specs.Loads.{loaded}
-use Rattle.ds_store.specs.Passes.{PassParts}
 use Rattle.ds_kept_rounds.specs.Ending.{HasEndedKept}
 use Rattle.ds_keeping.specs.Holding.{kept_at}
 use Rattle.ds_restoring.specs.LegalFrom.{sessions_from}

@@ -1,4 +1,4 @@
-use Rattle.std.proofs.Common.{◌≡◌, List, ℕ, Option, ap, map}
+use Rattle.std.proofs.Common.{List, ℕ, Option, ap, map}
 use Rattle.std.specs.Prelude.{option_map}
 use Rattle.std.specs.String.{string_bytes}
 use Rattle.ds_durable.proofs.Outcomes.{kept_complete, limit_kept}

@@ -1,11 +1,10 @@
-use Rattle.std.proofs.Common.{◌≡◌, ◌∙◌, List, ℕ, [], ap, arith, inl, length, refl, subst, sym}
-use Rattle.std.specs.Prelude.{IsTrue}
+use Rattle.std.proofs.Common.{◌∙◌, List, ℕ, [], ap, inl, length, refl, subst, sym}
 use Rattle.std.proofs.lemmas.List.{append-nil}
 use Rattle.ds_protocol.specs.Watermarks.{HaveCounts}
 use Rattle.ds_store_passes.proofs.Seeing.{HasRead-itself}
 use Rattle.ds_kept_rounds.specs.declared.stopped.RoundOutcome.{RoundOutcome}
 use Rattle.ds_kept_rounds.specs.Ending.{LeavesKept}
-use Rattle.ds_keeping.specs.Holding.{AreCovered, HoldsUpTo, kept_at}
+use Rattle.ds_keeping.specs.Holding.{kept_at}
 use Rattle.ds_keeping.specs.Moments.{IsBetween}
 use Rattle.ds_keeping.proofs.Between.{between_first, untouched}
 use Rattle.ds_kept_rounds.proofs.Kept.{covered_alike}

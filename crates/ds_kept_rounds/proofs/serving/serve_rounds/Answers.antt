@@ -1,4 +1,4 @@
-use Rattle.std.proofs.Common.{◌≡◌, ◌∙◌, [], ap, arith, refl, subst, sym}
+use Rattle.std.proofs.Common.{◌∙◌, [], arith, refl, subst, sym}
 use Rattle.std.specs.Prelude.{IsTrue}
 use Rattle.std.proofs.lemmas.List.{append-nil}
 use Rattle.ds_rounds.specs.Reading.{ReaderParts}
@@ -6,7 +6,6 @@ use Rattle.ds_serving.specs.Rounds.{HasServed}
 use Rattle.ds_store_passes.proofs.Seeing.{HasRead-itself, HasRead-through}
 use Rattle.ds_kept_rounds.specs.Going.{HasRunKept}
 use Rattle.ds_keeping.specs.Holding.{kept_at}
-use Rattle.ds_kept_rounds.specs.KeptEnds.{kept_read_faults, kept_write_faults}
 use Rattle.ds_keeping.specs.Moments.{IsBetween}
 use Rattle.ds_keeping.proofs.Between.{between_first, between_on, untouched}
 use Rattle.ds_kept_rounds.proofs.serving.serve_rounds.Goals as goal

@@ -1,4 +1,4 @@
-use Rattle.std.proofs.Common.{◌≡◌, ◌∙◌, ◌++◌, ◌∷◌, ap, subst, sym}
+use Rattle.std.proofs.Common.{◌∙◌, ◌++◌, ap, subst, sym}
 use Rattle.ds_log.specs.Conflicts.{IsCommitted}
 use Rattle.ds_restoring.proofs.Loads.{next_committed}
 use Rattle.ds_restoring.proofs.restoring.load.Goals as goal

@@ -1,6 +1,6 @@
-use Rattle.std.proofs.Common.{◌≡◌, ◌∙◌, ◌-◌, ◌++◌, ◌∷◌, [], List, replicate, sym}
+use Rattle.std.proofs.Common.{◌≡◌, ◌∙◌, ◌-◌, ◌++◌, ◌∷◌, [], replicate, sym}
 use Rattle.ds_store.specs.Loads.{loaded}
-use Rattle.ds_store.specs.Passes.{PassParts, nothing_seen}
+use Rattle.ds_store.specs.Passes.{nothing_seen}
 use Rattle.ds_restoring.proofs.Parting.{last_split}
 use Rattle.ds_restoring.proofs.restoring.share_apart.Goals as goal
 
