@@ -1,9 +1,8 @@
 -- How a run ends: each end is a legal run of the rounds that were run, once the store has closed.
 use Rattle.std.proofs.Common.{◌≡◌, ◌⊎◌, inl, inr, ℕ, ◌+◌, ◌-◌, ◌<◌, ◌≤◌, List, [], ◌∷◌, ◌++◌, length, refl, ap, sym, ◌∙◌}
 use Rattle.std.proofs.Common.{subst, arith}
-use Rattle.std.proofs.Common.{true, false, Option, Some, None, length-append}
+use Rattle.std.proofs.Common.{true, false, Option, Some, None}
 use Rattle.std.specs.Prelude.{All, IfSome, IsPermutation, IsSome, flat_map}
-use Rattle.std.specs.Io.KnownBytes.{Consumes}
 use Rattle.std.specs.List.{range_with_len}
 use Rattle.std.proofs.lemmas.List.{length-replicate}
 use Rattle.std.proofs.lemmas.Grind.{flat_map-append}
@@ -12,12 +11,13 @@ use Rattle.std.proofs.lemmas.List.Sorted.{IsPermutation-append_comm, IsPermutati
 use Rattle.ds_base.specs.Limits.{first_drawn_id, greatest_client, most_input_bytes}
 use Rattle.ds_draw.specs.Draws.{numbers}
 use Rattle.std.proofs.KnownBytes.{Appends-nil, Consumes-nil}
+use Rattle.ds_rounds.specs.Reading.{first_reader}
 use Rattle.ds_rounds.specs.Rounds.{rounds_in}
 use Rattle.ds_log.specs.declared.Commit.{Commit}
 use Rattle.ds_serve.specs.declared.outcome.Run.{Run}
 use Rattle.ds_serve.specs.declared.stopped.Stopped.{Stopped}
 use Rattle.ds_serve.specs.Runs.{IsLegalRun}
-use Rattle.ds_serve.specs.RunSteps.{HasEnded, IsRunOf, Ran}
+use Rattle.ds_serve.specs.RunSteps.{HasEnded, IsRunOf, Ran, RanBehind, StoppedPast}
 use Rattle.ds_serving.specs.Rounds.{RanFrom, HasStopped}
 use Rattle.ds_serving.specs.Runs.{HasBegun, HasTaken, WasSetUp, WereRun, Wrote, read_faults, write_faults}
 use Rattle.ds_serving.specs.Settings.{IsSetting}
@@ -36,6 +36,7 @@ use Rattle.ds_store.specs.Passes.{nothing_seen}
 use Rattle.ds_store.specs.Passes.{PassParts}
 use Rattle.ds_model.specs.Legal.{Legal}
 use Rattle.ds_model.specs.Sessions.{first_session, first_sessions}
+use Rattle.ds_serve.proofs.Behind.{behind_nothing, stopped_alone}
 use Rattle.ds_words.specs.declared.status.Status.{Status}
 use Rattle.ds_words.specs.declared.status.Status.TheVariants as status
 
@@ -138,7 +139,7 @@ module _ (P : PassParts → Type 0) where
   all-turned xs ys all = All-append P ys xs (all-back xs ys all) (all-front xs ys all)
 
 -- the order of the passes with which a store has ended doesn't matter
-ended_turned : (shards : ℕ) (ps qs : List PassParts) (journal : List Commit) (next : ℕ) → HaveEnded shards (ps ++ qs) journal next
+pub ended_turned : (shards : ℕ) (ps qs : List PassParts) (journal : List Commit) (next : ℕ) → HaveEnded shards (ps ++ qs) journal next
     → HaveEnded shards (qs ++ ps) journal next
 ended_turned shards ps qs journal next ended = record {
   begin = all-turned (Begins shards journal) ps qs ended.begin;
@@ -181,14 +182,17 @@ closes {words} {content} {how} {left} {rest} {old} {new} {unsent} {setting} {now
 -- what is given at the end of a run
 pub closed : {setting : Setting} {left rest old new : Option (List ℕ)} {read_old read_new write_old write_new : ℕ}
     {first now : List SessionParts} (s : Stopped) (passes idle : List PassParts) (run : Run) → AreNew setting.shards first
-    → HasEnded setting left rest old new read_old read_new write_old write_new first now s → passes ≡ idle ++ passes_of now
+    → HasEnded setting first_reader left rest old new read_old read_new write_old write_new first now s → passes ≡ idle ++ passes_of now
     → All IsIdle idle → run.status ≡ s.status → run.unsent ≡ s.unsent → IsSome run.journal
     → IfSome run.journal (λ journal. (next : ℕ) × HaveEnded setting.shards passes journal next)
     → IsRunOf setting left rest old new read_old read_new write_old write_new run
 closed {setting} {left} {rest} {old} {new} {read_old} {read_new} {write_old} {write_new} {first} {now} s passes idle run are_new ended are
     idle_all same_status same_unsent some closing = record {
       legal = λ words content is_set.
-          told words content is_set (ended.stopped (served_nothing (Ran setting) left old first (first_run setting first are_new)))
+          told words content is_set (stopped_alone setting (first_sessions setting.shards) (StoppedPast s.status 0)
+          (ended.stopped (first_sessions setting.shards) [] [] left old
+          (served_nothing (RanBehind setting (first_sessions setting.shards) [] []) left old first
+          (behind_nothing setting (first_sessions setting.shards) [] first [] (first_run setting first are_new)))))
           run.journal closing;
       journal = some;
       unsent = subst (λ (t : Status). (t ≡ status.WriteFault) ⊎ (run.unsent ≡ [])) (sym same_status)

@@ -1,7 +1,7 @@
 //! A run over a store: its sessions, with the appliers beside them, and its close.
 ghost use Rattle.std.specs.Prelude.{◌≡◌, ◌+◌, ◌≤◌, ℕ, All, IfSome, IsSome, length, replicate, vec_len};
 ghost use Rattle.std.specs.Vec.{vec_capacity};
-ghost use Rattle.ds_base.specs.Limits.{greatest_client};
+ghost use Rattle.ds_base.specs.Limits.{greatest_client, most_input_bytes};
 ghost use Rattle.ds_protocol.specs.Watermarks.{HaveCounts};
 ghost use Rattle.ds_rounds.specs.Reading.{first_reader};
 ghost use Rattle.ds_serve.specs.RunSteps.{HasEnded, IsRunOf};
@@ -146,8 +146,8 @@ fn run_begun<
     close(rt, store, Passes::from(passes), stopped)
 }
 
-/// Serves the rounds of an input, from the first one on, while each of these passes applies entries.
-fn serve_beside<
+/// Serves the rounds of an input that are left, until the run stops, while each of these passes applies entries.
+pub fn serve_beside<
     J: Names + Send + Sync,
     Rt: Threads + Wait + Sync,
     H: Wait + Drop + Send,
@@ -163,11 +163,11 @@ fn serve_beside<
     input: &mut I,
     output: &mut O,
 ) -> Stopped
-    requires reader { rounds.old ≡ first_reader }
+    requires reader { rounds.old.number ≤ most_input_bytes + 1 }
     requires counts { HaveCounts serving.now.shards (seen_of sessions.old) }
     requires written { AreWritten sessions.old }
     requires idle { All IsIdle appliers.old }
-    ensures ended { HasEnded serving.now (I.left input.old) (I.left input.new) (O.held output.old) (O.held output.new)
+    ensures ended { HasEnded serving.now rounds.old (I.left input.old) (I.left input.new) (O.held output.old) (O.held output.new)
         (I.faults input.old) (I.faults input.new) (O.faults output.old) (O.faults output.new) sessions.old sessions.new result }
     ensures idle { All IsIdle appliers.new }
     ensures many { length appliers.new ≡ length appliers.old }
@@ -175,10 +175,10 @@ fn serve_beside<
     serving.with_appliers(
         appliers,
         &mut || -> Stopped
-            requires reader { rounds.now ≡ first_reader }
+            requires reader { rounds.now.number ≤ most_input_bytes + 1 }
             requires counts { HaveCounts serving.now.shards (seen_of sessions.now) }
             requires written { AreWritten sessions.now }
-            ensures { HasEnded serving.entry.now (I.left input.entry.now) (I.left input.exit.now) (O.held output.entry.now)
+            ensures { HasEnded serving.entry.now rounds.entry.now (I.left input.entry.now) (I.left input.exit.now) (O.held output.entry.now)
                 (O.held output.exit.now) (I.faults input.entry.now) (I.faults input.exit.now) (O.faults output.entry.now)
                 (O.faults output.exit.now) sessions.entry.now sessions.exit.now result }
         { serve_rounds(serving, alloc, rounds, sessions, input, output) },

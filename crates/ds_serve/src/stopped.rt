@@ -7,14 +7,14 @@ use std::alloc::Global;
 
 /// How a run stopped, and the replies' bytes that were not taken.
 #[derive(Drop)]
-pub(crate) struct Stopped {
+pub struct Stopped {
     pub status: Status,
     pub unsent: Unsent,
 }
 
 /// What the next round of a run comes to.
 #[derive(Drop)]
-pub(crate) enum RoundOutcome {
+pub enum RoundOutcome {
     /// A round was read and run, and its replies were written.
     Served,
     /// The run has stopped.

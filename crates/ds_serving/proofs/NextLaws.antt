@@ -14,12 +14,11 @@ use Rattle.ds_session.specs.Sessions.{SessionParts}
 use Rattle.ds_clients.proofs.ClosingLaws.{idle_first}
 use Rattle.ds_clients.proofs.RoundLaws.{run_more, run_more_begins}
 use Rattle.ds_store.specs.Passes.{PassParts, nothing_seen}
-use Rattle.ds_words.specs.declared.status.Status.{Status}
 use Rattle.ds_words.specs.declared.status.Status.TheVariants as status
-use Rattle.ds_serving.specs.Rounds.{HasNone, HasServed, HasStopped, RanFrom}
+use Rattle.ds_serving.specs.Rounds.{HasServed, HasStopped, RanFrom}
 use Rattle.ds_serving.specs.declared.settings.Setting.{Setting}
 use Rattle.ds_serving.proofs.Alike.{run_alike, run_alike_replies}
-use Rattle.ds_serving.proofs.RoundLaws.{ends_here, ends_unsent, served_round}
+use Rattle.ds_serving.proofs.RoundLaws.{ends_unsent, served_round}
 
 -- sessions to which nothing was done
 pub alike_same : (s : List SessionParts) → AreAlike s s
@@ -70,11 +69,3 @@ module _ (setting : Setting) (first : List Session) where
       → HasStopped (RanFrom setting first) status.WriteFault left_first next held_first held_next unsent u
   round_unsent {t} unsent before given alike wrote =
       ends_unsent (RanFrom setting first) t unsent before given.1 (ran_more given.0 before.has_run given.2 alike) wrote
-
-  -- no further round was run
-  pub none_run : {left_first left next held_first held : Option (List ℕ)} {old new : ReaderParts} {s t : List SessionParts}
-      (how : Status) → HasServed (RanFrom setting first) left_first left held_first held old s → HasNone how old new left next s t
-      → HasStopped (RanFrom setting first) how left_first next held_first held [] t
-  none_run {s} {t} how before none =
-      ends_here (RanFrom setting first) how before
-      (run_alike setting.defs setting.shards (Some setting.window) first before.rounds s t before.text none.0 before.has_run) none

@@ -27,13 +27,13 @@ false_true is = cc
 
 -- ---- what a reader has given, of the bytes so far
 
-record Given (first : Option (List ℕ)) (bytes : List ℕ) (rounds : List (List NumberedLine)) : Type 0 where
-  ended : Bool
-  at_the_end : ended ≡ true → IfSome first (λ all. all ≡ bytes)
-  behind : List (List NumberedLine)
-  first_ones : AreFirst rounds behind (rounds_in ended 1 bytes)
+pub record Given (first : Option (List ℕ)) (bytes : List ℕ) (rounds : List (List NumberedLine)) : Type 0 where
+  pub ended : Bool
+  pub at_the_end : ended ≡ true → IfSome first (λ all. all ≡ bytes)
+  pub behind : List (List NumberedLine)
+  pub first_ones : AreFirst rounds behind (rounds_in ended 1 bytes)
 
-given : {first now : Option (List ℕ)} {bytes : List ℕ} {rounds : List (List NumberedLine)} {reader : ReaderParts}
+pub given : {first now : Option (List ℕ)} {bytes : List ℕ} {rounds : List (List NumberedLine)} {reader : ReaderParts}
     → HasRead first now bytes rounds reader → Given first bytes rounds
 given {first} {now} {bytes} {rounds} {reader} so_far = by_stage reader.stage refl where
   of_end : (ended : Bool) → MayFollow reader.stage ended []
@@ -114,10 +114,11 @@ module _ (Ran : List (List NumberedLine) → List SessionParts → List ℕ → 
   }
 
   -- a round was run, and its replies were written
-  pub served_round : {left_first left next held_first held held_next : Option (List ℕ)} {old new : ReaderParts} {s u : List SessionParts}
+  pub served_round : {Next : List (List NumberedLine) → List SessionParts → List ℕ → Type 0}
+      {left_first left next held_first held held_next : Option (List ℕ)} {old new : ReaderParts} {s u : List SessionParts}
       {round : Round} (t : List SessionParts) (before : HasServed Ran left_first left held_first held old s)
-      → ReadsRound old new left next (Ok (Some round)) → Ran (before.rounds ++ lines_of_round round ∷ []) u (before.text ++ texts_of t)
-      → Appends held held_next (texts_of t) → HasServed Ran left_first next held_first held_next new u
+      → ReadsRound old new left next (Ok (Some round)) → Next (before.rounds ++ lines_of_round round ∷ []) u (before.text ++ texts_of t)
+      → Appends held held_next (texts_of t) → HasServed Next left_first next held_first held_next new u
   served_round {left_first} {left} {next} {held_first} {held} {held_next} {old} {new} {s} {u} {round} t before call ran wrote = record {
     bytes = before.bytes ++ call.read;
     rounds = before.rounds ++ lines_of_round round ∷ [];
@@ -129,11 +130,12 @@ module _ (Ran : List (List NumberedLine) → List SessionParts → List ℕ → 
   }
 
   -- a run that has stopped, from what was run and written and the rounds that these are
-  ends : (how : Status) {left_first left held_first held : Option (List ℕ)} {now : List SessionParts} {text unsent : List ℕ}
-      {rounds : List (List NumberedLine)} (bytes : List ℕ) (ended : Bool) → Ran rounds now text → Consumes left_first left bytes
+  ends : {Next : List (List NumberedLine) → List SessionParts → List ℕ → Type 0}
+      (how : Status) (rounds : List (List NumberedLine)) {left_first left held_first held : Option (List ℕ)} {now : List SessionParts}
+      {text unsent : List ℕ} (bytes : List ℕ) (ended : Bool) → Next rounds now text → Consumes left_first left bytes
       → (ended ≡ true → IfSome left_first (λ all. all ≡ bytes)) → WereRun how ended bytes rounds → Wrote held_first held unsent text
-      → HasStopped Ran how left_first left held_first held unsent now
-  ends how {left_first} {left} {held_first} {held} {now} {text} {unsent} {rounds} bytes ended has_run told at_the_end run wrote = record {
+      → HasStopped Next how left_first left held_first held unsent now
+  ends how rounds {text} bytes ended has_run told at_the_end run wrote = record {
     read = bytes;
     told = told;
     ended = ended;
@@ -146,25 +148,27 @@ module _ (Ran : List (List NumberedLine) → List SessionParts → List ℕ → 
   }
 
   -- a write failed
-  pub ends_unsent : {left_first left next held_first held held_next : Option (List ℕ)} {old new : ReaderParts} {s u : List SessionParts}
+  pub ends_unsent : {Next : List (List NumberedLine) → List SessionParts → List ℕ → Type 0}
+      {left_first left next held_first held held_next : Option (List ℕ)} {old new : ReaderParts} {s u : List SessionParts}
       {round : Round} (t : List SessionParts) (unsent : List ℕ) (before : HasServed Ran left_first left held_first held old s)
-      → ReadsRound old new left next (Ok (Some round)) → Ran (before.rounds ++ lines_of_round round ∷ []) u (before.text ++ texts_of t)
+      → ReadsRound old new left next (Ok (Some round)) → Next (before.rounds ++ lines_of_round round ∷ []) u (before.text ++ texts_of t)
       → WrotePart held held_next (texts_of t) unsent
-      → HasStopped Ran status.WriteFault left_first next held_first held_next unsent u
-  ends_unsent {left_first} {left} {next} {held_first} {held} {held_next} {old} {new} {s} {u} {round} t unsent before call ran wrote =
+      → HasStopped Next status.WriteFault left_first next held_first held_next unsent u
+  ends_unsent {Next} {left_first} {left} {next} {held_first} {held} {held_next} {old} {new} {s} {u} {round} t unsent before call ran wrote =
       let has_read = read_round before.has_read call in
       let so_far = given has_read in
-      ends status.WriteFault (before.bytes ++ call.read) so_far.ended ran has_read.told so_far.at_the_end
+      ends status.WriteFault (before.rounds ++ lines_of_round round ∷ []) (before.bytes ++ call.read) so_far.ended ran has_read.told so_far.at_the_end
       (so_far.behind, so_far.first_ones) (wrote_more held_first held held_next before.text (texts_of t) unsent before.wrote wrote)
 
   -- there was no memory to run it: the sessions have seen and done nothing more
-  pub ends_unrun : {left_first left next held_first held : Option (List ℕ)} {old new : ReaderParts} {s t : List SessionParts}
+  pub ends_unrun : {Next : List (List NumberedLine) → List SessionParts → List ℕ → Type 0}
+      {left_first left next held_first held : Option (List ℕ)} {old new : ReaderParts} {s t : List SessionParts}
       {round : Round} (before : HasServed Ran left_first left held_first held old s) → ReadsRound old new left next (Ok (Some round))
-      → Ran before.rounds t before.text → HasStopped Ran status.NoMemory left_first next held_first held [] t
-  ends_unrun {left_first} {left} {next} {held_first} {held} {old} {new} {s} {t} {round} before call ran =
+      → Next before.rounds t before.text → HasStopped Next status.NoMemory left_first next held_first held [] t
+  ends_unrun {Next} {left_first} {left} {next} {held_first} {held} {old} {new} {s} {t} {round} before call ran =
       let now = read_round before.has_read call in
       let so_far = given now in
-      ends status.NoMemory (before.bytes ++ call.read) so_far.ended ran now.told so_far.at_the_end (
+      ends status.NoMemory before.rounds (before.bytes ++ call.read) so_far.ended ran now.told so_far.at_the_end (
         lines_of_round round ∷ so_far.behind,
         so_far.first_ones
             ∙ append_assoc before.rounds (lines_of_round round ∷ []) so_far.behind,
@@ -173,11 +177,12 @@ module _ (Ran : List (List NumberedLine) → List SessionParts → List ℕ → 
       (all_wrote held_first held before.text before.wrote)
 
   -- the input has ended
-  ends_done : {left_first left next held_first held : Option (List ℕ)} {old new : ReaderParts} {s t : List SessionParts}
-      (before : HasServed Ran left_first left held_first held old s) → Ran before.rounds t before.text
-      → ReadsRound old new left next (Ok None) → HasStopped Ran status.Done left_first next held_first held [] t
-  ends_done {left_first} {left} {next} {held_first} {held} {old} {new} {s} {t} before ran call =
-      ends status.Done (before.bytes ++ call.read) true ran
+  ends_done : {Next : List (List NumberedLine) → List SessionParts → List ℕ → Type 0}
+      {left_first left next held_first held : Option (List ℕ)} {old new : ReaderParts} {s t : List SessionParts}
+      (before : HasServed Ran left_first left held_first held old s) → Next before.rounds t before.text
+      → ReadsRound old new left next (Ok None) → HasStopped Next status.Done left_first next held_first held [] t
+  ends_done {Next} {left_first} {left} {next} {held_first} {held} {old} {new} {s} {t} before ran call =
+      ends status.Done before.rounds (before.bytes ++ call.read) true ran
       (Consumes-trans left_first left next before.bytes call.read before.has_read.told call.told) (λ is. at_the_end) (
         refl,
         subst (λ n. n < most_input_bytes) (counted_more old new before.bytes call.read before.counted call.counted) call.outcome.2,
@@ -201,21 +206,22 @@ module _ (Ran : List (List NumberedLine) → List SessionParts → List ℕ → 
             met_before
 
   -- no further round was read
-  ends_refused : {left_first left next held_first held : Option (List ℕ)} {old new : ReaderParts} {s t : List SessionParts}
-      (why : RoundRefused) (before : HasServed Ran left_first left held_first held old s) → Ran before.rounds t before.text
-      → ReadsRound old new left next (Err why) → HasStopped Ran (status_of why) left_first next held_first held [] t
-  ends_refused {left_first} {left} {next} {held_first} {held} {old} {new} {s} {t} why before ran = by_cause why where
+  ends_refused : {Next : List (List NumberedLine) → List SessionParts → List ℕ → Type 0}
+      {left_first left next held_first held : Option (List ℕ)} {old new : ReaderParts} {s t : List SessionParts}
+      (why : RoundRefused) (before : HasServed Ran left_first left held_first held old s) → Next before.rounds t before.text
+      → ReadsRound old new left next (Err why) → HasStopped Next (status_of why) left_first next held_first held [] t
+  ends_refused {Next} {left_first} {left} {next} {held_first} {held} {old} {new} {s} {t} why before ran = by_cause why where
     counted : (read : List ℕ) → new.taken ≡ old.taken + length read → new.taken ≡ length (before.bytes ++ read)
     counted read more = counted_more old new before.bytes read before.counted more
 
     ended : (read : List ℕ) (how : Status) → Consumes left next read
-        → WereRun how false (before.bytes ++ read) before.rounds → HasStopped Ran how left_first next held_first held [] t
+        → WereRun how false (before.bytes ++ read) before.rounds → HasStopped Next how left_first next held_first held [] t
     ended read how told run =
-        ends how (before.bytes ++ read) false ran (Consumes-trans left_first left next before.bytes read
+        ends how before.rounds (before.bytes ++ read) false ran (Consumes-trans left_first left next before.bytes read
         before.has_read.told told) (λ is. false_true is) run (all_wrote held_first held before.text before.wrote)
 
     by_cause : (cause : RoundRefused) → ReadsRound old new left next (Err cause)
-        → HasStopped Ran (status_of cause) left_first next held_first held [] t
+        → HasStopped Next (status_of cause) left_first next held_first held [] t
     by_cause refused.ReadFault call =
         ended call.read status.ReadFault call.told (
           subst (λ n. n < most_input_bytes) (counted call.read call.counted)
@@ -239,18 +245,19 @@ module _ (Ran : List (List NumberedLine) → List SessionParts → List ℕ → 
               (λ reading. subst (λ s. MayFollow s false call.read) (sym reading) tt) (λ end. let none = (call.past_the_end end).1 in cc)
 
   -- no further round is run
-  pub ends_here : {left_first left next held_first held : Option (List ℕ)} {old new : ReaderParts} {s t : List SessionParts} (how : Status)
-      (before : HasServed Ran left_first left held_first held old s) → Ran before.rounds t before.text
-      → HasNone how old new left next s t → HasStopped Ran how left_first next held_first held [] t
-  ends_here {left_first} {left} {next} {held_first} {held} {old} {new} {s} {t} how before ran none = by_cause none.1 where
-    as_told : (other : Status) → how ≡ other → HasStopped Ran other left_first next held_first held [] t
-        → HasStopped Ran how left_first next held_first held [] t
-    as_told other is stopped = subst (λ (h : Status). HasStopped Ran h left_first next held_first held [] t) (sym is) stopped
+  pub ends_here : {Next : List (List NumberedLine) → List SessionParts → List ℕ → Type 0}
+      {left_first left next held_first held : Option (List ℕ)} {old new : ReaderParts} {s t : List SessionParts} (how : Status)
+      (before : HasServed Ran left_first left held_first held old s) → Next before.rounds t before.text
+      → HasNone how old new left next s t → HasStopped Next how left_first next held_first held [] t
+  ends_here {Next} {left_first} {left} {next} {held_first} {held} {old} {new} {s} {t} how before ran none = by_cause none.1 where
+    as_told : (other : Status) → how ≡ other → HasStopped Next other left_first next held_first held [] t
+        → HasStopped Next how left_first next held_first held [] t
+    as_told other is stopped = subst (λ (h : Status). HasStopped Next h left_first next held_first held [] t) (sym is) stopped
 
     by_cause : (((how ≡ status.Done) × ReadsRound old new left next (Ok None))
         ⊎ (((why : RoundRefused) × (how ≡ status_of why) × ReadsRound old new left next (Err why))
         ⊎ ((round : Round) × (how ≡ status.NoMemory) × ReadsRound old new left next (Ok (Some round)))))
-        → HasStopped Ran how left_first next held_first held [] t
+        → HasStopped Next how left_first next held_first held [] t
     by_cause (inl done) = as_told status.Done done.0 (ends_done before ran done.1)
     by_cause (inr (inl refused)) = as_told (status_of refused.0) refused.1 (ends_refused refused.0 before ran refused.2)
     by_cause (inr (inr unrun)) = as_told status.NoMemory unrun.1 (ends_unrun before unrun.2 ran)

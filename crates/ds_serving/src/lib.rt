@@ -17,4 +17,4 @@ pub mod settings;
 pub use begun::{Begun, begin};
 pub use ds_words::Status;
 pub use serving::{NextRound, Serving};
-pub use settings::{Setting, Start, set_up};
+pub use settings::{Setting, Start, read_indexes, set_up};

@@ -1,5 +1,5 @@
 //! What the words of the command line and the index file set up.
-ghost use Rattle.std.specs.Prelude.{◌≡◌, ◌≤◌, Some, None, map, IfOk, IfErr, IfSome, MatchResult};
+ghost use Rattle.std.specs.Prelude.{◌≡◌, ◌≤◌, ℕ, List, Some, None, map, IfOk, IfErr, IfSome, MatchResult};
 ghost use Rattle.std.specs.Option.{option_map};
 ghost use Rattle.std.specs.String.{string_bytes};
 ghost use Rattle.ds_base.specs.Limits.{greatest_window, most_appliers, most_shards};
@@ -31,7 +31,8 @@ pub struct Start {
     pub appliers: u32,
 }
 
-/// Reads the words, and loads and reads the index file that they name, if they name one. A status says why the run can't begin.
+/// Reads the words, and loads and reads the index file that they name, if they name one. A status says why the run can't begin. No file's
+/// content changes, and without `FileFault` no count of faults.
 pub fn set_up<F: Files>(alloc: Global, words: &[String], files: &mut F) -> Result<Start, Status>
     ensures ok { IfOk result (λ s. IsSetting (map string_bytes words.now) (F.content files.old) s.setting) }
     ensures shards { IfOk result (λ s. (1 ≤ s.setting.shards) × (s.setting.shards ≤ most_shards)) }
@@ -45,6 +46,9 @@ pub fn set_up<F: Files>(alloc: Global, words: &[String], files: &mut F) -> Resul
     ensures faults { IfSome (indexes_named (map string_bytes words.now)) (λ name. MatchResult result
         (λ _. F.faults files.new name ≡ F.faults files.old name)
         (λ status. F.faults files.new name ≡ file_faults status (F.faults files.old name))) }
+    ensures contents { (other : List ℕ) → F.content files.new other ≡ F.content files.old other }
+    ensures counts { MatchResult result (λ _. (other : List ℕ) → F.faults files.new other ≡ F.faults files.old other)
+        (λ status. (status ≡ Status.FileFault → ⊥) → (other : List ℕ) → F.faults files.new other ≡ F.faults files.old other) }
 {
     let options = match read_words(alloc, words) {
         Ok(options) => options,
@@ -76,22 +80,29 @@ fn definitions<F: Files>(
     ensures faults { IfSome indexes.now (λ name. MatchResult result
         (λ _. F.faults files.new name ≡ F.faults files.old name)
         (λ status. F.faults files.new name ≡ file_faults status (F.faults files.old name))) }
+    ensures contents { (other : List ℕ) → F.content files.new other ≡ F.content files.old other }
+    ensures counts { MatchResult result (λ _. (other : List ℕ) → F.faults files.new other ≡ F.faults files.old other)
+        (λ status. (status ≡ Status.FileFault → ⊥) → (other : List ℕ) → F.faults files.new other ≡ F.faults files.old other) }
 {
     match indexes {
-        Some(name) => load(alloc, files, name),
+        Some(name) => read_indexes(alloc, files, name.text()),
         None => Ok(Defs::new(alloc)),
     }
 }
 
-/// Loads and reads the index file of this name.
-fn load<F: Files>(alloc: Global, files: &mut F, name: &TextString) -> Result<Defs, Status>
+/// Loads and reads the index file of this name. A status says why there are no definitions: the file's text leaves its form, it failed to
+/// load, or there was no memory. No file's content changes, and without `FileFault` no count of faults.
+pub fn read_indexes<F: Files>(alloc: Global, files: &mut F, name: &str) -> Result<Defs, Status>
     ensures ok { IfOk result (λ defs. AreRead (F.content files.old name.now) defs) }
     ensures refused { IfErr result (λ status. IsUnread name.now (F.content files.old) (F.faults files.old) (F.faults files.new) status) }
     ensures faults { MatchResult result
         (λ _. F.faults files.new name.now ≡ F.faults files.old name.now)
         (λ status. F.faults files.new name.now ≡ file_faults status (F.faults files.old name.now)) }
+    ensures contents { (other : List ℕ) → F.content files.new other ≡ F.content files.old other }
+    ensures counts { MatchResult result (λ _. (other : List ℕ) → F.faults files.new other ≡ F.faults files.old other)
+        (λ status. (status ≡ Status.FileFault → ⊥) → (other : List ℕ) → F.faults files.new other ≡ F.faults files.old other) }
 {
-    let text = match files.load(alloc, name.text()) {
+    let text = match files.load(alloc, name) {
         Ok(text) => text,
         Err(LoadFault::Failed) => return Err(Status::FileFault),
         Err(LoadFault::NoMemory) => return Err(Status::NoMemory),
