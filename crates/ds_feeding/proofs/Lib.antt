@@ -1,0 +1,4 @@
+pub mod CatchingUpLaws
+pub mod EndLaws
+pub mod FeedLaws
+pub mod RowLaws
