@@ -1,6 +1,6 @@
 """What the tests stand on: the programs that they try, the base of their cases, runs and talks.
 
-A program is that of TORFYLLAN, TORFYLLAN_AUDIT or TORFYLLAN_FILL; else the proved one where it is built, else the unproved one. SEED, where it is
+A program is that of TORFYLLAN, TORFYLLAN_KEPT, TORFYLLAN_AUDIT, TORFYLLAN_FILL or TORFYLLAN_REPLICAS; else the proved one where it is built, else the unproved one. SEED, where it is
 given, begins the random choices. TORFYLLAN_WHOLE tries all of what is else tried by a sample; of the unproved program, which is many times slower, the
 samples are smaller.
 """
@@ -44,6 +44,11 @@ def program(variable, name):
 def server():
     """The server's path."""
     return program("TORFYLLAN", "server")
+
+
+def keeper():
+    """The path of the server that keeps a file."""
+    return program("TORFYLLAN_KEPT", "keeper")
 
 
 def auditor():

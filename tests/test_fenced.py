@@ -21,7 +21,7 @@ import sys
 import tempfile
 import textwrap
 
-from tests.case import TOP, Case, auditor, load_program, run, server, with_defaults
+from tests.case import TOP, Case, auditor, keeper, load_program, run, server, with_defaults
 
 sys.path.insert(0, str(TOP / "drivers" / "python"))
 from by_pytest import PYTHON
@@ -70,6 +70,8 @@ class Example:
             words = {"TORFYLLAN": server(), "PYTHONPATH": str(TOP / "drivers" / "python"), "PYTHONDONTWRITEBYTECODE": "1", "TMPDIR": folder}
             if "audit" in self.text or "audit" in "".join(self.files.values()):
                 words["TORFYLLAN_AUDIT"] = auditor()
+            if "kept" in self.text:
+                words["TORFYLLAN_KEPT"] = keeper()
             if "--fill" in self.text:
                 words["TORFYLLAN_FILL"] = load_program()
             ran = subprocess.run(command, stdout=subprocess.PIPE, stderr=subprocess.STDOUT, text=True, cwd=folder, env={**os.environ, **words}, timeout=600)

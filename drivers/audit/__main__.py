@@ -3,6 +3,8 @@
 The journal that the auditor is handed is told by the acknowledged commits: `journal_of` makes its text. That needs no trust, as the verdict is on
 the journal that it makes. WORDS are those that served the lines, as ./run takes them. The proved auditor judges where it is there, else one of which
 nothing is proved, as with --unproved; ./run --audit --prove makes the proved one.
+
+With --kept FILE among them the run went over a kept file, and FILE is a copy of how it was before: `kept_run` tells what goes in front.
 """
 import json
 import os
@@ -12,11 +14,13 @@ import tempfile
 
 sys.dont_write_bytecode = True
 from journal_of import journal
+from kept_run import Prologue
+from torfyllan.kept import KeptFile
 
 TOP = os.environ.get("TORFYLLAN_TOP") or os.path.dirname(os.path.dirname(os.path.dirname(os.path.realpath(__file__))))
 BUILD = [sys.executable, os.path.join(TOP, "drivers", "build"), "auditor"]
 DEFAULTS = (("--shards", "1"), ("--appliers", "0"))
-WRONG_WORDS = 95
+WRONG_WORDS, DAMAGED = 95, 9
 
 
 def program(unproved):
@@ -52,34 +56,72 @@ def reply_to(name, number):
 
 def refuse(told):
     print(f"audit: {told}", file=sys.stderr)
-    print("usage: ./run --audit INPUT REPLIES [--indexes FILE] [--shards N] [--appliers N] [--window N] [--unproved]\n       ./run --audit --prove", file=sys.stderr)
+    print("usage: ./run --audit INPUT REPLIES [--indexes FILE] [--shards N] [--appliers N] [--window N] [--kept COPY] [--unproved]\n       ./run --audit --prove", file=sys.stderr)
     return WRONG_WORDS
+
+
+def without_kept(words):
+    """The words without `--kept FILE`, and FILE; None where they name none."""
+    for at, word in enumerate(words):
+        if word == "--kept" and at + 1 < len(words):
+            return [*words[:at], *words[at + 2 :]], words[at + 1]
+        if word.startswith("--kept="):
+            return [*words[:at], *words[at + 1 :]], word[len("--kept=") :]
+    return words, None
+
+
+def prologue_of(name):
+    """What goes before a run over a kept file that was as this one is; None where it is damaged."""
+    with open(name, "rb") as file:
+        kept = KeptFile(file.read())
+    prologue = Prologue(kept)
+    if kept.damaged:
+        print(f"audit: {name} is damaged at byte {kept.place}, so no run begins with it; ./run --kept-journal {name} prints what it keeps before", file=sys.stderr)
+        return None
+    return prologue
+
+
+def judged(auditor, lines, replies, words, prologue):
+    """How the auditor ends over the files of a run, behind this prologue or none."""
+    with tempfile.TemporaryDirectory() as folder, open(lines, "rb") as file, open(replies, "rb") as other:
+        asked, answered = file.read(), other.read()
+        told = journal(asked, answered, prologue.commits if prologue else 0)
+        texts = {"journal": (prologue.journal if prologue else b"") + told}
+        if prologue:
+            texts.update(lines=prologue.lines + asked, replies=prologue.replies + prologue.behind(answered))
+            lines, replies = os.path.join(folder, "lines"), os.path.join(folder, "replies")
+        for name, text in texts.items():
+            with open(os.path.join(folder, name), "wb") as copy:
+                copy.write(text)
+        return subprocess.run([auditor, lines, replies, os.path.join(folder, "journal"), *words], stdin=subprocess.DEVNULL, stdout=subprocess.PIPE, text=True)
 
 
 def main(words):
     if words == ["--prove"]:
         return subprocess.run([*BUILD, "--prove"], stdin=subprocess.DEVNULL).returncode
     unproved = "--unproved" in words
-    words = [word for word in words if word != "--unproved"]
+    words, kept = without_kept([word for word in words if word != "--unproved"])
     if len(words) < 2 or words[0].startswith("--") or words[1].startswith("--"):
         return refuse("the names of an input and of its replies are missing")
     lines, replies, *words = words
-    for name in (lines, replies):
+    for name in (lines, replies, *([kept] if kept is not None else [])):
         if name != os.devnull and not (os.path.isfile(name) and os.access(name, os.R_OK)):
             return refuse(f"there is no file '{name}', or it can't be read")
     for name, value in DEFAULTS:
         if not any(word == name or word.startswith(name + "=") for word in words):
             words += [name, value]
-    auditor = program(unproved)
-    with tempfile.TemporaryDirectory() as folder:
-        told = os.path.join(folder, "journal")
-        with open(lines, "rb") as asked, open(replies, "rb") as answered, open(told, "wb") as text:
-            text.write(journal(asked.read(), answered.read()))
-        ran = subprocess.run([auditor, lines, replies, told, *words], stdin=subprocess.DEVNULL, stdout=subprocess.PIPE, text=True)
-    print(ran.stdout, end="")
-    if ran.stdout.startswith("not legal: line "):
-        number = int(ran.stdout.rsplit(None, 1)[1])
-        print(f"line  {line_of(lines, number)}\nreply {reply_to(replies, number)}")
+    prologue = prologue_of(kept) if kept is not None else None
+    if kept is not None and prologue is None:
+        return DAMAGED
+    ran = judged(program(unproved), lines, replies, words, prologue)
+    before = prologue.count if prologue else 0
+    number = int(ran.stdout.rsplit(None, 1)[1]) if ran.stdout.startswith("not legal: line ") else None
+    if number is not None and number <= before:
+        print(f"not legal: kept commit {prologue.commit_of(number)}")
+    elif number is not None:
+        print(f"not legal: line {number - before}\nline  {line_of(lines, number - before)}\nreply {reply_to(replies, number - before)}")
+    else:
+        print(ran.stdout, end="")
     return ran.returncode
 
 

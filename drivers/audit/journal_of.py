@@ -108,8 +108,8 @@ def take(reply, asked, commits, open_by):
         open_by.pop(client)
 
 
-def journal(lines, replies):
-    """The text of the journal, from the bytes of an input and of its replies."""
+def commits_told(lines, replies):
+    """The commits by their numbers, each as the JSON of its line, from the bytes of an input and of its replies."""
     lines, commits, open_by = lines.split(b"\n"), {}, {}
     for line in replies.split(b"\n")[:-1]:
         # Of a reply that can't be followed nothing is told: the verdict will tell of it, or of the first one that misses its commit.
@@ -119,8 +119,14 @@ def journal(lines, replies):
                 open_by.pop(reply["client"], None)
             if "ok" in reply:
                 take(reply, json.loads(lines[reply["line"] - 1]), commits, open_by)
+    return commits
+
+
+def journal(lines, replies, kept=0):
+    """The text of the journal; behind so many commits that were kept before, which aren't told."""
+    commits = commits_told(lines, replies)
     # Behind a number that no reply tells nothing stands, so that the verdict tells of the next one's reply.
-    numbers = itertools.takewhile(lambda number: number in commits, itertools.count(1))
+    numbers = itertools.takewhile(lambda number: number in commits, itertools.count(kept + 1))
     return "".join(text(commits[number]) + "\n" for number in numbers).encode(errors="surrogatepass")
 
 

@@ -7,6 +7,7 @@ import contextlib
 import os
 import shutil
 import subprocess
+import tempfile
 import threading
 import time
 
@@ -55,7 +56,7 @@ def tried(program, folder, caught):
         try:
             while trial.poll() is None:
                 keep(folder, caught)
-                if program.what != "server" and os.path.exists(caught) and answers(program, caught):
+                if program.what not in ("server", "keeper") and os.path.exists(caught) and answers(program, caught):
                     break
                 time.sleep(0.01)
         finally:
@@ -81,6 +82,8 @@ def trial_words(program, folder):
     """The words of the trial: an auditor's input is a pipe into which nothing is written, for which it waits; a load is a large one; there is one replica."""
     if program.what == "server":
         return DEFAULT_WORDS
+    if program.what == "keeper":
+        return ["--kept", os.path.join(folder, "kept"), *DEFAULT_WORDS]
     if program.what == "load":
         return ["100000"]
     if program.what == "replicas":
@@ -93,6 +96,7 @@ def trial_words(program, folder):
 # For each program words, an input, and the beginning of the output by which it is known to be whole.
 WHOLE = {
     "server": (DEFAULT_WORDS, b'{"op":"settle"}\n', b'{"applied":[0],"client":0,"line":1,"ok":"settle"'),
+    "keeper": (["--kept", "kept", *DEFAULT_WORDS], b'{"op":"settle"}\n', b'{"applied":[0],"client":0,"line":1,"ok":"settle"'),
     "auditor": ([os.devnull] * 3 + DEFAULT_WORDS, b"", b"legal\n"),
     "load": (["1"], b"", b"items 1\nmatches 0\nlast none\n"),
     "replicas": (["1"], b"propose 0 0 1 a\ndeliver 0\ndeliver 1\ndeliver 2\ndeliver 3\n", b"replica 0 log 0 position 1 a\n"),
@@ -103,7 +107,7 @@ def answers(program, binary):
     """Whether the program is whole: a server answers a line; an auditor finds no line legal; a load of one item is counted; one replica holds what it proposes."""
     words, lines, told = WHOLE[program.what]
     os.chmod(binary, 0o755)
-    with contextlib.suppress(OSError):
-        ran = subprocess.run([binary, *words], input=lines, capture_output=True)
+    with contextlib.suppress(OSError), tempfile.TemporaryDirectory() as folder:
+        ran = subprocess.run([binary, *words], input=lines, capture_output=True, cwd=folder)
         return ran.returncode == 0 and ran.stdout.startswith(told)
     return False

@@ -62,6 +62,7 @@ class Program:
 
 PROGRAMS = {
     "server": Program("server", "ds_server", "./run --prove"),
+    "keeper": Program("keeper", "ds_kept_server", "./run --kept --prove"),
     "auditor": Program("auditor", "ds_audit", "./run --audit --prove"),
     "load": Program("load", "ds_fill", "./run --fill --prove"),
     "replicas": Program("replicas", "ds_replicas", "./run --replicas --prove"),

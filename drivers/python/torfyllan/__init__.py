@@ -20,7 +20,9 @@ reads them, `explain` says refusals as sentences, `journal` knows who wrote what
 from typing import TYPE_CHECKING
 
 from .client import Client
+from .dumps import dump_kept
 from .errors import BlockEnded, IndexFileError, NotLegal, ServerFailed, TorfyllanError, UnknownCommit
+from .kept_faults import KeptFileError
 from .refusals import (
     BadCursor,
     BadGql,
@@ -56,12 +58,13 @@ from .values import Blob, Date, Entity, Key, Many, Rating, Text, Unindexed
 from .version import __version__ as __version__
 
 if TYPE_CHECKING:
-    from .pytest_plugin import datastore as datastore, datastore_server as datastore_server, fresh_datastore as fresh_datastore
+    from .pytest_plugin import datastore as datastore, datastore_kept as datastore_kept, datastore_server as datastore_server
+    from .pytest_plugin import fresh_datastore as fresh_datastore
 else:
 
     def __getattr__(name):
         """The fixtures of pytest, which is imported where they are asked for."""
-        if name in ("datastore", "datastore_server", "fresh_datastore"):
+        if name in ("datastore", "datastore_kept", "datastore_server", "fresh_datastore"):
             from . import pytest_plugin
 
             return getattr(pytest_plugin, name)
@@ -83,12 +86,14 @@ __all__ = [
     "Conflict",
     "CursorMismatch",
     "Date",
+    "dump_kept",
     "Entity",
     "Expired",
     "IdNotIssued",
     "IdsExhausted",
     "IndexFileError",
     "InTransaction",
+    "KeptFileError",
     "Key",
     "LineTooLong",
     "Many",

@@ -27,16 +27,17 @@ class Audit(Recorder):
         self._tell = tell
         self._words: List[str] = []
         self._indexes: Optional[str] = None
+        self._kept_file: Optional[str] = None
         self._kept: List[IO[bytes]] = []
         self._whole = True
 
-    def begin(self, words: Sequence[str], indexes: Optional[str]) -> None:
+    def begin(self, words: Sequence[str], indexes: Optional[str], kept: Optional[str] = None) -> None:
         if PROGRAM is None or not PROGRAM.exists():
             raise ServerFailed(
                 f"{PROGRAM or 'the repository'}, whose ./run --audit audits a run, isn't there: install the package from the repository, as"
                 " pip install ./drivers/python, or keep a log, and audit it there"
             )
-        self._words, self._indexes = list(words), indexes
+        self._words, self._indexes, self._kept_file = list(words), indexes, kept
         self._kept = [tempfile.TemporaryFile(), tempfile.TemporaryFile()]
         self._whole = True
 
@@ -68,6 +69,8 @@ class Audit(Recorder):
             with open(index, "w", encoding="utf-8") as text:
                 text.write(self._indexes)
             words = [*words, "--indexes", index]
+        if self._kept_file is not None:
+            words = [*words, "--kept", self._kept_file]
         command = [str(PROGRAM), "--audit", *names, *words, *(["--unproved"] if self.is_unproved else [])]
         verdict = os.path.join(folder, "verdict")
         with open(verdict, "wb") as output:

@@ -2,9 +2,13 @@
 import contextlib
 import json
 import os
-from typing import IO, TYPE_CHECKING, Any, Iterator, Optional
+from typing import IO, TYPE_CHECKING, Any, Iterable, Iterator, Optional, Union
 
+from .kept import read_kept
+from .kept_faults import damage_of
 from .rules import drawn_id
+from .shards import key_bytes
+from .values import Entity
 from .wire import entity_in, key_out, properties_out
 
 if TYPE_CHECKING:
@@ -26,13 +30,27 @@ def _opened(file: Any, mode: str) -> Iterator[IO[str]]:
 def dump(client: "Client", file: Any, kind: Optional[str] = None) -> int:
     """Writes the entities of the client's namespace, by their keys, and gives their number. Keys of that namespace are written without it."""
     client.settle()
-    count = 0
     with _opened(file, "w") as lines:
-        for page in client.pages(kind, size=_PAGE):
-            for entity in page:
-                told = {"key": key_out(entity.key, ""), "properties": properties_out(entity.properties, "")}
-                lines.write(json.dumps(told, ensure_ascii=False, separators=(",", ":")) + "\n")
-                count += 1
+        return _write(lines, (entity for page in client.pages(kind, size=_PAGE) for entity in page))
+
+
+def dump_kept(kept: Union[str, "os.PathLike[str]"], file: Any, kind: Optional[str] = None, *, namespace: str = "") -> int:
+    """Writes the entities of a kept file that stand in this namespace, of this kind or of all, as `client.dump` does of a server's; gives their number.
+    No server is needed. A file that is damaged is a `KeptFileError`, and nothing is written."""
+    read = read_kept(kept)
+    found = [entity_in(told, namespace) for path, told in read.entities().items() if path[0] == namespace]
+    if read.damaged:
+        raise damage_of(os.fspath(kept), read.place)
+    with _opened(file, "w") as lines:
+        return _write(lines, sorted((it for it in found if kind in (None, it.key.kind)), key=lambda it: key_bytes(it.key)))
+
+
+def _write(lines: IO[str], entities: Iterable[Entity]) -> int:
+    count = 0
+    for entity in entities:
+        told = {"key": key_out(entity.key, ""), "properties": properties_out(entity.properties, "")}
+        lines.write(json.dumps(told, ensure_ascii=False, separators=(",", ":")) + "\n")
+        count += 1
     return count
 
 

@@ -13,6 +13,18 @@ if TYPE_CHECKING:
     from .server import Server
 
 
+def told_behind(members: Dict[str, Any], commits: int, counts: Sequence[int]) -> bytes:
+    """The reply of these members as a server tells it that has neither the first commits, so many, nor the first entries of each shard."""
+    for name in ("commit", "place"):
+        if name in members:
+            members[name] -= commits
+    if isinstance(members.get("applied"), list):
+        members["applied"] = [count - before for count, before in zip(members["applied"], counts)]
+    if members.get("ok") == "apply":
+        members["count"] -= counts[members["shard"]]
+    return json.dumps(members, ensure_ascii=False, separators=(",", ":")).encode()
+
+
 class Excerpt(Recorder):
     """The lines and replies of a server from now on, when all that was committed before is applied.
 
@@ -57,14 +69,7 @@ class Excerpt(Recorder):
         if "line" not in members or members["line"] < self._first:
             return reply
         members["line"] = self.line(members["line"])
-        for name in ("commit", "place"):
-            if name in members:
-                members[name] -= self._commits
-        if isinstance(members.get("applied"), list):
-            members["applied"] = [count - before for count, before in zip(members["applied"], self._counts)]
-        if members.get("ok") == "apply":
-            members["count"] -= self._counts[members["shard"]]
-        return json.dumps(members, ensure_ascii=False, separators=(",", ":")).encode()
+        return told_behind(members, self._commits, self._counts)
 
     def _play(self, recorder: Recorder) -> None:
         recorder.begin(self._words, self._indexes)

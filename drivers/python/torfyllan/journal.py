@@ -122,18 +122,22 @@ class Entry(NamedTuple):
 
 
 class Journal:
-    """The commits so far, of which `last` is the number of the last one, and the entries of each shard."""
+    """The commits so far, of which `last` is the number of the last one, and the entries of each shard.
 
-    def __init__(self, shards: int) -> None:
+    Of what a server found in its kept file only the numbers are known, of the last commit and of the entries of each shard; these are all applied.
+    """
+
+    def __init__(self, shards: int, last: int = 0, counts: Optional[Sequence[int]] = None) -> None:
         self.shards = shards
-        self.last = 0
+        self.last = last
+        self._found = list(counts) if counts is not None else [0] * shards
         self._writes: Dict[int, Write] = {}
         self._entries: List[List[Entry]] = [[] for _ in range(shards)]
         self._contents: Dict[Tuple[int, Key], Any] = {}
 
     def forget(self, shard: int, first: int, end: int) -> None:
         """Gives up what these entries of a shard wrote, as they are applied."""
-        for entry in self._entries[shard][first:end] if self._contents else ():
+        for entry in self._part(shard, first, end) if self._contents else ():
             for key in entry.keys:
                 self._contents.pop((entry.write.commit, key), None)
 
@@ -160,7 +164,12 @@ class Journal:
 
     def counts(self) -> List[int]:
         """The number of entries of each shard."""
-        return [len(entries) for entries in self._entries]
+        return [found + len(entries) for found, entries in zip(self._found, self._entries)]
+
+    def _part(self, shard: int, first: int, end: Optional[int] = None) -> List[Entry]:
+        """The entries of a shard behind so many of it, and up to so many."""
+        found = self._found[shard]
+        return self._entries[shard][max(0, first - found) : None if end is None else max(0, end - found)]
 
     def count_at(self, shard: int, place: int) -> int:
         """The number of a shard's entries that the first commits, so many, wrote."""
@@ -168,11 +177,11 @@ class Journal:
         low = len(entries)
         while low and entries[low - 1].write.commit > place:
             low -= 1
-        return low
+        return self._found[shard] + low
 
     def behind(self, applied: Sequence[int]) -> List[List[Entry]]:
         """The entries of each shard behind so many of it."""
-        return [entries[seen:] for entries, seen in zip(self._entries, applied)]
+        return [self._part(shard, seen) for shard, seen in enumerate(applied)]
 
     def waiting(self, applied: Sequence[int], known: Sequence[int], asked: Dict[str, Any], line: int) -> List[Tuple[Write, Key]]:
         """What a query didn't see of the commits up to `known`, as it saw `applied` entries of each shard: the writes of its namespace and kind,
@@ -182,8 +191,8 @@ class Journal:
         """
         namespace, kind = asked.get("namespace") or "", kind_of(asked)
         found: List[Tuple[Write, Key]] = []
-        for entries, seen, end in zip(self._entries, applied, known):
-            for write, keys, _ in entries[seen:end]:
+        for shard, (seen, end) in enumerate(zip(applied, known)):
+            for write, keys, _ in self._part(shard, seen, end):
                 if write.client == asked["client"] and write.line > line:
                     continue
                 found += [(write, key) for key in keys if (key.namespace or "") == namespace and kind in (None, key.kind)]

@@ -1,6 +1,7 @@
 """The files that keep a talk: its lines, its replies, and how the server was started."""
 import json
 import os
+import shutil
 from typing import IO, Any, Dict, List, Optional, Sequence
 
 from .journal import DRIVER, Site
@@ -9,8 +10,8 @@ from .journal import DRIVER, Site
 class Recorder:
     """What hears a talk as it goes on. A server calls it in this order; each start of the server is one `begin` and one `end`."""
 
-    def begin(self, words: Sequence[str], indexes: Optional[str]) -> None:
-        """The server is started with these words, and an index file of this text or none."""
+    def begin(self, words: Sequence[str], indexes: Optional[str], kept: Optional[str] = None) -> None:
+        """The server is started with these words, an index file of this text or none, and a kept file or none, of which a copy has this name."""
 
     def asked(self, text: bytes) -> None:
         """These bytes are sent: the lines of a round, and an empty line."""
@@ -62,6 +63,7 @@ class Log(Recorder):
         run.replies    the replies, one a line, in the order in which they came
         run.words      the words that the server was given, one a line
         run.yaml       the index file, in the server's form, where there is one
+        run.kept       the kept file as it was at the start, where there is one
         run.about      JSON for a page: which place in the source asked each line, which tests there were; written at the end
 
     After a `reset` the new start has files of its own: `run.2.jsonl` and so on. What is kept of a start is complete up to the last round,
@@ -80,10 +82,13 @@ class Log(Recorder):
         start = f".{self._starts}" if self._starts > 1 else ""
         return f"{self._stem}{start}.{ending}"
 
-    def begin(self, words: Sequence[str], indexes: Optional[str]) -> None:
+    def begin(self, words: Sequence[str], indexes: Optional[str], kept: Optional[str] = None) -> None:
         self._starts += 1
         self._about.begin()
         words = list(words)
+        if kept is not None:
+            shutil.copyfile(kept, self.name("kept"))
+            words = ["--kept", os.path.basename(self.name("kept")), *words]
         if indexes is not None:
             with open(self.name("yaml"), "w", encoding="utf-8") as file:
                 file.write(indexes)

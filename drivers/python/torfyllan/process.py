@@ -12,6 +12,7 @@ import time
 from typing import IO, Any, Callable, Dict, List, NoReturn, Optional, Sequence
 
 from .errors import ServerFailed
+from .kept_faults import fault_of
 
 Tell = Callable[[str], None]
 
@@ -34,17 +35,26 @@ def repository() -> Optional[pathlib.Path]:
     return next((top for top in tops if (top / "run").exists() and (top / "crates.txt").exists()), None)
 
 
-def found_program() -> List[str]:
-    """The program's first words: what TORFYLLAN names, or `run` of the repository of this file, or of the one it was installed from."""
-    named = os.environ.get("TORFYLLAN")
+def found_program(keeps: bool = False) -> List[str]:
+    """The program's first words: what TORFYLLAN names, or `run` of the repository of this file, or of the one it was installed from. One that `keeps` a
+    file is what TORFYLLAN_KEPT names, or else such a `run`, which TORFYLLAN may name too."""
+    named = _named("TORFYLLAN")
+    if keeps:
+        named = _named("TORFYLLAN_KEPT") or (named if named and os.path.basename(named[0]) == "run" else [])
     if named:
-        return [named] if os.path.exists(named) else shlex.split(named)
+        return named
     top = repository()
     if top is not None:
         return [str(top / "run")]
     raise ServerFailed(
         "no server was found: name `run` of the repository by the environment's TORFYLLAN=/path/to/torfyllan/run, or by Server(program=...)"
     )
+
+
+def _named(variable: str) -> List[str]:
+    """The words of a program that the environment names; none where it names none."""
+    named = os.environ.get(variable, "")
+    return [named] if os.path.exists(named) else shlex.split(named)
 
 
 def tell_on_stderr(text: str) -> None:
@@ -54,9 +64,11 @@ def tell_on_stderr(text: str) -> None:
 
 
 class Process:
-    """One run of the server's program. Whatever goes wrong ends it, and is a `ServerFailed`."""
+    """One run of the server's program. Whatever goes wrong ends it, and is a `ServerFailed`; what goes wrong with the file that it has `kept`, a
+    `KeptFileError`."""
 
-    def __init__(self, words: Sequence[str], errors: str, executable: Optional[str] = None) -> None:
+    def __init__(self, words: Sequence[str], errors: str, executable: Optional[str] = None, kept: Optional[str] = None) -> None:
+        self._kept = kept
         self._errors: IO[bytes] = open(errors, "w+b")
         self._told_until = 0
         self._begun = b""
@@ -70,7 +82,7 @@ class Process:
                 stdout=subprocess.PIPE,
                 stderr=self._errors,
                 start_new_session=True,
-                env={**os.environ, "TORFYLLAN_INDEX_FORM": "server"},
+                env={**os.environ, "TORFYLLAN_INDEX_FORM": "server", "TORFYLLAN_KEPT_TOLD": "by the driver"},
             )
         except OSError as error:
             self._errors.close()
@@ -193,10 +205,18 @@ class Process:
 
     def fail(self, why: str, cause: Optional[BaseException] = None) -> NoReturn:
         """Ends the program and raises."""
-        told = self.told()
+        told, whole = self.told(), self._whole_told()
         self.kill()
-        self._failed = f"{why}; on its standard error: {told}" if told else why
-        raise ServerFailed(self._failed) from cause
+        fault = fault_of(self._kept, self._process.returncode, whole) if self._kept is not None else None
+        self._failed = str(fault) if fault else f"{why}; on its standard error: {told}" if told else why
+        raise fault or ServerFailed(self._failed) from cause
+
+    def _whole_told(self) -> str:
+        """The last lines of its standard error, also of what was passed on."""
+        if self._errors.closed:
+            return ""
+        self._errors.seek(0)
+        return self._errors.read()[-_TOLD_BYTES:].decode("utf-8", "replace")
 
     def stop(self, seconds: float) -> None:
         """Ends the input, and waits for the program's end; a status that isn't 0 is a failure."""

@@ -2,7 +2,7 @@
 
 `datastore_server` is one server for all tests of a run, `datastore` a client for one test in a namespace of its own, and
 `fresh_datastore` a client of a server that was started for this test alone; `ndb_context` and `cloud_client` stand on
-`datastore`, for applications of ndb and of the Cloud client. The words of the server come from pytest's ini file:
+`datastore`, for applications of ndb and of the Cloud client; `datastore_kept` is a client of a server that keeps a file. The words of the server come from pytest's ini file:
 
     [pytest]
     datastore_indexes = index.yaml
@@ -24,6 +24,8 @@ from .client import Client
 from .excerpt import Excerpt
 from .pytest_facades import cloud_client as cloud_client
 from .pytest_facades import ndb_context as ndb_context
+from .pytest_kept import datastore_kept as datastore_kept
+from .pytest_kept import datastore_kept_server as datastore_kept_server
 from .pytest_state import KEEPS, state_of, tested
 from .server import Server
 from .shards import even_namespace
@@ -46,6 +48,7 @@ def pytest_addoption(parser: Any) -> None:
     """Adds the words of the server to the ini file, and those of a run to the command line."""
     for name, told in _WORDS.items():
         parser.addini(name, told, default=None)
+    parser.addini("datastore_kept", "the file that the server of the fixture `datastore_kept` keeps; a relative name stands beside the ini file", default=None)
     parser.addini("datastore_report", "a folder for the page and the lines of each test that fails; a relative name stands beside the ini file", default=None)
     group = parser.getgroup("datastore")
     schedules = "run each test that uses the fixtures under N schedules: what queries see, which commits conflict, which replies are lost"

@@ -10,7 +10,7 @@ from .errors import UnknownCommit
 from .pytest_state import state_of
 from .schedules import Given, Named, Run, Shrinking, smallest, told, tried
 
-FIXTURES = ("datastore", "fresh_datastore")
+FIXTURES, KEPT = ("datastore", "fresh_datastore"), "datastore_kept"
 TITLE = "the smallest schedule under which it fails"
 _PROPERTY = "datastore_schedules"
 
@@ -172,7 +172,7 @@ def run_protocol(item: Any, nextitem: Any) -> Optional[bool]:
     """The hook pytest_runtest_protocol: takes over the tests that use the fixtures, where schedules are asked for."""
     if not asked(item.config) or not set(FIXTURES) & set(getattr(item, "fixturenames", ())):
         return None
-    if item.get_closest_marker("datastore_as_written") is not None:
+    if item.get_closest_marker("datastore_as_written") is not None or KEPT in item.fixturenames:
         return None
     item.ihook.pytest_runtest_logstart(nodeid=item.nodeid, location=item.location)
     reports = reports_of(item)

@@ -17,6 +17,7 @@ from .drawing import Drawing
 from .errors import ServerFailed, TorfyllanError
 from .index_use import IndexUse
 from .journal import DRIVER, Journal, Session, Site, Write, calling_site
+from .keeping import UNDRAWN, Keeping
 from .lines import line_of, rounds_of
 from .log import Log, Recorder
 from .process import Process, Tell, found_program, tell_on_stderr
@@ -52,6 +53,8 @@ class Server:
     `consistency` is `"explicit"` (as just told), `"strong"` (each write is applied before its call returns), or a share from 0 to 1 of the writes
     that are applied so, drawn by `seed`. `conflicts` and `unknown_commits` are shares of commits, drawn by `seed` too: before that of a transaction
     another client writes to a group that it touched, or a commit is made and its reply withheld, as an `UnknownCommit`. `many` names properties that are lists in each reply, as `"Task.tags"`, or `"tags"` of every kind.
+    `kept` is the name of a file that keeps all that is committed: a later server over it begins with that, applied, also where this one was killed.
+    A file that can't be served, as one that another server has, is a `KeptFileError`.
     `log` is the name of a file, as `run.jsonl`, that keeps the talk (see `torfyllan.log.Log`). `draw` is the name of a file, as `run.html`: a page
     that shows the run is written there when the server ends. With `audit` the talk is kept, and held against the definitions when the server ends:
     `stop`, `kill`, and the end of a `with` block, raise `NotLegal` where a reply is none that a legal run could give; what a build of the auditor
@@ -77,6 +80,7 @@ class Server:
         unknown_commits: float = 0.0,
         seed: int = 0,
         many: Collection[Any] = (),
+        kept: Union[str, "os.PathLike[str]", None] = None,
         log: Optional[str] = None,
         draw: Union[str, "os.PathLike[str]", None] = None,
         audit: bool = False,
@@ -89,6 +93,7 @@ class Server:
         self.shards = shards
         self.appliers = appliers
         self.window = window
+        self._keeping = Keeping(kept) if kept is not None else None
         self._program: Optional[Sequence[str]] = [os.fspath(program)] if isinstance(program, (str, os.PathLike)) else program
         self._indexes = index_files.Given(indexes, auto_index)
         self._consistency = Consistency(consistency, seed)
@@ -134,6 +139,11 @@ class Server:
         self._raise_fault(error)
 
     @property
+    def kept(self) -> Optional[str]:
+        """The absolute name of the file in which the journal is kept; None where nothing is kept."""
+        return self._keeping.file if self._keeping is not None else None
+
+    @property
     def is_alive(self) -> bool:
         """Whether the program is running."""
         return self._process is not None and self._process.is_alive
@@ -151,7 +161,7 @@ class Server:
 
     def _start(self) -> "Server":
         self._indexes.read()
-        program = list(self._program or found_program())
+        program = list(self._program or found_program(self._keeping is not None))
         self._folder, self._owner = tempfile.TemporaryDirectory(prefix="torfyllan-"), os.getpid()
         _STARTED.add(self)
         try:
@@ -171,7 +181,7 @@ class Server:
 
     def _words(self) -> List[str]:
         assert self._folder is not None
-        words = self._plain_words()
+        words = [*(self._keeping.words if self._keeping is not None else []), *self._plain_words()]
         if self._indexes.text is not None:
             name = os.path.join(self._folder.name, "index.yaml")
             with open(name, "w", encoding="utf-8") as file:
@@ -183,18 +193,23 @@ class Server:
         """Starts the program, and has a first line answered."""
         assert self._folder is not None
         self._forget()
-        self._process = Process(words, os.path.join(self._folder.name, "stderr"), executable)
+        copy = self._keeping.copied(self._folder.name) if self._keeping is not None and self._recorders else None
+        self._process = Process(words, os.path.join(self._folder.name, "stderr"), executable, self.kept)
         for recorder in self._recorders:
-            recorder.begin(self._plain_words(), self._indexes.text)
+            recorder.begin(self._plain_words(), self._indexes.text, copy)
         try:
-            self._ask_round([(self.client(0), {"client": 0, "op": "settle"})], sites=[DRIVER], seconds=self._start_timeout, tell=self._tell)
+            (settled,) = self._ask_round([(self.client(0), {"client": 0, "op": "settle"})], sites=[DRIVER], seconds=self._start_timeout, tell=self._tell)
         except ServerFailed as failed:
             self._indexes.explain(str(failed))
             raise
+        if self._keeping is not None:
+            # All that was found is applied from now on. A put that is refused tells which id is drawn next.
+            self._journal = Journal(self.shards, settled.reply.place, settled.reply.applied)
+            self._exchange([line_of(UNDRAWN, "")], self._timeout, None)
 
     def reset(self) -> None:
         """Starts the program anew, within some hundredths of a second: no entity, commit or open transaction is left, ids are drawn from
-        the first on, and the index file is read again. Clients that were made stay good."""
+        the first on, and the index file is read again. Clients that were made stay good. Where a file is kept, all that was committed is there again."""
         self._check_owner()
         with self._lock:
             if self._process is None or self._folder is None:
@@ -207,7 +222,7 @@ class Server:
                 if self._image is not None and os.path.exists(self._image["executable"]):
                     self._launch(self._image["words"], self._image["executable"])
                 else:
-                    self._launch([*(self._program or found_program()), *words], None)
+                    self._launch([*(self._program or found_program(self._keeping is not None)), *words], None)
             except BaseException:
                 self._end_now()
                 raise

@@ -131,6 +131,8 @@ class Steering:
             self.next_id = max(self.next_id, told["first"] + told["count"])
         elif told.get("ok") == "put" and len(told["key"]) and isinstance(told["key"][-1][1], int):
             self.next_id = max(self.next_id, told["key"][-1][1] + 1)
+        elif told.get("name") == "IdNotIssued":
+            self.next_id = max(self.next_id, told["next"])
 
     def hear(self, sent: Sequence[Optional["Asked"]], told: Sequence[Dict[str, Any]]) -> None:
         """Keeps what the replies of a round tell of what is applied, once its commits are in the journal. A line of the driver's own has no request
