@@ -1,12 +1,13 @@
 /* Refuses what a program asks of the outside: memory, reads, writes, files to open. It is loaded before the C library (LD_PRELOAD).
  *
  * REFUSED_PROGRAM      the program that is meant, by its path; in every other process nothing is refused
- * REFUSED_COUNTS       a file of 13 numbers of 8 bytes, made by whoever starts the program: what was asked for so far, in the order of `counts`
+ * REFUSED_COUNTS       a file of 16 numbers of 8 bytes, made by whoever starts the program: what was asked for so far, in the order of `counts`
  * REFUSED_MEMORY=K     refuses the K-th call that takes memory, and every one from it on with REFUSED_MEMORY=K..
  * REFUSED_SHARE=N,SEED refuses N of a million such calls, at random by the seed
  * REFUSED_READ=K,E     the K-th read of standard input fails with the errno E; REFUSED_READ_MOST=N gives at most N bytes a read
  * REFUSED_WRITE=K,E    the same for writes to standard output; with E = 0 nothing is taken; REFUSED_WRITE_MOST=N takes at most N bytes a write
  * REFUSED_LOAD=K,E     the same for a file's open and its reads, counted together; REFUSED_LOAD_MOST=N
+ * REFUSED_DISK=K,E     the same for a file's reads and writes at places, its cuts, syncs and locks, counted together; REFUSED_DISK_MOST=N for its writes
  *
  * A program that brings a memory allocator of its own (one built with checks of memory) jumps to it from its `malloc`; that jump is led past here.
  * Its checks ask where a thread's stack lies, and end the program where that has no memory: nothing is refused or counted within that call.
@@ -30,14 +31,15 @@ extern void *__libc_malloc(size_t), *__libc_calloc(size_t, size_t), *__libc_real
 
 /* What is counted, and seen from outside also where the program is killed. `after` are reads and writes after the one that failed. */
 struct counts {
-    _Atomic uint64_t memory, refused, reads, writes, loads, read_bytes, written_bytes, after_read, after_write, hooked, read_ended, after_load, threads;
+    _Atomic uint64_t memory, refused, reads, writes, loads, read_bytes, written_bytes, after_read, after_write, hooked, read_ended, after_load, threads,
+        disk, after_disk, syncs;
 };
 static struct counts none, *counts = &none;
 static int is_meant;
 static __thread int asks_for_stack __attribute__((tls_model("initial-exec")));
-static uint64_t memory_at, memory_from, share, seed, read_at, write_at, load_at;
-static int read_error, write_error, load_error;
-static size_t read_most = SIZE_MAX, write_most = SIZE_MAX, load_most = SIZE_MAX;
+static uint64_t memory_at, memory_from, share, seed, read_at, write_at, load_at, disk_at;
+static int read_error, write_error, load_error, disk_error;
+static size_t read_most = SIZE_MAX, write_most = SIZE_MAX, load_most = SIZE_MAX, disk_most = SIZE_MAX;
 
 static uint64_t mixed(uint64_t number) {
     number += 0x9e3779b97f4a7c15u;
@@ -233,6 +235,54 @@ OPEN(open64)
 OPENAT(openat)
 OPENAT(openat64)
 
+/* ---- a disk: a file that is read and written at places, cut, synced and locked */
+
+static int disk_fails(void) { return is_meant && fails(&counts->disk, disk_at, disk_error, &counts->after_disk); }
+
+#define READ_AT(NAME)                                                 \
+    ssize_t NAME(int file, void *into, size_t size, off_t at) {       \
+        static ssize_t (*next)(int, void *, size_t, off_t);           \
+        if (!next) next = dlsym(RTLD_NEXT, #NAME);                    \
+        return disk_fails() ? -1 : next(file, into, size, at);        \
+    }
+READ_AT(pread)
+READ_AT(pread64)
+
+#define WRITE_AT(NAME)                                                \
+    ssize_t NAME(int file, const void *bytes, size_t size, off_t at) { \
+        static ssize_t (*next)(int, const void *, size_t, off_t);     \
+        if (!next) next = dlsym(RTLD_NEXT, #NAME);                    \
+        if (disk_fails()) return -1;                                  \
+        return next(file, bytes, is_meant && size > disk_most ? disk_most : size, at); \
+    }
+WRITE_AT(pwrite)
+WRITE_AT(pwrite64)
+
+#define CUT(NAME)                                                     \
+    int NAME(int file, off_t length) {                                \
+        static int (*next)(int, off_t);                               \
+        if (!next) next = dlsym(RTLD_NEXT, #NAME);                    \
+        return disk_fails() ? -1 : next(file, length);                \
+    }
+CUT(ftruncate)
+CUT(ftruncate64)
+
+int flock(int file, int how) {
+    static int (*next)(int, int);
+    if (!next) next = dlsym(RTLD_NEXT, "flock");
+    return disk_fails() ? -1 : next(file, how);
+}
+
+#define SYNC(NAME)                                                    \
+    int NAME(int file) {                                              \
+        static int (*next)(int);                                      \
+        if (!next) next = dlsym(RTLD_NEXT, #NAME);                    \
+        if (is_meant) atomic_fetch_add(&counts->syncs, 1);            \
+        return disk_fails() ? -1 : next(file);                        \
+    }
+SYNC(fsync)
+SYNC(fdatasync)
+
 /* ---- what is asked for by the environment */
 
 static int call_and_error(const char *name, uint64_t *at) {
@@ -271,9 +321,11 @@ __attribute__((constructor)) static void begin(void) {
     read_error = call_and_error("REFUSED_READ", &read_at);
     write_error = call_and_error("REFUSED_WRITE", &write_at);
     load_error = call_and_error("REFUSED_LOAD", &load_at);
+    disk_error = call_and_error("REFUSED_DISK", &disk_at);
     read_most = most("REFUSED_READ_MOST");
     write_most = most("REFUSED_WRITE_MOST");
     load_most = most("REFUSED_LOAD_MOST");
+    disk_most = most("REFUSED_DISK_MOST");
     lead_own_allocator();
     is_meant = 1;
 }
