@@ -14,7 +14,7 @@ What is checked:
   which nothing is weak;
 - docs/promises.md tells how many mutants there are, in how many crates;
 - numbers that docs/protocol.md shares with ds_base/specs/Limits are those that stand there, and the statuses that `./run --help` tells are those
-  of docs/protocol.md and docs/tools.md;
+  of docs/protocol.md and docs/tools.md; the minutes of the gate that README.md tells are within a twentieth of those of drivers/build/times;
 - a line of prose has one sentence, the glossary has at most 15 terms, and each page has at most its number of words, beside what is made from tables.
 """
 import glob
@@ -27,7 +27,7 @@ TOP = str(case.TOP)
 DESIGN, THEOREM, PROMISES, PROTOCOL = "docs/design.md", "docs/theorem.md", "docs/promises.md", "docs/protocol.md"
 # How many words each page may have. A page that isn't here is a fault.
 MOST_WORDS = {
-    "README.md": 1_050, "CHANGELOG.md": 1_500, "CONTRIBUTING.md": 1_600, "docs/python.md": 4_550, PROTOCOL: 3_800, "docs/tools.md": 1_950, DESIGN: 3_000,
+    "README.md": 1_030, "CHANGELOG.md": 1_500, "CONTRIBUTING.md": 1_600, "docs/python.md": 4_550, PROTOCOL: 3_800, "docs/tools.md": 1_950, DESIGN: 3_000,
     THEOREM: 2_500, PROMISES: 2_500, "docs/DECISIONS.md": 2_600, "docs/measurements.md": 2_500,
 }
 MOST_TERMS = 15
@@ -201,6 +201,7 @@ class Checked:
         self.mutants()
         self.numbers()
         self.statuses()
+        self.minutes()
         for page in self.pages.values():
             most = MOST_WORDS.get(page.path, 0)
             if page.words > most:
@@ -231,6 +232,14 @@ class Checked:
         helped = {int(it) for it in re.findall(r"^(?:Status {2}| {8})(\d) {2}\S| {2}(\d+) {2}(?=\S)", read(os.path.join(TOP, "run")), re.M) for it in it if it}
         if told != helped:
             self.fault(page, 1, f"the statuses are those of {PROTOCOL} and this page, {sorted(told)}, and of ./run --help, {sorted(helped)}")
+
+    def minutes(self):
+        rows = [line.split()[1:] for line in read(os.path.join(TOP, "drivers", "build", "times")).splitlines() if not line.startswith("#")]
+        wanted = sum(float(it) for row in rows for it in row if it != "-")
+        page = self.pages["README.md"]
+        told = re.findall(r"^\| `\.ci/run` \|.*\| (\d+) of processor time", page.text, re.M)
+        if len(told) != 1 or abs(int(told[0]) - wanted) > wanted / 20:
+            self.fault(page, 1, f"the gate takes {wanted:.0f} minutes by drivers/build/times, and the page tells {told}")
 
     def links(self, page, number, line):
         for target in LINK.findall(line):
@@ -318,6 +327,7 @@ def all_pages():
 
 
 WRONG = [
+    ("README.md", "| `.ci/run` | | | 1 of processor time |", "minutes by drivers/build/times"),
     ("README.md", "See [there](docs/nowhere.md).", "leads to no file"),
     ("README.md", "See [there](docs/python.md#nowhere).", "leads to no heading"),
     ("docs/python.md", "It is `ds_nothing`.", "no crate"),
