@@ -1,4 +1,4 @@
-"""The fenced examples of each page of docs/: what a block is answered is the block behind it.
+"""The fenced examples of README.md and of each page of docs/: what a block is answered is the block behind it.
 
     python3 -m tests.test_fenced --fill     writes what is answered into the pages, for whoever changes an example and reads it through
 
@@ -26,7 +26,7 @@ from tests.case import TOP, Case, auditor, keeper, load_program, run, server, wi
 sys.path.insert(0, str(TOP / "drivers" / "python"))
 from by_pytest import PYTHON
 
-DOCS = TOP / "docs"
+PAGES = [TOP / "README.md", TOP / "CONTRIBUTING.md", *sorted((TOP / "docs").glob("*.md"))]
 FENCE = re.compile(r"^```([^\n]*)\n(.*?)^```\n", re.M | re.S)
 SECTION = re.compile(r"^## ", re.M)
 ANSWERS = {"requests": "replies", "python": "printed", "sh": "printed", "pytest": "told"}
@@ -107,7 +107,7 @@ def untold(told, said):
 
 
 def all_examples():
-    return [example for page in sorted(DOCS.glob("*.md")) for example in examples(page)]
+    return [example for page in PAGES for example in examples(page)]
 
 
 class Fenced(Case):
@@ -147,7 +147,7 @@ class Fenced(Case):
 
     def test_refusals(self):
         defined = DEFINED.findall(REFUSALS.read_text(encoding="utf-8"))
-        table = TABLE.search((DOCS / "protocol.md").read_text(encoding="utf-8"))
+        table = TABLE.search((TOP / "docs" / "protocol.md").read_text(encoding="utf-8"))
         told = [tuple(cell.strip() for cell in row.split("|")[1:3]) for row in table.group(1).splitlines()] if table else []
         self.tried += len(defined)
         self.assertEqual(told, defined)
@@ -170,5 +170,5 @@ def fill(page):
 if __name__ == "__main__":
     if sys.argv[1:] != ["--fill"]:
         sys.exit(__doc__)
-    for each in sorted(DOCS.glob("*.md")):
+    for each in PAGES:
         fill(each)
