@@ -10,7 +10,7 @@ from tests.runner import Job, files
 # What each file must find: replies that lack or come twice, other numbers, another order, another status, no word on standard error, a crash, a line
 # behind the last or a part of one, a refusal told as done, an entity that is lost, memory that grows, replies that come late, an auditor that finds all runs
 # legal or none, a match too few, a processor that is never idle, an end that comes late, an apply of several entries, reads of a byte, commits that end at a
-# number, loads of some sizes refused, files of a megabyte refused, a wrong status for words that aren't UTF-8, a verdict for want of memory. A sample takes
+# number, loads of some sizes refused, files of a megabyte refused, a wrong status for words that aren't UTF-8, a verdict without memory for it. A sample takes
 # the first of each.
 MUST_FIND = {
     "examples": ("server", "swaps drops doubles counts status dies cuts adds forgets"),
