@@ -13,7 +13,7 @@ What is checked:
 - the table of crates in docs/design.md has the crates of crates.txt in their order, and so have the sections of docs/promises.md, without those of
   which nothing is weak;
 - docs/promises.md tells how many mutants there are, in how many crates;
-- numbers that docs/protocol.md shares with ds_base/specs/Limits are those that stand there, and the statuses that `./run --help` tells are those
+- numbers that docs/protocol.md shares with ds_base/specs/Limits, and those that pages share with other sources, are those that stand there, and the statuses that `./run --help` tells are those
   of docs/protocol.md and docs/tools.md; the minutes of the gate that README.md tells are within a twentieth of those of drivers/build/times;
 - a line of prose has one sentence, the glossary has at most 15 terms, and each page has at most its number of words, beside what is made from tables.
 """
@@ -45,7 +45,15 @@ NUMBERS = [
     ("| commits |", "most_commits"), ('| `{"rating":n}` | 0 to', "greatest_rating"), ("`--shards` is 1 to", "most_shards"), ("`--appliers` 0 to", "most_appliers"),
     ("`--window` 1 to", "greatest_window"),
 ]
-NUMBER = re.compile(r"2\^(?P<power>\d+)(?P<less> - 1)?|(?P<plain>\d[\d,]*)")
+NUMBER = re.compile(r"2\^(?P<power>\d+)(?P<less> - 1)?|(?P<plain>\d[\d,_]*)")
+# Numbers that other pages share with a source: the page, what stands before the number there, the source, and what stands before it in that.
+SHARED = [
+    ("docs/python.md", "or with `xg=True` up to", LIMITS, "most_groups ="), ("docs/python.md", "with more than", "crates/ds_session/specs/Wide.antt", "most_scanned_by_one ="),
+    ("docs/DECISIONS.md", "where its pass has seen more than", "crates/ds_session/specs/Wide.antt", "most_scanned_by_one ="),
+    ("docs/DECISIONS.md", "**An applier takes up to", "crates/ds_store/src/applying.rt", "const MOST_AT_ONCE: u64 ="),
+    ("docs/measurements.md", "ten queries of two equalities, fails above", "tests/test_limits.py", "LOAD_SECONDS, OVERWRITING_SECONDS, WIDE_SECONDS ="),
+    (PROMISES, "with 200,000 commits within", "tests/test_kept.py", "SECONDS_TO_OPEN ="),
+]
 # Of these nothing is told: it is the greatest number that a refusal can tell.
 UNTOLD = {"greatest_told"}
 # Crates that pages speak of before they are there; one that is there has to go from this list, and the pages have to follow.
@@ -215,6 +223,11 @@ class Checked:
             told = [self.number_behind(page.text[it.end():]) for it in re.finditer(re.escape(before) + r"\s+", page.text)]
             if not told or set(told) != {defined.get(name)}:
                 self.fault(page, 1, f"behind {before!r} stand {told}, and {name} is {defined.get(name)}")
+        for path, before, source, there in SHARED:
+            sides = [[self.number_behind(text[it.end():]) for it in re.finditer(re.escape(lead) + r"\s+", text)] for text, lead in (
+                (self.pages[path].text, before), (read(os.path.join(TOP, source)), there))]
+            if len(sides[0]) != 1 or sides[0] != sides[1]:
+                self.fault(self.pages[path], 1, f"behind {before!r} stand {sides[0]}, and in {source} {sides[1]}")
         for name in sorted(set(defined) - {name for _, name in NUMBERS} - UNTOLD):
             self.fault(page, 1, f"the limit {name} isn't told")
 
@@ -223,7 +236,7 @@ class Checked:
         found = NUMBER.match(text)
         if found is None:
             return None
-        return int(found["plain"].replace(",", "")) if found["plain"] else 2 ** int(found["power"]) - bool(found["less"])
+        return int(re.sub("[,_]", "", found["plain"])) if found["plain"] else 2 ** int(found["power"]) - bool(found["less"])
 
     def statuses(self):
         row, page = re.compile(r"^\| (\d+) \|", re.M), self.pages["docs/tools.md"]
@@ -333,6 +346,7 @@ WRONG = [
     ("docs/python.md", "It is `ds_nothing`.", "no crate"),
     ("docs/tools.md", "It stands in `ds_base/src/nothing`.", "no file or folder"),
     (PROTOCOL, "| an entity's size | 1,048,575 | `TooLarge` |", "greatest_entity_size is 1048576"),
+    ("docs/python.md", "It goes over all at once with more than 16,000 entries.", "and in crates/ds_session/specs/Wide.antt [16384]"),
     (PROTOCOL, "`--window` 1 to many", "greatest_window is 65536"),
     (PROTOCOL, "| 12 | `no reason` | never |", "the statuses are"),
     (DESIGN, "Call `ds_serve::reserve`.", "defines no"),

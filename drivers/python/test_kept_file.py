@@ -4,7 +4,9 @@
 """
 import io
 import os
+import pathlib
 import random
+import re
 import tempfile
 import unittest
 
@@ -42,6 +44,13 @@ class Files(unittest.TestCase):
         self.assertEqual(read(behind + b"\x00"), (2, FIRST, len(behind), False))
         self.assertEqual(read(behind + b"\x01"), (2, FIRST, len(behind), False))
         self.assertEqual(read(behind + b"\x00" + WHOLE), (2, FIRST, len(behind), False))
+
+    def test_the_line_that_the_protocol_shows(self):
+        pages = pathlib.Path(__file__).resolve().parents[2] / "docs" / "protocol.md"
+        shown = re.findall(r'^ {4}(\{"client":.*"writes":.*)$', pages.read_text(encoding="utf-8"), re.M)
+        self.assertEqual(len(shown), 1)
+        commit = commit_in(shown[0].encode(), 1)
+        self.assertEqual(commit and (commit.touched, commit.writes), ([[[["T", "a"]], 0]], [put([["T", "a"]]), delete([["T", "b"]])]))
 
     def test_batches_that_may_not_follow(self):
         front = batch([ONE], FIRST + 5)
