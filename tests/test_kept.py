@@ -122,9 +122,9 @@ class Damaged(Kept):
         ran = self.told(SETTLE)
         self.expect("status, output", (ran.status, ran.output), (9, b""))
         self.expect("standard error", ran.errors, f"damaged: {len(front)}\nrun: kept is damaged at byte {len(front)}, and unchanged: ./run --kept-journal kept prints the commits before that,"
-                    f" and head -c {len(front) + 1} kept makes a file that keeps them")
+                    f" and head -c {len(front) + 1} kept > kept.mended makes a file that keeps them")
         shown = subprocess.run([TOP / "run", "--kept-journal", "kept"], cwd=self.folder, capture_output=True, text=True)
-        told = f"kept is damaged at byte {len(front)}, and what stands there can't be read: head -c {len(front) + 1} kept makes a file that keeps what is printed here\n"
+        told = f"kept is damaged at byte {len(front)}, and what stands there can't be read: head -c {len(front) + 1} kept > kept.mended makes a file that keeps what is printed here\n"
         self.expect("what ./run --kept-journal prints", (shown.returncode, shown.stdout, shown.stderr), (9, line(1, [kept_text.put([["T", "a"]])]) + "\n", told))
         self.file.write_bytes(content[:len(front) + 1])
         ran = self.told(SETTLE)

@@ -1,5 +1,6 @@
 """Why a server doesn't serve a kept file, or serves it no longer, in sentences that say what to do."""
 import re
+import shlex
 from typing import Any, Optional
 
 from .errors import ServerFailed
@@ -44,11 +45,16 @@ def fault_of(file: str, status: int, told: str) -> Optional[KeptFileError]:
     return None
 
 
+def mending(file: str, place: int) -> str:
+    """The command that makes, of a file that is damaged at this place, another one with what stands before the damage."""
+    return f"head -c {place + 1} {shlex.quote(file)} > {shlex.quote(file + '.mended')}"
+
+
 def damage_of(file: str, place: int) -> KeptFileError:
     """The fault of a file that is damaged at this place."""
     text = (
-        f"{file} is damaged at byte {place}, and unchanged: ./run --kept-journal {file} prints the commits before that,"
-        f" and head -c {place + 1} {file} makes a file that keeps them"
+        f"{file} is damaged at byte {place}, and unchanged: ./run --kept-journal {shlex.quote(file)} prints the commits before that,"
+        f" and {mending(file, place)} makes a file that keeps them"
     )
     return KeptFileError(text, DAMAGED, place=place)
 
