@@ -15,6 +15,7 @@ What is checked:
 - docs/promises.md tells how many mutants there are, in how many crates;
 - numbers that docs/protocol.md shares with ds_base/specs/Limits, and those that pages share with other sources, are those that stand there, and the statuses that `./run --help` tells are those
   of docs/protocol.md and docs/tools.md; the minutes of the gate that README.md tells are within a twentieth of those of drivers/build/times;
+- a definition that a page prints, behind From `ds_x/specs/F`:, stands in that file, but for `pub` and the universe;
 - a line of prose has one sentence, the glossary has at most 15 terms, and each page has at most its number of words, beside what is made from tables.
 """
 import glob
@@ -69,6 +70,7 @@ NAME = r"[A-Za-z_][A-Za-z0-9_]*"
 CITED = re.compile(rf"`((?:{NAME}::)*{NAME})` \(((?:`{NAME}`(?:, | and )?)+)\)")
 DEFINED_IN = re.compile(rf"`(ds_\w+)/(?:specs|proofs)/([\w/]+)` \(((?:`{NAME}`(?:, | and )?)+)\)")
 CLAUSE_OF = re.compile(rf"clauses? ((?:`{NAME}`(?:, | and )?)+) of `((?:{NAME}::)*{NAME})`")
+PRINTED = re.compile(r"^From `(ds_\w+)/specs/(\w+)`:\n\n((?: {4}.*\n)+)", re.M)
 MARKER = re.compile(r"^\s*(?:\d+\.|-) ")
 TWO_SENTENCES = re.compile(r"[a-z0-9`)\"][.!?] [A-Z`\"\[]")
 
@@ -204,6 +206,7 @@ class Checked:
                     self.span(page, number, span, crate)
                 if not line.startswith("|") and TWO_SENTENCES.search(MARKER.sub("", SPAN.sub("`x`", line))):
                     self.fault(page, number, "two sentences stand on one line")
+            self.printed(page)
         self.glossary()
         self.table_of_crates()
         self.mutants()
@@ -311,6 +314,13 @@ class Checked:
         elif not set(parts) <= self.sources.words:
             self.fault(page, number, f"{'::'.join(parts)} stands nowhere in the sources")
 
+    def printed(self, page):
+        for home, file, block in PRINTED.findall(page.text):
+            path = os.path.join(TOP, "crates", home, "specs", f"{file}.antt")
+            source = re.sub(r"\bpub | : Type 0(?= where)", "", read(path)) if os.path.exists(path) else ""
+            if re.sub(r"^    ", "", block, flags=re.M) not in source:
+                self.fault(page, 1, f"the definition that is printed isn't that of {home}/specs/{file}")
+
     def glossary(self):
         page = self.pages[DESIGN]
         section = page.text.partition("## Glossary\n")[2].partition("\n## ")[0]
@@ -353,6 +363,7 @@ WRONG = [
     (DESIGN, "| `ds_base` | once more | |", "in their order"),
     (DESIGN, "So says clause `legible` of `ds_serve::serve`.", "has not all"),
     (THEOREM, "It is in `ds_serve/specs/Runs` (`IsIllegalRun`).", "doesn't define"),
+    (THEOREM, "From `ds_model/specs/Legal`:\n\n    record Legal where\n", "the definition that is printed"),
     (PROMISES, "\n## `ds_base`\n\nOnce more.", "in their order"),
     (PROMISES, "\n## `ds_serve`\n\nThe call `serve` (`legal`, `illegal`) says so.", "has not all"),
     (PROMISES, "\n## `ds_serve`\n\nIt is `serves_nothing_at_all`.", "is defined neither"),
