@@ -1,15 +1,20 @@
-"""A server that keeps a file, of whose calls on it each fails in turn: opens, the lock, reads, writes, cuts and syncs, and writes that end halfway.
+"""A server that keeps a file, of whose calls on it each fails in turn: opens, the lock, reads, writes, cuts and syncs, and writes that end halfway; and one that
+is refused memory.
 
 The status is 8 until a run ends well. Whatever call failed, what the file then has is whole: the commits of the rounds that were answered, and all of the next
-round's or none; no id below its counter is drawn again; and a later run goes on from there. The call that fails is the last one on the file.
+round's or none; no id below its counter is drawn again; and a later run goes on from there. The call that fails is the last one on the file. Where memory is refused a run
+may go on, and what it answers is kept all the same.
 """
 import errno
 import json
 import pathlib
+import random
 
-from tests.case import WORDS, keeper
+from tests.case import SEED, WORDS, keeper
 from tests.keeping import SETTLE, put, read, request, sample
 from tests.refusing import Refusing
+
+from journal_of import commits_told
 
 GET = request("get", key=[["T", "a"]])
 
@@ -91,6 +96,30 @@ class Faults(Refusing):
 
     def test_each_write_that_ends_halfway(self):
         self.try_calls("writes of at most 40 bytes", None, (0, 2**52), disk_most=40)
+
+    def test_memory(self):
+        """Calls that take memory are refused, one alone or all from it on, in runs over no file and over one: whatever was answered is kept, and is what later runs find."""
+        draw, statuses = random.Random(SEED), {0: 0, 6: 0}
+        self.serve()
+        kept = self.file.read_bytes()
+        for what, content in (("no file", None), ("a file that was kept before", kept)):
+            count = self.serve(content=content).counts["memory"]
+            calls = [(call, behind) for call in range(1, count + 1) for behind in ("", "..")]
+            for call, behind in draw.sample(calls, min(len(calls), sample(80, 12, len(calls)))):
+                ran = self.serve(content=content, memory=f"{call}{behind}")
+                name = f"{what}, refused from call {call} of {count}{behind}"
+                statuses[ran.status] = statuses.get(ran.status, 0) + 1
+                self.expect(f"{name}: status and standard error", (ran.status, ran.errors), (6, "no memory") if ran.status == 6 else (0, ""))
+                commits, next_id, _, damaged = read(self.file.read_bytes() if self.file.exists() else b"")
+                found = {it.number: {"client": it.client, "commit": it.number, "touched": it.touched, "writes": it.writes} for it in commits}
+                lost = [number for number, commit in ((it["commit"], it) for it in commits_told(TEXT, ran.output).values()) if found.get(number) != commit]
+                self.expect(f"{name}: whether the file is damaged, and commits that were answered and are lost or otherwise", (damaged, lost), (False, []))
+                rounds, least = self.rounds_of(ran.lines)
+                self.expect(f"{name}: whether whole rounds were answered, and ids stay below the counter", (rounds is not None, next_id >= least), (True, True))
+                if content is not None:
+                    self.expect(f"{name}: what was kept before", commits[:len(read(content)[0])], read(content)[0])
+        print(f"seed {SEED}; runs by their status: {json.dumps(statuses)}")
+        self.expect("whether runs ended in both ways", statuses[0] > 0 and statuses[6] > 0, True)
 
     def test_what_a_round_costs(self):
         """Two syncs for each round that commits or draws, however many lines it has, and none for another."""
