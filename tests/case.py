@@ -1,8 +1,8 @@
 """What the tests stand on: the programs that they try, the base of their cases, runs and talks.
 
-A program is that of TORFYLLAN, TORFYLLAN_KEPT, TORFYLLAN_AUDIT, TORFYLLAN_FILL or TORFYLLAN_REPLICAS; else the proved one where it is built, else the unproved one. SEED, where it is
-given, begins the random choices. TORFYLLAN_WHOLE tries all of what is else tried by a sample; of the unproved program, which is many times slower, the
-samples are smaller.
+A program is that of TORFYLLAN, TORFYLLAN_KEPT, TORFYLLAN_REINDEX, TORFYLLAN_AUDIT, TORFYLLAN_FILL or TORFYLLAN_REPLICAS; else the proved one where it is
+built, else the unproved one. SEED, where it is given, begins the random choices. TORFYLLAN_WHOLE tries all of what is else tried by a sample; of the
+unproved program, which is many times slower, the samples are smaller.
 """
 import contextlib
 import functools
@@ -64,6 +64,11 @@ def load_program():
 def replicas_program():
     """The path of the program that runs a script of replicas."""
     return program("TORFYLLAN_REPLICAS", "replicas")
+
+
+def reindexer():
+    """The path of the program that serves with a second index file."""
+    return program("TORFYLLAN_REINDEX", "reindexer")
 
 
 def is_slow():
@@ -148,15 +153,15 @@ def run(text, words=WORDS, index=None, most=None, of=None, folder=None, files=()
 
 
 class Talk:
-    """A server that is talked to round by round. Use it in a `with`; behind it there are `status`, `errors` and `ahead`, what it wrote too many."""
+    """A server, or the program `of`, that is talked to round by round. Use it in a `with`; behind it there are `status`, `errors` and `ahead`, what it wrote too many."""
 
-    def __init__(self, words=WORDS, **how):
-        self.words, self.how, self.status, self.ahead = words, how, None, b""
+    def __init__(self, words=WORDS, of=None, **how):
+        self.words, self.of, self.how, self.status, self.ahead = words, of, how, None, b""
 
     def __enter__(self):
         # A server that is built with checks of memory keeps what is freed for a while; here it doesn't.
         options = {**os.environ, "ASAN_OPTIONS": "quarantine_size_mb=1:thread_local_quarantine_size_kb=64"}
-        self.server = subprocess.Popen([server(), *self.words], stdin=subprocess.PIPE, stdout=subprocess.PIPE, stderr=subprocess.PIPE, env=options, **self.how)
+        self.server = subprocess.Popen([self.of or server(), *self.words], stdin=subprocess.PIPE, stdout=subprocess.PIPE, stderr=subprocess.PIPE, env=options, **self.how)
         return self
 
     def __exit__(self, *_):

@@ -4,6 +4,7 @@
  * REFUSED_COUNTS       a file of 16 numbers of 8 bytes, made by whoever starts the program: what was asked for so far, in the order of `counts`
  * REFUSED_MEMORY=K     refuses the K-th call that takes memory, and every one from it on with REFUSED_MEMORY=K..
  * REFUSED_SHARE=N,SEED refuses N of a million such calls, at random by the seed
+ * REFUSED_THREADS=K    refuses the K-th start of a thread, and every one from it on with REFUSED_THREADS=K..
  * REFUSED_READ=K,E     the K-th read of standard input fails with the errno E; REFUSED_READ_MOST=N gives at most N bytes a read
  * REFUSED_WRITE=K,E    the same for writes to standard output; with E = 0 nothing is taken; REFUSED_WRITE_MOST=N takes at most N bytes a write
  * REFUSED_LOAD=K,E     the same for a file's open and its reads, counted together; REFUSED_LOAD_MOST=N
@@ -37,7 +38,7 @@ struct counts {
 static struct counts none, *counts = &none;
 static int is_meant;
 static __thread int asks_for_stack __attribute__((tls_model("initial-exec")));
-static uint64_t memory_at, memory_from, share, seed, read_at, write_at, load_at, disk_at;
+static uint64_t memory_at, memory_from, thread_at, thread_from, share, seed, read_at, write_at, load_at, disk_at;
 static int read_error, write_error, load_error, disk_error;
 static size_t read_most = SIZE_MAX, write_most = SIZE_MAX, load_most = SIZE_MAX, disk_most = SIZE_MAX;
 
@@ -103,11 +104,16 @@ int pthread_getattr_np(pthread_t thread, pthread_attr_t *into) {
     return failed;
 }
 
-/* Threads are counted and never refused. */
 int pthread_create(pthread_t *into, const pthread_attr_t *how, void *(*work)(void *), void *given) {
     static int (*next)(pthread_t *, const pthread_attr_t *, void *(*)(void *), void *);
     if (!next) next = dlsym(RTLD_NEXT, "pthread_create");
-    if (is_meant) atomic_fetch_add(&counts->threads, 1);
+    if (is_meant) {
+        uint64_t at = atomic_fetch_add(&counts->threads, 1) + 1;
+        if (at == thread_at || (thread_from && at >= thread_from)) {
+            atomic_fetch_add(&counts->refused, 1);
+            return EAGAIN;
+        }
+    }
     return next(into, how, work, given);
 }
 
@@ -292,6 +298,13 @@ static int call_and_error(const char *name, uint64_t *at) {
     return *rest == ',' ? atoi(rest + 1) : 0;
 }
 
+static void call_or_from(const char *name, uint64_t *at, uint64_t *from) {
+    char *word = getenv(name), *rest;
+    if (!word) return;
+    uint64_t number = strtoull(word, &rest, 10);
+    *(*rest ? from : at) = number;
+}
+
 static size_t most(const char *name) {
     char *word = getenv(name);
     return word ? strtoull(word, NULL, 10) : SIZE_MAX;
@@ -310,10 +323,8 @@ __attribute__((constructor)) static void begin(void) {
     close(opened);
     if (shared == MAP_FAILED) return;
     counts = shared;
-    if ((word = getenv("REFUSED_MEMORY"))) {
-        uint64_t at = strtoull(word, &rest, 10);
-        *(*rest ? &memory_from : &memory_at) = at;
-    }
+    call_or_from("REFUSED_MEMORY", &memory_at, &memory_from);
+    call_or_from("REFUSED_THREADS", &thread_at, &thread_from);
     if ((word = getenv("REFUSED_SHARE"))) {
         share = strtoull(word, &rest, 10);
         seed = *rest ? strtoull(rest + 1, NULL, 10) : 0;

@@ -8,8 +8,9 @@
     ./test --proved ..    fails where a program in use isn't a proved one
     ./test --jobs N ..    so many files at once
 
-The programs are those of TORFYLLAN, TORFYLLAN_KEPT, TORFYLLAN_AUDIT, TORFYLLAN_FILL and TORFYLLAN_REPLICAS; else the proved ones where they are built, else
-the unproved ones, which are built once and of which less is tried. SEED=N begins other random choices. Each case is one of `unittest`: pytest runs them too, as `pytest tests`.
+The programs are those of TORFYLLAN, TORFYLLAN_KEPT, TORFYLLAN_REINDEX, TORFYLLAN_AUDIT, TORFYLLAN_FILL and TORFYLLAN_REPLICAS; else the proved ones where
+they are built, else the unproved ones, which are built once and of which less is tried. SEED=N begins other random choices. Each case is one of
+`unittest`: pytest runs them too, as `pytest tests`.
 
 It ends with what was skipped and what to install for it, and with `N passed, N failed, N skipped`; the status is 0 where none failed.
 """
@@ -34,6 +35,7 @@ PROGRAMS = (
     ("auditor", "TORFYLLAN_AUDIT", "./run --audit --prove"),
     ("load", "TORFYLLAN_FILL", "./run --fill --prove"),
     ("replicas", "TORFYLLAN_REPLICAS", "./run --replicas --prove"),
+    ("reindexer", "TORFYLLAN_REINDEX", "./run --next --prove"),
 )
 # What a reason for a skip speaks of, and what is installed or done for it.
 REMEDIES = (
@@ -45,7 +47,7 @@ REMEDIES = (
     ("C compiler", "apt-get install gcc libc6-dev"),
     ("environments", "apt-get install python3-venv"),
     ("mounted", "run as root, or where user namespaces are allowed"),
-    ("proved", "./run --prove, ./run --kept --prove, ./run --audit --prove, ./run --fill --prove, ./run --replicas --prove"),
+    ("proved", "./run --prove, ./run --kept --prove, ./run --next --prove, ./run --audit --prove, ./run --fill --prove, ./run --replicas --prove"),
     ("built server", "./run --prove"),
     ("--whole", "./test --whole"),
 )

@@ -21,7 +21,7 @@ import sys
 import tempfile
 import textwrap
 
-from tests.case import TOP, Case, auditor, keeper, load_program, run, server, with_defaults
+from tests.case import TOP, Case, auditor, keeper, load_program, reindexer, run, server, with_defaults
 
 sys.path.insert(0, str(TOP / "drivers" / "python"))
 from by_pytest import PYTHON
@@ -50,7 +50,8 @@ class Example:
     def answered(self):
         """What it is answered, and the status."""
         if self.form == "requests":
-            ran = run(self.text.encode(), with_defaults(self.words), files=self.files)
+            of = reindexer() if "--next" in self.words else server()
+            ran = run(self.text.encode(), with_defaults(self.words), of=of, files=self.files)
             return ran.output.decode() + ran.errors, ran.status
         if self.form == "sh":
             return self.ran(["bash", "-c", self.text])
@@ -72,6 +73,8 @@ class Example:
                 words["TORFYLLAN_AUDIT"] = auditor()
             if "kept" in self.text:
                 words["TORFYLLAN_KEPT"] = keeper()
+            if "next_indexes" in self.text:
+                words["TORFYLLAN_REINDEX"] = reindexer()
             if "--fill" in self.text:
                 words["TORFYLLAN_FILL"] = load_program()
             ran = subprocess.run(command, stdout=subprocess.PIPE, stderr=subprocess.STDOUT, text=True, cwd=folder, env={**os.environ, **words}, timeout=600)

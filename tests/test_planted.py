@@ -4,7 +4,7 @@ A sample is one wrong program for each file; the whole of it are all.
 """
 import os
 
-from tests.case import TOP, WHOLE, Case, auditor, is_slow, load_program, server
+from tests.case import TOP, WHOLE, Case, auditor, is_slow, load_program, reindexer, server
 from tests.runner import Job, files
 
 # What each file must find: replies that lack or come twice, other numbers, another order, another status, no word on standard error, a crash, a line
@@ -28,8 +28,10 @@ MUST_FIND = {
     "filled": ("load", "nearly counts drops doubles status silent dies cuts adds skips"),
     "appliers": ("server", "lingers burns applies drops"),
     "costs": ("server", "sips stops drops"),
+    "cut": ("reindexer", "forgets drops doubles counts swaps status silent dies cuts adds burns"),
 }
-PROGRAMS = {"server": ("TORFYLLAN", server), "auditor": ("TORFYLLAN_AUDIT", auditor), "load": ("TORFYLLAN_FILL", load_program)}
+PROGRAMS = {"server": ("TORFYLLAN", server), "auditor": ("TORFYLLAN_AUDIT", auditor), "load": ("TORFYLLAN_FILL", load_program),
+            "reindexer": ("TORFYLLAN_REINDEX", reindexer)}
 
 
 class Planted(Case):

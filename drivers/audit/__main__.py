@@ -2,7 +2,7 @@
 
 The journal that the auditor is handed is told by the acknowledged commits: `journal_of` makes its text. That needs no trust, as the verdict is on
 the journal that it makes. WORDS are those that served the lines, as ./run takes them. The proved auditor judges where it is there, else one of which
-nothing is proved, as with --unproved; ./run --audit --prove makes the proved one.
+nothing is proved, as with --unproved; ./run --audit --prove makes the proved one. A run with `--next FILE --after N` is judged twice, as `cut` says.
 
 With --kept FILE among them the run went over a kept file, and FILE is a copy of how it was before: `kept_run` tells what goes in front.
 """
@@ -13,6 +13,7 @@ import sys
 import tempfile
 
 sys.dont_write_bytecode = True
+import twice
 from journal_of import journal
 from kept_run import Prologue
 from torfyllan.kept import KeptFile
@@ -56,7 +57,11 @@ def reply_to(name, number):
 
 def refuse(told):
     print(f"audit: {told}", file=sys.stderr)
-    print("usage: ./run --audit INPUT REPLIES [--indexes FILE] [--shards N] [--appliers N] [--window N] [--kept COPY] [--unproved]\n       ./run --audit --prove", file=sys.stderr)
+    print(
+        "usage: ./run --audit INPUT REPLIES [--indexes FILE] [--shards N] [--appliers N] [--window N] [--kept COPY] [--next FILE --after N] [--unproved]\n"
+        "       ./run --audit --prove",
+        file=sys.stderr,
+    )
     return WRONG_WORDS
 
 
@@ -82,7 +87,7 @@ def prologue_of(name):
 
 
 def judged(auditor, lines, replies, words, prologue):
-    """How the auditor ends over the files of a run, behind this prologue or none."""
+    """The auditor's status and verdict on the files of a run, behind this prologue or none."""
     with tempfile.TemporaryDirectory() as folder, open(lines, "rb") as file, open(replies, "rb") as other:
         asked, answered = file.read(), other.read()
         told = journal(asked, answered, prologue.commits if prologue else 0)
@@ -93,7 +98,8 @@ def judged(auditor, lines, replies, words, prologue):
         for name, text in texts.items():
             with open(os.path.join(folder, name), "wb") as copy:
                 copy.write(text)
-        return subprocess.run([auditor, lines, replies, os.path.join(folder, "journal"), *words], stdin=subprocess.DEVNULL, stdout=subprocess.PIPE, text=True)
+        ran = subprocess.run([auditor, lines, replies, os.path.join(folder, "journal"), *words], stdin=subprocess.DEVNULL, stdout=subprocess.PIPE, text=True)
+    return ran.returncode, ran.stdout
 
 
 def main(words):
@@ -110,19 +116,28 @@ def main(words):
     for name, value in DEFAULTS:
         if not any(word == name or word.startswith(name + "=") for word in words):
             words += [name, value]
+    try:
+        words, following, after = twice.taken(words)
+    except ValueError as wrong:
+        return refuse(wrong)
+    if following is not None and kept is not None:
+        return refuse("a run over a kept file has one index file: --kept and --next don't go together")
     prologue = prologue_of(kept) if kept is not None else None
     if kept is not None and prologue is None:
         return DAMAGED
-    ran = judged(program(unproved), lines, replies, words, prologue)
+    if following is not None:
+        status, said = twice.judged(program(unproved), lines, replies, words, following, after)
+    else:
+        status, said = judged(program(unproved), lines, replies, words, prologue)
     before = prologue.count if prologue else 0
-    number = int(ran.stdout.rsplit(None, 1)[1]) if ran.stdout.startswith("not legal: line ") else None
+    number = int(said.rsplit(None, 1)[1]) if said.startswith("not legal: line ") else None
     if number is not None and number <= before:
         print(f"not legal: kept commit {prologue.commit_of(number)}")
     elif number is not None:
         print(f"not legal: line {number - before}\nline  {line_of(lines, number - before)}\nreply {reply_to(replies, number - before)}")
     else:
-        print(ran.stdout, end="")
-    return ran.returncode
+        print(said, end="")
+    return status
 
 
 if __name__ == "__main__":

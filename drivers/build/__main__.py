@@ -7,7 +7,7 @@
     python3 drivers/build PROGRAM --check       says by its status, 0 or 1, whether the proved build is there
     python3 drivers/build PROGRAM --note        notes, behind a gate that proved and built the program from these sources, that it did
 
-PROGRAM is server, keeper, auditor, load or replicas.
+PROGRAM is server, keeper, reindexer, auditor, load or replicas.
 Status: 0 it is there; 1 it isn't; 2 other words; 96 no kit on PATH; 97 the repository, or the folder for temporary files, can't be written; 99 the build
 failed; 130 it was interrupted.
 """

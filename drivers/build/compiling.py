@@ -56,7 +56,7 @@ def tried(program, folder, caught):
         try:
             while trial.poll() is None:
                 keep(folder, caught)
-                if program.what not in ("server", "keeper") and os.path.exists(caught) and answers(program, caught):
+                if program.what not in ("server", "keeper", "reindexer") and os.path.exists(caught) and answers(program, caught):
                     break
                 time.sleep(0.01)
         finally:
@@ -80,8 +80,8 @@ def keep(folder, caught):
 
 def trial_words(program, folder):
     """The words of the trial: an auditor's input is a pipe into which nothing is written, for which it waits; a load is a large one; there is one replica."""
-    if program.what == "server":
-        return DEFAULT_WORDS
+    if program.what in ("server", "reindexer"):
+        return WHOLE[program.what][0]
     if program.what == "keeper":
         return ["--kept", os.path.join(folder, "kept"), *DEFAULT_WORDS]
     if program.what == "load":
@@ -99,12 +99,13 @@ WHOLE = {
     "keeper": (["--kept", "kept", *DEFAULT_WORDS], b'{"op":"settle"}\n', b'{"applied":[0],"client":0,"line":1,"ok":"settle"'),
     "auditor": ([os.devnull] * 3 + DEFAULT_WORDS, b"", b"legal\n"),
     "load": (["1"], b"", b"items 1\nmatches 0\nlast none\n"),
+    "reindexer": (["--next", os.devnull, "--after", "1", *DEFAULT_WORDS], b'{"op":"settle"}\n', b'{"applied":[0],"client":0,"line":1,"ok":"settle"'),
     "replicas": (["1"], b"propose 0 0 1 a\ndeliver 0\ndeliver 1\ndeliver 2\ndeliver 3\n", b"replica 0 log 0 position 1 a\n"),
 }
 
 
 def answers(program, binary):
-    """Whether the program is whole: a server answers a line; an auditor finds no line legal; a load of one item is counted; one replica holds what it proposes."""
+    """Whether the program is whole: a server of either kind answers a line; an auditor finds no line legal; a load of one item is counted; one replica holds what it proposes."""
     words, lines, told = WHOLE[program.what]
     os.chmod(binary, 0o755)
     with contextlib.suppress(OSError), tempfile.TemporaryDirectory() as folder:

@@ -66,6 +66,7 @@ PROGRAMS = {
     "auditor": Program("auditor", "ds_audit", "./run --audit --prove"),
     "load": Program("load", "ds_fill", "./run --fill --prove"),
     "replicas": Program("replicas", "ds_replicas", "./run --replicas --prove"),
+    "reindexer": Program("reindexer", "ds_reindex", "./run --next --prove"),
 }
 
 

@@ -28,9 +28,10 @@ def arguments():
     parser.add_argument("replies", metavar="REPLIES", nargs="?", help="the file of their replies; of run.jsonl it is run.replies, as the driver's log has it, if it isn't given")
     parser.add_argument("--verdict", metavar="FILE", help='what an auditor says: "legal", "not legal: line N", or the JSON {"verdict":"not legal","line":N,"expected":REPLY}')
     parser.add_argument("--title", metavar="TEXT", help="what stands above the page; the name of LINES if it isn't given")
-    parser.add_argument("--about", metavar="FILE", help='JSON on a run of a test: {"sites":{"7":"test_task.py:5"},"namespace":NAME,"tests":[{"line":3,"name":NAME,"namespace":NAME}]}: which place in its source asked each line, a namespace that the page doesn\'t name, and where each test begins; of run.jsonl it is run.about, if that is there')
+    parser.add_argument("--about", metavar="FILE", help='JSON on a run of a test: {"sites":{"7":"test_task.py:5"},"namespace":NAME,"tests":[{"line":3,"name":NAME,"namespace":NAME}],"after":ROUNDS}: which place in its source asked each line, a namespace that the page doesn\'t name, and where each test begins; of run.jsonl it is run.about, if that is there')
     parser.add_argument("--shards", metavar="N", type=int, choices=range(1, 17), help="how many shards there were, 1 to 16; told by the replies if it isn't given")
-    for other in ("--indexes", "--appliers", "--window"):
+    parser.add_argument("--after", metavar="N", type=int, choices=range(1, 10_000), help="behind how many rounds a second index file served, 1 to 9999: the page has a line there")
+    for other in ("--indexes", "--next", "--appliers", "--window"):
         parser.add_argument(other, metavar="V", help="taken as the server takes it, and not needed")
     return parser.parse_args()
 
@@ -74,7 +75,8 @@ def main():
     about = read_json(content_of(about_file).decode("utf-8", "replace")) if about_file else {}
     tests = tests_of(about.get("tests"))
     keys.hide([about.get("namespace"), *(namespace for _, _, namespace in tests)])
-    made = page({"title": words.title or os.path.basename(words.lines), "verdict": verdict, **Picture(Run(lines, replies, words.shards), about.get("sites"), tests).data()})
+    after = words.after or number(about.get("after"), 1, 9_999)
+    made = page({"title": words.title or os.path.basename(words.lines), "verdict": verdict, **Picture(Run(lines, replies, words.shards), about.get("sites"), tests, after).data()})
     try:
         print(made, end="", flush=True)
     except BrokenPipeError:

@@ -19,7 +19,7 @@ const wayIn = byRow(run.ways);
 const strongIn = byRow(run.strong);
 const missingIn = byRow(run.missing);
 const siteIn = new Map(run.sites);
-const isHeading = row => opOf(row) === "test";
+const isCut = row => opOf(row) === "cut", isHeading = row => opOf(row) === "test" || isCut(row);
 const isOwn = row => siteIn.size > 0 && !siteIn.has(row) && !isHeading(row);
 const clients = [...new Set(col.client)].sort((a, b) => a - b);
 const usedShards = run.entries.flatMap((entries, shard) => entries.length ? [shard] : []);

@@ -7,7 +7,9 @@ import keys
 from asked import number, read_json
 
 ROUND_LINES, ROUND_BYTES, KEPT_BYTES = 65_536, 67_108_864, 2_097_153
-OPS = ("put", "delete", "get", "query", "gql", "begin", "commit", "rollback", "settle", "apply", "allocate_ids", "?", "test")
+OPS = ("put", "delete", "get", "query", "gql", "begin", "commit", "rollback", "settle", "apply", "allocate_ids", "?", "test", "cut")
+# Operations of rows that no line has.
+HEADINGS = ("test", "cut")
 
 
 class Line:
@@ -25,7 +27,7 @@ class Line:
         client = number(reply.get("client"), 0, 15)
         self.client = client if client is not None else number(request.get("client"), 0, 15) or 0
         op = reply["ok"] if self.ok else request.get("op")
-        self.op = op if op in OPS and op != "test" else "?"
+        self.op = op if op in OPS and op not in HEADINGS else "?"
         self.commit = number(reply.get("commit"), 1, lines)
         self.place = number(reply.get("place"), 0, lines)
         counts = reply.get("applied")
@@ -52,6 +54,15 @@ class Heading:
 
     def __init__(self, name, line):
         self.label, self.number, self.client, self.round = name, line.number, line.client, line.round
+
+
+class Cut(Heading):
+    """A row where the second index file begins to serve."""
+
+    op = "cut"
+
+    def __init__(self, line):
+        super().__init__("From here on the second index file serves", line)
 
 
 class Transaction:

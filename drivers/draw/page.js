@@ -67,6 +67,7 @@ function headingPanel(row) {
 }
 
 function rowPanel(row) {
+  if (isCut(row)) return [el("div", "where", `before line ${col.line[row]}`), el("h2", "", col.label[row]), el("p", "", "Its indexes were built while the first one served. All that was committed is applied; transactions, ids and what clients have seen go on.")];
   if (isHeading(row)) return headingPanel(row);
   const [asked, answer] = run.texts[row], parts = [el("div", "where", `line ${col.line[row]} · client ${col.client[row]} · round ${col.round[row]}`, el("span", "", siteIn.get(row) ?? (isOwn(row) ? "asked by the driver itself" : "")))];
   if (testOf(row)) parts.push(el("div", "where", testOf(row)));
@@ -117,7 +118,7 @@ function summary() {
   const words = (count, one, more) => [el("b", "", count.toLocaleString("en")), ` ${count === 1 ? one : more}`], index = indexFile([...missingIn.values()].flat()), {verdict, line} = run.verdict || {};
   const goes = (state, ...names) => findings[state] ? [button(state, () => next(findings[state]), ...words(findings[state].length, ...names))] : [];
   const judged = verdict === "legal" ? [el("span", "good", el("b", "", "legal"))] : verdict ? [button("wrong", () => choose(wrongRow), el("b", "", line ? `not legal: line ${line}` : verdict))] : [];
-  byId("summary").append(...judged, el("span", "", ...words(ROWS - headings.length, "line", "lines")), el("span", "", ...words(run.commits.length, "commit", "commits")), ...goes("conflict", "conflict", "conflicts"),
+  byId("summary").append(...judged, el("span", "", ...words(ROWS - col.op.filter((_, row) => isHeading(row)).length, "line", "lines")), el("span", "", ...words(run.commits.length, "commit", "commits")), ...goes("conflict", "conflict", "conflicts"),
     ...goes("overwrote", "unseen overwrite", "unseen overwrites"), ...goes("stale", "stale query", "stale queries"), ...goes("missing", "missing index", "missing indexes"),
     ...(index ? [copyButton(index)] : []), ...goes("refused", "refusal", "refusals"), ...goes("silent", "line without reply", "lines without reply"));
 }

@@ -21,15 +21,18 @@ _found.loader.exec_module(answers)
 COMPARED = 200
 # Of a run whose lines have places in a source these aren't drawn where they have none, as the driver asks them before each test.
 FOLDED = ("settle", "allocate_ids")
+# The operation of lines by which the driver ends a round and asks nothing: the server has none of this name.
+FILLER = "end_round"
 PLAIN_NAME = re.compile(r"""[^\s"'#]+""")
 
 
 class Picture:
     """The data of a page, as `data()` gives it: lists and texts alone, which JSON holds. `sites` are places in a source by lines, as texts, and
-    `tests` the first lines of tests, with their names and namespaces."""
+    `tests` the first lines of tests, with their names and namespaces. A second index file serves behind so many rounds as `after` says."""
 
-    def __init__(self, run, sites=None, tests=()):
+    def __init__(self, run, sites=None, tests=(), after=None):
         self.run = run
+        self.after = after
         self.sites = sites if isinstance(sites, dict) else {}
         self.names = {}
         self.commits_of = [[commit for commit, _ in entries] for entries in run.entries]
@@ -37,10 +40,14 @@ class Picture:
         self.known, self.ends, self.order = {}, {}, {}
         self._look()
         self.folded = [line for line in run.lines if self.sites and str(line.number) not in self.sites and line.ok and line.op in FOLDED]
-        kept = set(map(id, self.folded))
+        self.fillers = [line for line in run.lines if after is not None and not line.ok and line.request.get("op") == FILLER]
+        kept = set(map(id, self.folded + self.fillers))
         self.rows = sorted((line for line in run.lines if id(line) not in kept), key=lambda line: (line.round, self.order[line.number], line.client, line.number))
         self._head(tests)
-        self.row = {line.number: at for at, line in enumerate(self.rows) if line.op != "test"}
+        at = next((at for at, line in enumerate(self.rows) if after is not None and line.round > after), None)
+        if at is not None:
+            self.rows.insert(at, journal.Cut(self.rows[at]))
+        self.row = {line.number: at for at, line in enumerate(self.rows) if line.op not in journal.HEADINGS}
 
     def _head(self, tests):
         """Puts a heading above the first row of each test; none for a test that has no row of its own."""
@@ -150,7 +157,8 @@ class Picture:
 
     def data(self):
         run, columns = self.run, {name: [] for name in ("line", "client", "round", "op", "label", "result", "state", "commit", "place", "group", "known")}
-        notes = [*run.notes, *([f"{len(self.folded)} settles and draws of ids, which the driver asked itself, aren't drawn."] if self.folded else [])]
+        notes = [*run.notes, *([f"{len(self.folded)} settles and draws of ids, which the driver asked itself, aren't drawn."] if self.folded else []),
+                 *([f"{len(self.fillers)} lines that ask nothing and end rounds aren't drawn."] if self.fillers else [])]
         queries, counts, strong, ways, missing, states = [], [], [], [], [], ["", "silent", "conflict", "missing", "refused", "stale", "overwrote"]
         for at, line in enumerate(self.rows):
             missed = self.missed(line) if line.counts and line.op in ("query", "gql") else (0, 0, 0, None)
@@ -164,6 +172,8 @@ class Picture:
                 counts.append([at, [min(count, len(commits)) for count, commits in zip(line.counts, self.commits_of)]])
                 if line.op in ("query", "gql"):
                     queries.append([at, self.scope(line.scope), *missed])
+            elif line.op == "cut":
+                counts.append([at, self._counts_at_cut()])
             else:
                 strong += self._applied(at, line)
             if state == "missing":
@@ -179,11 +189,15 @@ class Picture:
         spans = [[it.first.client, self.row[it.first.number], self.row[it.last.number], it.end, len(it.writes),
                   [[self.row[line.number], self.group(group), place] for line, group, place in it.touches]] for it in run.transactions]
         entries = [[[commit, self.group(group)] for commit, group in entries] for entries in run.entries]
-        sites = [[at, keys.cut(self.sites[str(line.number)])] for at, line in enumerate(self.rows) if line.op != "test" and isinstance(self.sites.get(str(line.number)), str)]
+        sites = [[at, keys.cut(self.sites[str(line.number)])] for at, line in enumerate(self.rows) if line.op not in journal.HEADINGS and isinstance(self.sites.get(str(line.number)), str)]
         tables = {table: [label for _, label in self.names.get(table, {}).values()] for table in ("groups", "scopes")}
         return {"shards": run.shards, "ops": journal.OPS, "states": states, "columns": columns, "texts": texts, "queries": queries, "counts": counts,
                 "strong": strong, "commits": commits, "spans": spans, "entries": entries, "ways": ways, "missing": missing, "notes": notes,
                 "sites": sites, **tables}
+
+    def _counts_at_cut(self):
+        """What is applied where the second index file begins to serve: all that was committed."""
+        return [sum(self.run.commits[commit].line.round <= self.after for commit in commits) for commits in self.commits_of]
 
     def _counts_of_folded(self):
         """What the settles that aren't drawn had applied, each at the first row behind it, where that tells no counts of its own."""

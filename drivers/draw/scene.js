@@ -113,8 +113,13 @@ function mark(row, x, y) {
   else disc(x, y, 3.5, ink.dim, op === "allocate_ids" ? 1.5 : 0);
 }
 
-/* The name of a test above its rows, with a line over it. */
+/* The name of a test above its rows, with a line over it; and where the second index file begins to serve a line across. */
 function headline(row, y) {
+  if (isCut(row)) {
+    box(14, y - 9, wideOf(col.label[row], "600 12.5px") + 8, 18, 4, groundOf(row));
+    line(ink.accent, 2, [[14, y + H / 2 - 3], [at.whole - 14 - at.overview, y + H / 2 - 3]]);
+    return write(col.label[row], 18, y, ink.accent, at.journal - 40, "600 12.5px");
+  }
   line(ink.faint, 1.5, [[14, y - H / 2], [at.whole - 14 - at.overview, y - H / 2]]);
   return write(col.label[row], 18, y + 1, ink.ink, at.journal - 40, "600 12.5px");
 }

@@ -150,7 +150,7 @@ class Refused(Kept):
             for named, wanted in (({}, [top]), ({"TORFYLLAN": "/x/ds_server"}, [top]), ({"TORFYLLAN": "/x/run"}, ["/x/run"]), ({"TORFYLLAN": "/x/run --unproved"}, ["/x/run", "--unproved"]),
                                   ({"TORFYLLAN": "/x/run", "TORFYLLAN_KEPT": "/y/keeper"}, ["/y/keeper"])):
                 os.environ.update(named)
-                self.assertEqual(process.found_program(True), wanted)
+                self.assertEqual(process.found_program("TORFYLLAN_KEPT"), wanted)
                 for name in named:
                     del os.environ[name]
         finally:

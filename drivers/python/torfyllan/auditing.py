@@ -3,7 +3,7 @@ import os
 import pathlib
 import subprocess
 import tempfile
-from typing import IO, List, Optional, Sequence
+from typing import IO, List, Optional, Sequence, Tuple
 
 from .errors import NotLegal, ServerFailed
 from .log import Recorder
@@ -27,6 +27,7 @@ class Audit(Recorder):
         self._tell = tell
         self._words: List[str] = []
         self._indexes: Optional[str] = None
+        self._change: Optional[Tuple[int, str]] = None
         self._kept_file: Optional[str] = None
         self._kept: List[IO[bytes]] = []
         self._whole = True
@@ -37,9 +38,12 @@ class Audit(Recorder):
                 f"{PROGRAM or 'the repository'}, whose ./run --audit audits a run, isn't there: install the package from the repository, as"
                 " pip install ./drivers/python, or keep a log, and audit it there"
             )
-        self._words, self._indexes, self._kept_file = list(words), indexes, kept
+        self._words, self._indexes, self._change, self._kept_file = list(words), indexes, None, kept
         self._kept = [tempfile.TemporaryFile(), tempfile.TemporaryFile()]
         self._whole = True
+
+    def changes_indexes(self, rounds: int, text: str) -> None:
+        self._change = rounds, text
 
     def asked(self, text: bytes) -> None:
         self._whole = False
@@ -63,14 +67,16 @@ class Audit(Recorder):
             file.seek(0)
             with open(name, "wb") as copy:
                 copy.writelines(file)
-        words = self._words
-        if self._indexes is not None:
-            index = os.path.join(folder, "index.yaml")
-            with open(index, "w", encoding="utf-8") as text:
-                text.write(self._indexes)
-            words = [*words, "--indexes", index]
-        if self._kept_file is not None:
-            words = [*words, "--kept", self._kept_file]
+        words = list(self._words)
+        rounds, following = self._change if self._change is not None else (0, None)
+        for option, content, name in (("--indexes", self._indexes, "index.yaml"), ("--next", following, "next.yaml")):
+            if content is not None:
+                index = os.path.join(folder, name)
+                with open(index, "w", encoding="utf-8") as text:
+                    text.write(content)
+                words += [option, index]
+        words += ["--after", str(rounds)] if rounds else []
+        words += ["--kept", self._kept_file] if self._kept_file is not None else []
         command = [str(PROGRAM), "--audit", *names, *words, *(["--unproved"] if self.is_unproved else [])]
         verdict = os.path.join(folder, "verdict")
         with open(verdict, "wb") as output:

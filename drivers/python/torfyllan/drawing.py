@@ -53,6 +53,9 @@ class Drawing(Recorder):
         open(self.file, "wb").close()
         self._kept = [tempfile.TemporaryFile(), tempfile.TemporaryFile()]
 
+    def changes_indexes(self, rounds: int, text: str) -> None:
+        self._about.changes_indexes(rounds)
+
     def asked(self, text: bytes) -> None:
         self._kept[0].write(text)
 

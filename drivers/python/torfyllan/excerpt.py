@@ -35,7 +35,9 @@ class Excerpt(Recorder):
 
     def __init__(self, server: "Server", next_id: int = FIRST_DRAWN, namespace: str = "") -> None:
         self._namespace = namespace
-        self._words, self._indexes = server._plain_words(), server._indexes.text
+        self._words, self._indexes, self._change = server._plain_words(), server._indexes.text, server._second.change_from_here
+        if self._change is not None and not self._change.rounds:
+            self._indexes, self._change = self._change.text, None
         self._commits, self._counts = server._journal.last, server._journal.counts()
         self._before, self._first = server._line - 1, server._line
         self._asked: List[bytes] = []
@@ -46,6 +48,8 @@ class Excerpt(Recorder):
             self._before -= 2
             self._asked.append(b'{"client":0,"op":"allocate_ids","count":%d}\n\n' % count)
             self._answered.append(b'{"client":0,"count":%d,"first":%d,"line":1,"ok":"allocate_ids"}' % (count, FIRST_DRAWN))
+            if self._change is not None:
+                self._change = self._change._replace(rounds=self._change.rounds + 1)
 
     def asked(self, text: bytes) -> None:
         self._asked.append(text)
@@ -73,6 +77,8 @@ class Excerpt(Recorder):
 
     def _play(self, recorder: Recorder) -> None:
         recorder.begin(self._words, self._indexes)
+        if self._change is not None:
+            recorder.changes_indexes(*self._change)
         recorder.asked(b"".join(self._asked))
         recorder.answered([self._here(reply) for reply in self._answered])
         for line, site in self._sites.items():

@@ -278,9 +278,9 @@ class Given:
             return definitions_of(self.text or "")
         return []
 
-    def explain(self, failed: str) -> None:
-        """Raises an IndexFileError, where this is what the server said of the file."""
-        told = re.search(r"index file: line ([0-9]+)", failed)
+    def explain(self, failed: str, named: str = "index file") -> None:
+        """Raises an IndexFileError, where this is what the server said of the file, which it names so."""
+        told = re.search(named + r": line ([0-9]+)", failed)
         if told is None or self.text is None:
             return
         number = int(told.group(1))

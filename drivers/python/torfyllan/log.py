@@ -13,8 +13,11 @@ class Recorder:
     def begin(self, words: Sequence[str], indexes: Optional[str], kept: Optional[str] = None) -> None:
         """The server is started with these words, an index file of this text or none, and a kept file or none, of which a copy has this name."""
 
+    def changes_indexes(self, rounds: int, text: str) -> None:
+        """Behind so many rounds the server, which was just started, goes on with an index file of this text."""
+
     def asked(self, text: bytes) -> None:
-        """These bytes are sent: the lines of a round, and an empty line."""
+        """These bytes are sent: the lines of a round, and an empty line; or several such rounds."""
 
     def answered(self, lines: Sequence[bytes]) -> None:
         """These replies came, each without its newline."""
@@ -30,7 +33,8 @@ class Recorder:
 
 
 class About:
-    """What a page tells of a talk beside its lines: the place in the source that asked each, a namespace that it doesn't name, and the tests."""
+    """What a page tells of a talk beside its lines: the place in the source that asked each, a namespace that it doesn't name, the tests, and behind
+    how many rounds a second index file serves."""
 
     def __init__(self, namespace: str) -> None:
         self._namespace = namespace
@@ -40,6 +44,11 @@ class About:
         """A start of a server."""
         self._sites: Dict[int, str] = {}
         self._tests: List[Dict[str, Any]] = []
+        self._after: Optional[int] = None
+
+    def changes_indexes(self, rounds: int) -> None:
+        """A second index file serves behind so many rounds."""
+        self._after = rounds
 
     def test_begins(self, name: str, namespace: str, line: int) -> None:
         """A test begins at this line."""
@@ -53,7 +62,8 @@ class About:
     def write(self, name: str) -> None:
         """Writes it as JSON."""
         with open(name, "w", encoding="utf-8") as file:
-            json.dump({"sites": self._sites, "namespace": self._namespace, "tests": self._tests}, file)
+            after = {} if self._after is None else {"after": self._after}
+            json.dump({"sites": self._sites, "namespace": self._namespace, "tests": self._tests, **after}, file)
 
 
 class Log(Recorder):
@@ -63,6 +73,7 @@ class Log(Recorder):
         run.replies    the replies, one a line, in the order in which they came
         run.words      the words that the server was given, one a line
         run.yaml       the index file, in the server's form, where there is one
+        run.next.yaml  the second index file, where there is one
         run.kept       the kept file as it was at the start, where there is one
         run.about      JSON for a page: which place in the source asked each line, which tests there were; written at the end
 
@@ -96,6 +107,13 @@ class Log(Recorder):
         with open(self.name("words"), "w", encoding="utf-8") as file:
             file.writelines(word + "\n" for word in words)
         self._files = [open(self.name(ending), "wb") for ending in ("jsonl", "replies")]
+
+    def changes_indexes(self, rounds: int, text: str) -> None:
+        self._about.changes_indexes(rounds)
+        with open(self.name("next.yaml"), "w", encoding="utf-8") as file:
+            file.write(text)
+        with open(self.name("words"), "a", encoding="utf-8") as words:
+            words.writelines(word + "\n" for word in ("--next", os.path.basename(self.name("next.yaml")), "--after", str(rounds)))
 
     def asked(self, text: bytes) -> None:
         self._files[0].write(text)

@@ -35,12 +35,12 @@ def repository() -> Optional[pathlib.Path]:
     return next((top for top in tops if (top / "run").exists() and (top / "crates.txt").exists()), None)
 
 
-def found_program(keeps: bool = False) -> List[str]:
-    """The program's first words: what TORFYLLAN names, or `run` of the repository of this file, or of the one it was installed from. One that `keeps` a
-    file is what TORFYLLAN_KEPT names, or else such a `run`, which TORFYLLAN may name too."""
+def found_program(variable: str = "") -> List[str]:
+    """The program's first words: what TORFYLLAN names, or `run` of the repository of this file, or of the one it was installed from. One that does more
+    than serve is what this variable names, as TORFYLLAN_KEPT, or else such a `run`, which TORFYLLAN may name too."""
     named = _named("TORFYLLAN")
-    if keeps:
-        named = _named("TORFYLLAN_KEPT") or (named if named and os.path.basename(named[0]) == "run" else [])
+    if variable:
+        named = _named(variable) or (named if named and os.path.basename(named[0]) == "run" else [])
     if named:
         return named
     top = repository()

@@ -34,6 +34,8 @@ from .spaces import OwnSpace
 _WORDS = {
     "datastore_indexes": "the index file of the tests' server; a relative name stands beside the ini file",
     "datastore_auto_index": "true: the entry of each missing index is added to that file",
+    "datastore_next_indexes": "a second index file, which serves from a test's datastore.server.use_next_indexes() on, up to the test's end",
+    "datastore_after": "the rounds within which that call comes, 1 to 9999 (1000)",
     "datastore_shards": "the number of shards, 1 to 16 (16)",
     "datastore_consistency": "explicit (the default), strong, or a share from 0 to 1 of the writes that are applied at once",
     "datastore_conflicts": "the share, from 0 to 1, of the commits of transactions that conflict (0)",
@@ -82,11 +84,12 @@ def server_words(config: Any) -> Dict[str, Any]:
         with contextlib.suppress(KeyError, ValueError):
             if config.getini(name):
                 words[name[len("datastore_") :]] = config.getini(name)
-    if "indexes" in words:
-        words["indexes"] = str(_root(config) / words["indexes"])
+    for name in ("indexes", "next_indexes"):
+        if name in words:
+            words[name] = str(_root(config) / words[name])
     if "auto_index" in words:
         words["auto_index"] = _truth("datastore_auto_index", words["auto_index"])
-    for name in ("shards", "seed"):
+    for name in ("shards", "seed", "after"):
         if name in words:
             words[name] = _number(f"datastore_{name}", words[name])
     for name in _SHARES:
@@ -172,13 +175,14 @@ _lent_commits: "weakref.WeakKeyDictionary[Server, int]" = weakref.WeakKeyDiction
 
 
 def _start_again_if_need_be(server: Server, test: Any) -> None:
-    """Starts a server that an earlier test has ended; and one whose index file got entries since, if it is this module's and only tests wrote to it."""
+    """Starts a server that an earlier test has ended; and one whose index file got entries since, or that serves by a second one or soon would, if it is
+    this module's and only tests wrote to it."""
     if server._process is not None and not server.is_alive:
         why = server._process.why
         started_again = f"the server that tests share had ended before this test ({why}); it was started anew, and what was written before is gone"
         server._start_again()
         test.warn(pytest.PytestWarning(started_again))
-    elif server in _ours and server._indexes.has_added and server._journal.last == _lent_commits.get(server, 0):
+    elif server in _ours and (server._indexes.has_added or server._second.serves or server._second.is_near) and server._journal.last == _lent_commits.get(server, 0):
         server.reset()
     else:
         return

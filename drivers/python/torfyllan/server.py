@@ -24,6 +24,7 @@ from .process import Process, Tell, found_program, tell_on_stderr
 from .refusals import MissingIndex, Refused, refusal
 from .replies import Reply
 from .rounds import Asked, Pending, Round
+from .second_indexes import SecondIndexes, too_many_rows
 from .shards import FIRST_DRAWN, LAST_ID, even_start
 from .spaces import space_out
 from .steering import Counts, Steering, has_ancestor
@@ -49,6 +50,9 @@ class Server:
     is the default, a write is applied when a test says so, by `settle`, `apply` or a read that is up to date, and so each run of a test shows
     the same. `window` is how many entries a shard keeps its states after, 1 to
     65,536: once so many were applied since a transaction touched a group, a read of it there is `Expired`.
+    `next_indexes` is a second index file, as `indexes` gives the first: its indexes are built while the first one serves, and from the call of
+    `use_next_indexes` on it serves. That call has to come within the first `after` rounds, 1 to 9,999, and 1,000 where it isn't given; a call of a
+    client is a round.
 
     `consistency` is `"explicit"` (as just told), `"strong"` (each write is applied before its call returns), or a share from 0 to 1 of the writes
     that are applied so, drawn by `seed`. `conflicts` and `unknown_commits` are shares of commits, drawn by `seed` too: before that of a transaction
@@ -72,6 +76,8 @@ class Server:
         *,
         indexes: Union[str, "os.PathLike[str]", None] = None,
         auto_index: bool = False,
+        next_indexes: Union[str, "os.PathLike[str]", None] = None,
+        after: Optional[int] = None,
         shards: int = 16,
         appliers: int = 0,
         window: Optional[int] = None,
@@ -96,6 +102,9 @@ class Server:
         self._keeping = Keeping(kept) if kept is not None else None
         self._program: Optional[Sequence[str]] = [os.fspath(program)] if isinstance(program, (str, os.PathLike)) else program
         self._indexes = index_files.Given(indexes, auto_index)
+        self._second = SecondIndexes(next_indexes, after, auto_index)
+        if kept is not None and next_indexes is not None:
+            raise ValueError("a server that keeps a file has one index file: give it kept= or next_indexes=")
         self._consistency = Consistency(consistency, seed)
         self._choices: Choices = Chance(conflicts, unknown_commits, seed)
         self._many_of_all = set(lists_of(many))
@@ -117,6 +126,7 @@ class Server:
     def _forget(self) -> None:
         """What is known of a run, as before its first line."""
         self._line = 1
+        self._second.restart()
         self._journal = Journal(self.shards)
         self._sessions = [Session() for _ in range(CLIENTS)]
         self._many: Dict[str, Set[Tuple[str, str]]] = {}
@@ -160,8 +170,8 @@ class Server:
         self._start()
 
     def _start(self) -> "Server":
-        self._indexes.read()
-        program = list(self._program or found_program(self._keeping is not None))
+        self._read_index_files()
+        program = self._found_program()
         self._folder, self._owner = tempfile.TemporaryDirectory(prefix="torfyllan-"), os.getpid()
         _STARTED.add(self)
         try:
@@ -175,13 +185,20 @@ class Server:
             self._audit.is_unproved = self._image is not None and self._image["executable"].endswith(".unproved")
         return self
 
+    def _read_index_files(self) -> None:
+        self._indexes.read()
+        self._second.read()
+
+    def _found_program(self) -> List[str]:
+        return list(self._program or found_program("TORFYLLAN_KEPT" if self._keeping is not None else self._second.variable))
+
     def _plain_words(self) -> List[str]:
         given = (("--shards", self.shards), ("--appliers", self.appliers), ("--window", self.window))
         return [word for name, value in given if value is not None for word in (name, str(value))]
 
     def _words(self) -> List[str]:
         assert self._folder is not None
-        words = [*(self._keeping.words if self._keeping is not None else []), *self._plain_words()]
+        words = [*(self._keeping.words if self._keeping is not None else []), *self._second.words(self._folder.name), *self._plain_words()]
         if self._indexes.text is not None:
             name = os.path.join(self._folder.name, "index.yaml")
             with open(name, "w", encoding="utf-8") as file:
@@ -197,10 +214,13 @@ class Server:
         self._process = Process(words, os.path.join(self._folder.name, "stderr"), executable, self.kept)
         for recorder in self._recorders:
             recorder.begin(self._plain_words(), self._indexes.text, copy)
+            if self._second.change is not None:
+                recorder.changes_indexes(*self._second.change)
         try:
             (settled,) = self._ask_round([(self.client(0), {"client": 0, "op": "settle"})], sites=[DRIVER], seconds=self._start_timeout, tell=self._tell)
         except ServerFailed as failed:
             self._indexes.explain(str(failed))
+            self._second.explain(str(failed))
             raise
         if self._keeping is not None:
             # All that was found is applied from now on. A put that is refused tells which id is drawn next.
@@ -216,13 +236,13 @@ class Server:
                 raise TorfyllanError("the server isn't running: start() it first")
             self._process.kill()
             self._end_recorders()
-            self._indexes.read()
+            self._read_index_files()
             words = self._words()
             try:
                 if self._image is not None and os.path.exists(self._image["executable"]):
                     self._launch(self._image["words"], self._image["executable"])
                 else:
-                    self._launch([*(self._program or found_program(self._keeping is not None)), *words], None)
+                    self._launch([*self._found_program(), *words], None)
             except BaseException:
                 self._end_now()
                 raise
@@ -287,6 +307,19 @@ class Server:
     def _long_round(self) -> Round:
         """Lines that are sent as one round, or as several where they are too many."""
         return Round(self, split=True)
+
+    def use_next_indexes(self) -> None:
+        """Has the second index file serve from the next line on: ends the rounds up to `after` by lines that ask nothing, and waits until the server has
+        changed. Open transactions, ids and what clients have seen go on, and all that was committed is applied. Where an entity has too many index
+        rows under the second file the server ends, as a `ServerFailed` that names its commit."""
+        self._check_owner()
+        with self._lock:
+            self._second.use(self)
+
+    @property
+    def serves_next_indexes(self) -> bool:
+        """Whether the second index file serves."""
+        return self._second.serves
 
     def reserve_ids(self, above: int) -> None:
         """Sees to it that ids up to this one, which entities of another store have, can be put, and that the server draws only greater ones."""
@@ -376,16 +409,11 @@ class Server:
 
     def _exchange(self, lines: Sequence[bytes], seconds: float, tell: Optional[Tell]) -> List[Dict[str, Any]]:
         """Sends a round, and gives the replies' members in the order of its lines."""
-        assert self._process is not None
         first, self._line = self._line, self._line + len(lines) + 1
-        text = b"".join(line + b"\n" for line in lines) + b"\n"
         numbers = range(first, first + len(lines))
         try:
-            for recorder in self._recorders:
-                recorder.asked(text)
-            replied = self._process.talk(text, len(lines), seconds, tell)
-            for recorder in self._recorders:
-                recorder.answered(replied)
+            replied = self._talk(b"".join(line + b"\n" for line in lines) + b"\n", 1, len(lines), seconds, tell)
+            assert self._process is not None
             by_line = {reply.get("line"): reply for reply in map(self._process.reply_in, replied)}
             missing = [number for number in numbers if number not in by_line]
             if missing:
@@ -398,6 +426,23 @@ class Server:
         for told in replies:
             self._steering.hear_ids(told)
         return replies
+
+    def _talk(self, text: bytes, rounds: int, count: int, seconds: float, tell: Optional[Tell] = None) -> List[bytes]:
+        """Sends so many rounds, which have this text together, and gives so many replies."""
+        if self._process is None:
+            raise ServerFailed("the server isn't running: start() it, or use it in a `with` block")
+        if self._second.is_next:
+            self._steering.hear_all_applied()
+        for recorder in self._recorders:
+            recorder.asked(text)
+        try:
+            replied = self._process.talk(text, count, seconds, tell)
+        except ServerFailed as failed:
+            raise too_many_rows(failed, self._journal) from failed.__cause__
+        self._second.rounds += rounds
+        for recorder in self._recorders:
+            recorder.answered(replied)
+        return replied
 
     def _take(
         self,
@@ -486,7 +531,8 @@ class Server:
         refused.touched = tuple(session.touched)
         if isinstance(refused, MissingIndex):
             self._index_use.missing[refused.index_yaml] = None
-            refused.added_to = self._indexes.add(refused.index_yaml)
+            add = self._second.add if self._second.serves else self._indexes.add
+            refused.added_to = add(refused.index_yaml)
         return refused
 
 

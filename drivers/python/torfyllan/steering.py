@@ -150,6 +150,11 @@ class Steering:
             elif asked is not None and reply.get("ok") in ("get", "query", "gql"):
                 self._hear_read(asked, reply["place"])
 
+    def hear_all_applied(self) -> None:
+        """All that is committed is applied, as where the server goes on with a second index file."""
+        for shard, count in enumerate(self._server._journal.counts()):
+            self._hear_count(shard, count)
+
     def _hear_read(self, asked: "Asked", place: int) -> None:
         """A read that was up to date has applied what the shard of its group had at its place."""
         client, members = asked
