@@ -134,10 +134,10 @@ pub(crate) fn cut_over<
     requires counts { HaveCounts at.store.shards (seen_of at.sessions) }
     requires written { AreWritten at.sessions }
     ensures legal { (left held : Option (List ℕ))
-        → HasServed (Counted (Exactly plan.now.after) (RanFirst (asked_of plan.now.shards plan.now.window plan.now.first.now))) left (I.left input.old)
-        held (O.held output.old) at.rounds at.sessions
-        → IsLegalOf (asked_of plan.now.shards plan.now.window plan.now.first.now) plan.now.second.now plan.now.after left (I.left input.new) held
-        (O.held output.new) result }
+        → HasServed (Counted (Exactly plan.now.after) (RanFirst (asked_of plan.now.shards plan.now.window plan.now.first.now))) left
+        (I.left input.old) held (O.held output.old) at.rounds at.sessions
+        → IsLegalOf (asked_of plan.now.shards plan.now.window plan.now.first.now) plan.now.second.now plan.now.after left
+        (I.left input.new) held (O.held output.new) result }
     ensures ends { EndsBegun (I.faults input.old) (I.faults input.new) (O.faults output.old) (O.faults output.new) result }
 {
     let AtCut {
@@ -226,10 +226,10 @@ fn move_over<
     requires counts { HaveCounts old.store.shards (seen_of gone.sessions) }
     requires written { AreWritten gone.sessions }
     ensures legal { (left held : Option (List ℕ))
-        → HasServed (Counted (Exactly plan.now.after) (RanFirst (asked_of plan.now.shards plan.now.window plan.now.first.now))) left (I.left input.old)
-        held (O.held output.old) gone.rounds gone.sessions
-        → IsLegalOf (asked_of plan.now.shards plan.now.window plan.now.first.now) plan.now.second.now plan.now.after left (I.left input.new) held
-        (O.held output.new) result }
+        → HasServed (Counted (Exactly plan.now.after) (RanFirst (asked_of plan.now.shards plan.now.window plan.now.first.now))) left
+        (I.left input.old) held (O.held output.old) gone.rounds gone.sessions
+        → IsLegalOf (asked_of plan.now.shards plan.now.window plan.now.first.now) plan.now.second.now plan.now.after left
+        (I.left input.new) held (O.held output.new) result }
     ensures ends { EndsBegun (I.faults input.old) (I.faults input.new) (O.faults output.old) (O.faults output.new) result }
 {
     let Gone {

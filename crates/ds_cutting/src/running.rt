@@ -28,7 +28,8 @@ use std::marker::Brand;
 use std::sync::Wait;
 use std::thread::Threads;
 
-/// What a run is served with: the runtime, what ends the hubs of a store that is dropped without a close, where memory is taken, and the gate.
+/// What a run is served with: the runtime, what ends the hubs of a store that is dropped without a close, where memory is taken, and the
+/// gate.
 #[derive(Drop)]
 pub(crate) struct Host<'a, Rt, H: Drop, G> {
     pub(crate) rt: &'a Rt,
@@ -66,13 +67,14 @@ pub(crate) fn run_opened<
 ) -> CutRun
     requires names { AreNamesOf opened J.journal J.shards J.commits J.ids J.definitions J.window }
     requires begun { AreBegun opened }
-    requires given { (length opened.shards ≡ plan.now.shards) × (opened.definitions ≡ plan.now.first.now) × (opened.window ≡ plan.now.window)
-        × (opened.passes ≡ plan.now.passes) }
+    requires given { (length opened.shards ≡ plan.now.shards) × (opened.definitions ≡ plan.now.first.now)
+        × (opened.window ≡ plan.now.window) × (opened.passes ≡ plan.now.passes) }
     requires shards { (1 ≤ plan.now.shards) × (plan.now.shards ≤ most_shards) }
     requires window { (1 ≤ plan.now.window) × (plan.now.window ≤ greatest_window) }
     requires passes { (greatest_client + 2 ≤ plan.now.passes) × (plan.now.passes ≤ 26) }
-    ensures { IsCutRunOf (asked_of plan.now.shards plan.now.window plan.now.first.now) plan.now.second.now plan.now.after (I.left input.old) (I.left input.new)
-        (O.held output.old) (O.held output.new) (I.faults input.old) (I.faults input.new) (O.faults output.old) (O.faults output.new) result }
+    ensures { IsCutRunOf (asked_of plan.now.shards plan.now.window plan.now.first.now) plan.now.second.now plan.now.after
+        (I.left input.old) (I.left input.new) (O.held output.old) (O.held output.new) (I.faults input.old) (I.faults input.new)
+        (O.faults output.old) (O.faults output.new) result }
 {
     let Ok(made) = make::<J, H>(host.alloc, opened) else {
         return nothing_run(host.alloc, CutStatus::Served(Status::NoMemory));
@@ -108,16 +110,17 @@ fn run_both<
     input: &mut I,
     output: &mut O,
 ) -> CutRun
-    requires first { (made.store.shards ≡ plan.now.shards) × (length J.shards ≡ plan.now.shards) × (J.definitions ≡ plan.now.first.now) × (J.window ≡ plan.now.window)
-        × (made.store.passes ≡ plan.now.passes) }
+    requires first { (made.store.shards ≡ plan.now.shards) × (length J.shards ≡ plan.now.shards)
+        × (J.definitions ≡ plan.now.first.now) × (J.window ≡ plan.now.window) × (made.store.passes ≡ plan.now.passes) }
     requires new { made.passes ≡ replicate plan.now.passes (nothing_seen plan.now.shards) }
     requires names { AreNamesOf second K.journal K.shards K.commits K.ids K.definitions K.window }
     requires begun { AreBegun second }
-    requires given { (length second.shards ≡ plan.now.shards) × (second.definitions ≡ plan.now.second.now) × (second.window ≡ plan.now.window)
-        × (second.passes ≡ plan.now.passes) }
+    requires given { (length second.shards ≡ plan.now.shards) × (second.definitions ≡ plan.now.second.now)
+        × (second.window ≡ plan.now.window) × (second.passes ≡ plan.now.passes) }
     requires passes { greatest_client + 2 ≤ plan.now.passes }
-    ensures { IsCutRunOf (asked_of plan.now.shards plan.now.window plan.now.first.now) plan.now.second.now plan.now.after (I.left input.old) (I.left input.new)
-        (O.held output.old) (O.held output.new) (I.faults input.old) (I.faults input.new) (O.faults output.old) (O.faults output.new) result }
+    ensures { IsCutRunOf (asked_of plan.now.shards plan.now.window plan.now.first.now) plan.now.second.now plan.now.after
+        (I.left input.old) (I.left input.new) (O.held output.old) (O.held output.new) (I.faults input.old) (I.faults input.new)
+        (O.faults output.old) (O.faults output.new) result }
 {
     let Ok(reindex) = second_store::<K, H>(host.alloc, second, plan.second) else {
         return nothing_run(host.alloc, CutStatus::Served(Status::NoMemory));
@@ -198,8 +201,9 @@ fn run_begun<
     requires all { vec_len ready.begun.passes + (greatest_client + 1) ≡ ready.store.passes }
     requires room { ready.store.passes ≤ vec_capacity ready.begun.passes }
     requires unfed { ready.reindex ≡ record { shards = plan.now.shards; passes = ready.store.passes; journal = []; next = first_drawn_id } }
-    ensures { IsCutRunOf (asked_of plan.now.shards plan.now.window plan.now.first.now) plan.now.second.now plan.now.after (I.left input.old) (I.left input.new)
-        (O.held output.old) (O.held output.new) (I.faults input.old) (I.faults input.new) (O.faults output.old) (O.faults output.new) result }
+    ensures { IsCutRunOf (asked_of plan.now.shards plan.now.window plan.now.first.now) plan.now.second.now plan.now.after
+        (I.left input.old) (I.left input.new) (O.held output.old) (O.held output.new) (I.faults input.old) (I.faults input.new)
+        (O.faults output.old) (O.faults output.new) result }
 {
     let Ready {
         store,
