@@ -28,7 +28,7 @@ TOP = str(case.TOP)
 DESIGN, THEOREM, PROMISES, PROTOCOL = "docs/design.md", "docs/theorem.md", "docs/promises.md", "docs/protocol.md"
 # How many words each page may have. A page that isn't here is a fault.
 MOST_WORDS = {
-    "README.md": 1_070, "CHANGELOG.md": 1_000, "CONTRIBUTING.md": 1_600, "docs/python.md": 4_800, PROTOCOL: 4_000, "docs/tools.md": 2_150, DESIGN: 2_350,
+    "README.md": 1_070, "CHANGELOG.md": 1_000, "CONTRIBUTING.md": 1_680, "docs/python.md": 4_800, PROTOCOL: 4_000, "docs/tools.md": 2_150, DESIGN: 2_350,
     THEOREM: 2_550, PROMISES: 2_200, "docs/DECISIONS.md": 2_750, "docs/measurements.md": 1_000,
 }
 MOST_TERMS = 15

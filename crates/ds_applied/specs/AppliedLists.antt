@@ -44,7 +44,7 @@ Raised shard count a b = (k : ℕ) × ((k ≤ count) × (b ≡ record a { counts
 -- ---- one shard
 
 -- what a shard keeps: its entries, how many of them are applied, and how many writes of the next entry, which is begun where an
--- application ended for want of memory; `spare` entries can be put behind its own without memory
+-- application ended when out of memory; `spare` entries can be put behind its own without memory
 pub record AppliedShard : Type 0 where
   pub entries : List Entry
   pub applied : ℕ

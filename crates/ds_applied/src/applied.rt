@@ -43,7 +43,7 @@ impl Model for Applied {
 }
 
 impl Applied {
-    /// Shards without entries, 1 to 16 of them. A refusal is want of memory.
+    /// Shards without entries, 1 to 16 of them. A refusal means out of memory.
     pub fn make(alloc: Global, shards: u32) -> Result<Applied, NoMemory>
         requires least { 1 ≤ shards }
         requires most { shards ≤ most_shards }
@@ -79,7 +79,7 @@ impl Applied {
     }
 
     /// Looks at the journal's commits that were not looked at yet, each once, and puts each one's entries behind those of their
-    /// shards; what is applied stays. A refusal, which is want of memory, leaves some commits looked at, each with all its entries.
+    /// shards; what is applied stays. A refusal, which means out of memory, leaves some commits looked at, each with all its entries.
     pub fn pull(&mut self, alloc: Global, journal: &[Commit]) -> Result<(), NoMemory>
         requires { Follows journal.now self.old }
         ensures ok { OnOk result (self.new.commits ≡ length journal.now) }
@@ -121,7 +121,7 @@ impl Applied {
         self.shards[shard as usize].applied() as u64
     }
 
-    /// How many entries of each shard are applied, shard 0 first. A refusal is want of memory.
+    /// How many entries of each shard are applied, shard 0 first. A refusal means out of memory.
     pub fn counts(&self, alloc: Global) -> Result<Counts, NoMemory>
         ensures value { IfOk result (λ counts. counts ≡ self.now.counts) }
         ensures within { IfOk result (λ counts. AreCounts self.now.lists counts) }
@@ -172,7 +172,7 @@ impl Applied {
         place
     }
 
-    /// Applies the next entry of a shard. A refusal, which is want of memory, applies none. It takes time by the entry's writes and
+    /// Applies the next entry of a shard. A refusal, which means out of memory, applies none. It takes time by the entry's writes and
     /// the logarithm of the shard's entities.
     pub fn apply_one(&mut self, alloc: Global, shard: u32) -> Result<(), NoMemory>
         requires shard { shard < self.old.shards }
@@ -185,7 +185,7 @@ impl Applied {
         self.shards[shard as usize].apply_one(alloc)
     }
 
-    /// Applies a shard's entries up to a count, where fewer are applied. A refusal, which is want of memory, leaves some of them
+    /// Applies a shard's entries up to a count, where fewer are applied. A refusal, which means out of memory, leaves some of them
     /// applied.
     pub fn apply_up_to(&mut self, alloc: Global, shard: u32, count: u64) -> Result<(), NoMemory>
         requires shard { shard < self.old.shards }
@@ -200,7 +200,7 @@ impl Applied {
     }
 
     /// The entities that a shard's first `count` entries leave: those that are kept, where so many are applied, else rebuilt. A
-    /// refusal is want of memory.
+    /// refusal means out of memory.
     pub fn visible(&self, alloc: Global, shard: u32, count: u64) -> Result<Visible<'_>, NoMemory>
         requires shard { shard < self.now.shards }
         requires count { count ≤ length (list_of self.now.lists shard) }
@@ -209,7 +209,7 @@ impl Applied {
         self.shards[shard as usize].visible(alloc, count as usize)
     }
 
-    /// The entities of all shards at a count for each, shard 0 first. A refusal is want of memory.
+    /// The entities of all shards at a count for each, shard 0 first. A refusal means out of memory.
     pub fn all_visible(&self, alloc: Global, counts: &[u64]) -> Result<AllVisible<'_>, NoMemory>
         requires { AreCounts self.now.lists counts.now }
         ensures { IfOk result (λ v. v ≡ shard_views self.now.lists counts.now) }

@@ -59,7 +59,7 @@ impl EntityMap {
         self.by_key.len()
     }
 
-    /// Puts a reference to each entity at the end, in the order of the keys. A refusal, which is want of memory, leaves some of them there.
+    /// Puts a reference to each entity at the end, in the order of the keys. A refusal, which is lack of memory, leaves some of them there.
     pub fn put_all<'a>(&'a self, entities: &mut Vec<&'a Entity>) -> Result<(), NoMemory>
         ensures { OnOk result (map (λ e. e.now) entities.new.items ≡ map (λ e. e.now) entities.old.items ++ self.now) }
     {
@@ -85,7 +85,7 @@ impl EntityMap {
         }
     }
 
-    /// Applies writes in turn. A refusal, which is want of memory, leaves some of them applied.
+    /// Applies writes in turn. A refusal, which means out of memory, leaves some of them applied.
     pub fn apply_all(&mut self, alloc: Global, writes: &[Write]) -> Result<(), NoMemory>
         ensures { OnOk result ((es : List EntityParts) → self.old ≡ sorted_by_key es
             → self.new ≡ sorted_by_key (fold apply_write es writes.now)) }
@@ -96,7 +96,7 @@ impl EntityMap {
         Ok(())
     }
 
-    /// The entities that entries leave, applied in turn from no entity. A refusal is want of memory.
+    /// The entities that entries leave, applied in turn from no entity. A refusal means out of memory.
     pub fn rebuilt(alloc: Global, entries: &[Entry]) -> Result<EntityMap, NoMemory>
         ensures { IfOk result (λ m. m ≡ sorted_by_key (after (entry_writes entries.now))) }
     {

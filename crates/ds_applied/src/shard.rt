@@ -85,7 +85,7 @@ impl Shard {
         self.entries.push(entry).unwrap();
     }
 
-    /// Applies the next entry, write by write. After a refusal, which is want of memory, the entry isn't applied, and the next call
+    /// Applies the next entry, write by write. After a refusal, which means out of memory, the entry isn't applied, and the next call
     /// goes on with the writes that are left.
     pub(crate) fn apply_one(&mut self, alloc: Global) -> Result<(), NoMemory>
         requires { self.old.applied < length self.old.entries }
@@ -157,7 +157,7 @@ impl Shard {
     }
 
     /// The entities that the first `count` entries leave: those that are kept, where so many are applied, else rebuilt. A refusal is
-    /// want of memory.
+    /// lack of memory.
     pub(crate) fn visible(&self, alloc: Global, count: usize) -> Result<Visible<'_>, NoMemory>
         requires { count ≤ length self.now.entries }
         ensures { IfOk result (λ v. v ≡ left_by self.now.entries count) }

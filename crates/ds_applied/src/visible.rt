@@ -49,7 +49,7 @@ impl<'a> Visible<'a> {
         }
     }
 
-    /// The entities that entries leave, rebuilt from them. A refusal is want of memory.
+    /// The entities that entries leave, rebuilt from them. A refusal means out of memory.
     pub(crate) fn rebuilt(alloc: Global, entries: &[Entry]) -> Result<Visible<'a>, NoMemory>
         ensures { IfOk result (λ v. v ≡ left_by entries.now (length entries.now)) }
     {
@@ -74,7 +74,7 @@ impl<'a> Visible<'a> {
         self.map().get(key)
     }
 
-    /// The entities by key, as references. A refusal is want of memory.
+    /// The entities by key, as references. A refusal means out of memory.
     pub fn entities(&self, alloc: Global) -> Result<Vec<&Entity>, NoMemory>
         ensures { IfOk result (λ es. map (λ e. e.now) es.items ≡ self.now) }
     {
@@ -110,7 +110,7 @@ impl<'a> AllVisible<'a> {
     }
 
     /// The entities by key, as references; shards have no key in common, so their order is the only one. n entities take the time
-    /// n log n, and ascending runs are kept and merged. A refusal is want of memory.
+    /// n log n, and ascending runs are kept and merged. A refusal means out of memory.
     pub fn entities(&self, alloc: Global) -> Result<Vec<&Entity>, NoMemory>
         ensures { KeysDiffer self.now → IfOk result (λ es. map (λ e. e.now) es.items ≡ sorted_by_key self.now) }
     {

@@ -34,7 +34,7 @@ pub fn asked_of_input(
     Ok(rounds)
 }
 
-/// The next round; `None` exactly where the input has ended and no line is left. A refusal counts as want of memory.
+/// The next round; `None` exactly where the input has ended and no line is left. A refusal counts as out of memory.
 fn next_round(reader: &mut Rounds, source: &mut MemorySource) -> Result<Option<Round>, NoMemory>
     ensures reads { IfOk result (λ found. ReadsRound reader.old reader.new (Some source.old.left) (Some source.new.left) (Ok found)) }
     ensures round { IfOk result (λ found. IfSome found IsRound) }

@@ -27,7 +27,7 @@ pub struct Asked {
 }
 
 /// What the lines of a round ask, one list for each client from 0 on, each in the order of the lines. Every line is read once, and
-/// its bytes are freed with those of its chunk. A refusal is want of memory: whose line it was isn't known then.
+/// its bytes are freed with those of its chunk. A refusal means out of memory: whose line it was isn't known then.
 pub fn asked_by_client(
     alloc: Global,
     shards: u32,
@@ -49,7 +49,7 @@ pub fn asked_by_client(
 }
 
 /// Puts what the lines of a chunk ask, the first of which has this number, behind what their clients ask already. A refusal is
-/// want of memory.
+/// lack of memory.
 fn ask_chunk(
     alloc: Global,
     shards: u32,
@@ -82,7 +82,7 @@ fn empty_lists(alloc: Global) -> Result<Vec<Sequence<Asked>>, AllocError>
     Ok(lists)
 }
 
-/// Puts what a line asks behind what its client asks already. A refusal is want of memory.
+/// Puts what a line asks behind what its client asks already. A refusal means out of memory.
 fn put(lists: &mut Vec<Sequence<Asked>>, asked: Asked) -> Result<(), AllocError>
     requires { asked.client < vec_len lists.old }
     ensures { OnOk result (lists.new.items ≡ with_asked lists.old.items asked.client asked) }
@@ -93,7 +93,7 @@ fn put(lists: &mut Vec<Sequence<Asked>>, asked: Asked) -> Result<(), AllocError>
     }
 }
 
-/// What one line asks. A refusal is want of memory.
+/// What one line asks. A refusal means out of memory.
 pub fn asked_line(
     alloc: Global,
     shards: u32,

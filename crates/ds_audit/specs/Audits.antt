@@ -59,7 +59,7 @@ AreGiven content (Some name) definitions = (text : List ℕ) × IsOwn (content n
 
 -- ---- why no verdict is found
 
--- want of memory alone is free
+-- lack of memory alone is free
 abbrev pub IsUnloaded : ℕ → ℕ → AuditStatus → Type 0
 IsUnloaded before after status.FileFault = Rose before after
 IsUnloaded before after status.NoMemory = ⊤

@@ -17,7 +17,7 @@ use std::alloc::Global;
 /// `Usage`: exactly where the words leave their form. `FileFault`: only where the count of faults of the named files rose. `Journal`: at
 /// the first line of the journal's text that isn't the text of a commit with the next number. `IndexFile`: at the line where the index
 /// file leaves its form. `Legal` and `NotLegal`: the verdict's line was written whole. `WriteFault`: only where the output's count of
-/// faults rose. `NoMemory`: want of memory, where the words have their form. They are looked for in this order: words, files, text of the
+/// faults rose. `NoMemory`: lack of memory, where the words have their form. They are looked for in this order: words, files, text of the
 /// journal, index file, verdict.
 pub fn audit<F: Files, O: Sink>(
     alloc: Global,

@@ -32,7 +32,7 @@ pub(crate) struct Texts {
     pub(crate) journal: ByteString,
 }
 
-/// Reads the words. `Usage`: exactly where they leave their form; `NoMemory` is want of memory, where they are in it.
+/// Reads the words. `Usage`: exactly where they leave their form; `NoMemory` means out of memory, where they are in it.
 pub(crate) fn names_in(alloc: Global, words: &[String]) -> Result<Names<'_>, WordsRefused>
     ensures read { IfOk result (λ names. asked_by (map string_bytes words.now) ≡ Some (names_asked names)) }
     ensures shards { IfOk result (λ names. (1 ≤ names.options.shards) × (names.options.shards ≤ most_shards)) }

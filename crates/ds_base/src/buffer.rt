@@ -39,7 +39,7 @@ impl Buffer {
         self.bytes.as_slice()
     }
 
-    /// Puts `piece` at the end. It is refused for want of memory alone, which leaves the bytes as they were and takes
+    /// Puts `piece` at the end. It is refused only when out of memory, which leaves the bytes as they were and takes
     /// no room, and is never refused where the room suffices.
     pub fn append(&mut self, piece: &[u8]) -> Result<(), AllocError>
         ensures ok { OnOk result (self.new.bytes ≡ self.old.bytes ++ piece.now) }

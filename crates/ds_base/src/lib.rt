@@ -4,7 +4,7 @@
 //! cite are in `specs/`: `Limits` (each number once), `Keys` (what a key is, reserved names), `KeyOrder` and
 //! `IndexOrder` (how keys and index values compare, what lies under a key), `KeyColumn` (the column of keys), `KeyHash`
 //! (what hashing a key feeds), `Values` (index values, and which values no entity may have), `Buffers`, and for the crates
-//! above `Memory` (want of memory alone is free), `Bytes`, `Least` and `Sorting` (putting a list in order). What is proved of
+//! above `Memory` (lack of memory alone is free), `Bytes`, `Least` and `Sorting` (putting a list in order). What is proved of
 //! them stands apart, in the files whose names end in `Laws`.
 #![tactic(auto)]
 

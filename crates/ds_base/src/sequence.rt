@@ -87,7 +87,7 @@ impl<T> Sequence<T> {
 }
 
 impl<T: Drop> Sequence<T> {
-    /// The list of one item, with room for it alone. A refusal is want of memory.
+    /// The list of one item, with room for it alone. A refusal means out of memory.
     pub fn of_one(alloc: Global, item: T) -> Result<Self, AllocError>
         ensures { IfOk result (λ list. list ≡ item ∷ []) }
     {

@@ -28,7 +28,7 @@ use std::sync::ledger::Ledger;
 ///
 /// It needs the definitions of the tables, a plan that suits the branch under them, and a stamp that the tables keep. Where no scan of the
 /// plan is one too many it takes at most `bound` steps, which speaks of no row above the last one given where as many are given as were
-/// asked for; each row given took a step, and where none is asked for no step is taken. Refused: want of memory; it may then have looked
+/// asked for; each row given took a step, and where none is asked for no step is taken. Refused: lack of memory; it may then have looked
 /// at all rows up to the end.
 ///
 /// Whoever asks several shards plans the branch once, by `ds_planner::plan`, and calls this for each of them with that plan.

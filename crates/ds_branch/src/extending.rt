@@ -10,7 +10,7 @@ use ds_query::{Branch, Row, RowList};
 use std::alloc::Global;
 
 /// The rows of a branch in the merged columns, in the same order, each with its place there: where a column is none of the branch's it
-/// has the least value that the branch asks of the property. The rows are moved. A refusal is want of memory.
+/// has the least value that the branch asks of the property. The rows are moved. A refusal means out of memory.
 pub fn extended(
     alloc: Global,
     merged: &Columns,

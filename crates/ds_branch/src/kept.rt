@@ -54,7 +54,7 @@ pub(crate) struct KeptRows {
 
 impl KeptRows {
     /// No row yet, of rows of these columns with these names projected, of which the first so many aren't asked for, and whose places are
-    /// kept or aren't. Refused: want of memory.
+    /// kept or aren't. Refused: lack of memory.
     pub(crate) fn new(
         alloc: Global,
         columns: &[Column],
@@ -103,7 +103,7 @@ impl KeptRows {
         }
     }
 
-    /// Takes the row whose place it is, where all are taken or no row of its mark was. Refused: want of memory.
+    /// Takes the row whose place it is, where all are taken or no row of its mark was. Refused: lack of memory.
     pub(crate) fn put(&mut self, columns: &[Column], place: &[u8]) -> Result<(), NoMemory>
         requires row { IsRowOf columns.now place.now }
         ensures rows { (rows : List Row) (r : IsRowOf columns.now place.now) → AreKept columns.now self.old rows → OnOk result

@@ -22,7 +22,7 @@ impl Model for KeyBytes {
 }
 
 impl KeyBytes {
-    /// A copy of these bytes. Refused: want of memory.
+    /// A copy of these bytes. Refused: lack of memory.
     pub(crate) fn of(alloc: Global, bytes: &[u8]) -> Result<KeyBytes, NoMemory>
         ensures { IfOk result (λ k. k ≡ bytes.now) }
     {

@@ -15,7 +15,7 @@ pub type Merged = RowPage;
 ///
 /// A result is a key, and where names are projected the key with the values of these columns. The rows are moved. Lists that are in the
 /// order of the merged columns take time in the rows times the logarithm of the lists: the sort keeps ascending runs and merges them.
-/// Lists in no order are put in order. A refusal is want of memory.
+/// Lists in no order are put in order. A refusal means out of memory.
 pub fn merge(
     alloc: Global,
     lists: RowLists,

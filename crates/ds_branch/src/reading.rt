@@ -16,7 +16,7 @@ use ds_bytes::{decode, decode_key};
 use ds_query::{Place, Row};
 use std::alloc::Global;
 
-/// The row whose place it is: a value for each column other than `__key__`, and the key. Refused: want of memory.
+/// The row whose place it is: a value for each column other than `__key__`, and the key. Refused: lack of memory.
 pub fn row_of(alloc: Global, columns: &[Column], place: &[u8]) -> Result<Row, NoMemory>
     requires { IsRowOf columns.now place.now }
     ensures { IfOk result (λ row. (r : IsRowOf columns.now place.now) → row ≡ placed columns.now r.row) }
@@ -36,7 +36,7 @@ pub(crate) fn room_for_values(
     Vec::with_capacity(alloc, columns.len().saturating_sub(1))
 }
 
-/// Reads the values of the row whose place it is, and gives the bytes of its key, which stand behind them. Refused: want of memory.
+/// Reads the values of the row whose place it is, and gives the bytes of its key, which stand behind them. Refused: lack of memory.
 pub(crate) fn key_bytes<'a>(
     alloc: Global,
     columns: &[Column],
@@ -56,7 +56,7 @@ pub(crate) fn key_bytes<'a>(
     Ok(rest)
 }
 
-/// The row of these values whose key stands in these bytes. Refused: want of memory.
+/// The row of these values whose key stands in these bytes. Refused: lack of memory.
 pub(crate) fn row_from(
     alloc: Global,
     columns: &[Column],

@@ -24,7 +24,7 @@ use ds_base::{Buffer, Elem, Ident, IndexValue, Key, NoMemory, TextString};
 
 /// Puts the encoding of a value at the end of `onto`: its class as one byte, and then what tells it from other values of the
 /// class, so that the order of the bytes is that of the values. Where `descending` is true each byte is taken from 255, which
-/// turns the order round. A refusal is want of memory; it leaves the bytes of `onto` as they were, and never comes where the
+/// turns the order round. A refusal means out of memory; it leaves the bytes of `onto` as they were, and never comes where the
 /// room suffices. One pass.
 pub fn encode(value: &IndexValue, descending: bool, onto: &mut Buffer) -> Result<(), NoMemory>
     ensures ok { OnOk result (onto.new.bytes ≡ onto.old.bytes ++ encoding descending value.now) }

@@ -15,7 +15,7 @@ pub(crate) enum Step {
     Ask(Asked),
 }
 
-/// The steps of rounds, in the order of their replies. A refusal is want of memory.
+/// The steps of rounds, in the order of their replies. A refusal means out of memory.
 pub(crate) fn steps_of(
     alloc: Global,
     rounds: Vec<Sequence<Sequence<Asked>>>,

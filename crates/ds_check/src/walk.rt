@@ -14,7 +14,7 @@ use ds_told::{Draws, Told};
 use std::alloc::Global;
 
 /// The number of the first line whose reply is wrong; none where all are answers, and then what they tell is noted. There is a reply for
-/// each line. A refusal is want of memory.
+/// each line. A refusal means out of memory.
 pub(crate) fn wrong_reply(
     alloc: Global,
     run: &Run<'_>,
@@ -41,7 +41,7 @@ pub(crate) fn wrong_reply(
 }
 
 /// Takes one step behind those that so many replies answered. It gives how many replies are answers now; or the number of the line whose
-/// reply is wrong. A refusal is want of memory.
+/// reply is wrong. A refusal means out of memory.
 fn take_step(
     alloc: Global,
     run: &Run<'_>,
@@ -83,7 +83,7 @@ fn take_step(
 }
 
 /// Whether the reply to what was asked is an answer. Then its client's session is the one behind it, and what it tells is noted.
-/// A refusal is want of memory.
+/// A refusal means out of memory.
 fn is_answered(
     alloc: Global,
     run: &Run<'_>,

@@ -40,7 +40,7 @@ pub(crate) struct Client<J: Names> {
     pub(crate) own: Vec<Asked>,
 }
 
-/// What each client has seen at first. A refusal is want of memory.
+/// What each client has seen at first. A refusal means out of memory.
 pub(crate) fn first_marks(alloc: Global, shards: u32) -> Result<Vec<Watermark>, NoMemory>
     ensures { IfOk result (λ seen. seen.items ≡ first_sessions shards) }
 {
@@ -141,7 +141,7 @@ pub(crate) struct Greatest {
 }
 
 /// Gives each client what its lines ask, makes room for a reply to each line that there was no memory, and finds the greatest that any
-/// client has seen. A refusal is want of memory.
+/// client has seen. A refusal means out of memory.
 fn prepare<J: Names>(
     alloc: Global,
     shards: u32,
@@ -162,7 +162,7 @@ fn prepare<J: Names>(
     Ok(Greatest { seen, counts })
 }
 
-/// Makes room for a reply to each line that there was no memory. A refusal is want of memory.
+/// Makes room for a reply to each line that there was no memory. A refusal means out of memory.
 fn make_rooms<J: Names>(clients: &mut [Client<J>]) -> Result<(), NoMemory>
     ensures same { EachOf (λ c d. (d.session ≡ record c.session { room = d.session.room })
         × (d.own.items ≡ c.own.items)) clients.old clients.new }
@@ -174,7 +174,7 @@ fn make_rooms<J: Names>(clients: &mut [Client<J>]) -> Result<(), NoMemory>
     Ok(())
 }
 
-/// The greatest place, counts and id counter that any client has seen. A refusal is want of memory.
+/// The greatest place, counts and id counter that any client has seen. A refusal means out of memory.
 fn greatest_seen<J: Names>(
     alloc: Global,
     shards: u32,
@@ -290,7 +290,7 @@ impl<J: Names> Client<J> {
         self.own = own;
     }
 
-    /// Makes room for a reply to each line that there was no memory. A refusal is want of memory.
+    /// Makes room for a reply to each line that there was no memory. A refusal means out of memory.
     fn make_room(&mut self) -> Result<(), NoMemory>
         ensures same { self.new.session ≡ record self.old.session { room = self.new.session.room } }
         ensures own { self.new.own.items ≡ self.old.own.items }

@@ -17,7 +17,7 @@ use std::sync::Wait;
 
 impl<J: Names> Sessions<J> {
     /// New sessions begin behind a place and an id counter: each client has seen both, and of each shard nothing that it counts, and so has
-    /// its pass. A refusal is want of memory, and leaves the sessions as they were.
+    /// its pass. A refusal means out of memory, and leaves the sessions as they were.
     pub fn begin_behind<R: Wait, H: Wait + Drop>(
         &mut self,
         rt: &R,

@@ -24,7 +24,7 @@ impl<J: Names> Sessions<J> {
 
     /// The sessions over another store: each takes the last of its passes that is left, all of which have done nothing and have seen no
     /// less than the pass that the session had. Open transactions go on. The passes that they had are put behind `old`, which has room for
-    /// them. A refusal is want of memory, changes neither list, and hands the sessions back.
+    /// them. A refusal means out of memory, changes neither list, and hands the sessions back.
     pub fn moved<K: Names>(
         self,
         passes: &mut Vec<Pass<K>>,

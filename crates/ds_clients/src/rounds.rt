@@ -44,7 +44,7 @@ impl<J: Names> Model for Sessions<J> {
 
 impl<J: Names> Sessions<J> {
     /// A session for each client, which has seen nothing. They take the last sixteen of these passes, and leave the others, with the room
-    /// that the passes had. A refusal is want of memory, and leaves all passes.
+    /// that the passes had. A refusal means out of memory, and leaves all passes.
     pub fn make(
         alloc: Global,
         shards: u32,
@@ -83,7 +83,7 @@ impl<J: Names> Sessions<J> {
 /// Runs a round: the sessions meet, so that each client has seen all that any reply of an earlier round showed; then each client's lines
 /// are answered in their order, the clients at once, each in a thread of its own where two or more have lines. The gate is called around
 /// each answer. The store is that of the sessions' passes, the definitions are the store's, and no reply is left from an earlier round. A
-/// refusal is want of memory, and comes before any line is answered.
+/// refusal means out of memory, and comes before any line is answered.
 pub fn run_round<
     J: Names + Send + Sync,
     R: Threads + Wait + Sync,

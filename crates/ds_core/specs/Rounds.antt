@@ -22,7 +22,7 @@ AreAnswered w sessions (r ∷ requests) (reply ∷ replies) after =
     × AreAnswered w (slice_set sessions r.client then) requests replies after
 AreAnswered w sessions _ _ after = ⊥
 
--- the replies carry the clients of their requests, and the numbers from one on as their lines; none tells of want of memory
+-- the replies carry the clients of their requests, and the numbers from one on as their lines; none tells of lack of memory
 abbrev pub AreNumbered : ℕ → List Request → List Reply → Type 0
 AreNumbered n [] [] = Unit {0}
 AreNumbered n (r ∷ requests) (reply ∷ replies) =

@@ -9,7 +9,7 @@ use ds_base::limits::MAX_CLIENT;
 use ds_effects::Session;
 use std::alloc::Global;
 
-/// One session for each client, who has seen nothing. A refusal is want of memory.
+/// One session for each client, who has seen nothing. A refusal means out of memory.
 pub(crate) fn first_sessions(alloc: Global, shards: u32) -> Result<Vec<Session>, NoMemory>
     ensures { IfOk result (λ sessions. sessions.items ≡ first_sessions shards) }
 {
@@ -21,7 +21,7 @@ pub(crate) fn first_sessions(alloc: Global, shards: u32) -> Result<Vec<Session>,
     Ok(sessions)
 }
 
-/// No client has a request open. A refusal is want of memory.
+/// No client has a request open. A refusal means out of memory.
 pub(crate) fn none_open(alloc: Global) -> Result<Vec<Option<Open>>, NoMemory>
     ensures { IfOk result (λ opens. opens.items ≡ replicate (greatest_client + 1) None) }
 {

@@ -12,7 +12,7 @@ pub(crate) fn set<T: Drop>(place: &mut T, item: T)
     *place = item;
 }
 
-/// Puts an item behind the others. A refusal is want of memory.
+/// Puts an item behind the others. A refusal means out of memory.
 pub(crate) fn put<T: Drop>(list: &mut Sequence<T>, item: T) -> Result<(), NoMemory>
     ensures { OnOk result (list.new ≡ list.old ++ item ∷ []) }
 {

@@ -34,7 +34,7 @@ pub(crate) struct Machine {
 }
 
 impl Machine {
-    /// Nothing committed, nothing seen, nothing asked. A refusal is want of memory.
+    /// Nothing committed, nothing seen, nothing asked. A refusal means out of memory.
     pub(crate) fn make(alloc: Global, shards: u32, defs: Defs) -> Result<Machine, NoMemory>
         requires least { 1 ≤ shards }
         requires most { shards ≤ most_shards }
@@ -278,7 +278,7 @@ impl Machine {
         }
     }
 
-    /// Takes effect. A refusal is want of memory.
+    /// Takes effect. A refusal means out of memory.
     fn perform(&mut self, alloc: Global, client: u32, effect: Effect) -> Result<(), NoMemory>
         requires client { client < length self.old.sessions.items }
         requires allowed { IsAllowed effect self.old.state (session_in (parts self.old) client) }

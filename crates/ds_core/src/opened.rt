@@ -57,7 +57,7 @@ fn session_at(sessions: &Vec<Session>, client: u32) -> &Session
     &sessions[client as usize]
 }
 
-/// Opens a request that has gathered nothing. A refusal is want of memory.
+/// Opens a request that has gathered nothing. A refusal means out of memory.
 pub(crate) fn open_request(
     alloc: Global,
     opened: &mut Option<Open>,

@@ -14,7 +14,7 @@ use std::alloc::Global;
 
 /// Runs the machine over these events, one after another, and then takes the missing steps of the requests that are still open, client by
 /// client, and before each View the Apply steps that it waits for. What was asked and said is one legal round, whose commits are one serial
-/// history. `Err` is want of memory.
+/// history. `Err` means out of memory.
 pub fn run(alloc: Global, events: Events, shards: u32, defs: Defs) -> Result<Transcript, NoMemory>
     requires least { 1 ≤ shards }
     requires most { shards ≤ most_shards }

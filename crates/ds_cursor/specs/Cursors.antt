@@ -96,7 +96,7 @@ PartsAre q (Some parts) result = OfBranch (is_of_branch q parts) q.columns parts
 abbrev pub CursorIs : Branch → List ℕ → Result (Option Place) CursorRefused → Type 0
 CursorIs q text result = PartsAre q (parts_of text) result
 
--- why the text is no cursor, but for want of memory
+-- why the text is no cursor, except when out of memory
 abbrev pub cursor_fault : CursorRefused → Option CursorRefused
 cursor_fault refused.BadCursor = Some refused.BadCursor
 cursor_fault refused.CursorMismatch = Some refused.CursorMismatch

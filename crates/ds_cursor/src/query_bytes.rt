@@ -39,7 +39,7 @@ const PROJECTION: u8 = 0x02;
 trait Put {
     ghost bytes: { Self → List ℕ };
 
-    /// Puts them at the end. A refusal is want of memory.
+    /// Puts them at the end. A refusal means out of memory.
     fn put(&self, onto: &mut Buffer) -> Result<(), NoMemory>
         ensures { OnOk result (onto.new.bytes ≡ onto.old.bytes ++ bytes self.now) };
 }
@@ -93,7 +93,7 @@ pub(crate) fn version_of(branch: &Branch) -> u8
     }
 }
 
-/// Puts the query bytes of the branch at the end. A refusal is want of memory.
+/// Puts the query bytes of the branch at the end. A refusal means out of memory.
 pub(crate) fn put_query(branch: &Branch, onto: &mut Buffer) -> Result<(), NoMemory>
     ensures { OnOk result (onto.new.bytes ≡ onto.old.bytes ++ query_bytes branch.now) }
 {

@@ -34,7 +34,7 @@ impl<'a> Model for Parts<'a> {
 
 /// The place that a text stands for as a cursor of the branch; none is the place before the first row. `BadCursor` where the
 /// text is no cursor of any query, or its place is none in rows of the branch's columns; `CursorMismatch` where it is a cursor
-/// of another query, whatever its place; `NoMemory` for want of memory alone. The query bytes are compared where they stand.
+/// of another query, whatever its place; `NoMemory` only when out of memory. The query bytes are compared where they stand.
 pub fn read(alloc: Global, branch: &Branch, text: &str) -> Result<Option<Place>, CursorRefused>
     ensures { UnlessNoMemory cursor_fault (CursorIs branch.now text.now) result }
 {

@@ -9,7 +9,7 @@ use ds_bytes::{decode, decode_key};
 use std::alloc::Global;
 
 /// Whether the bytes are one row of the columns, each in its direction, and nothing behind it: a value for each column other
-/// than `__key__`, and then a key, which ascends where no column is `__key__`. A refusal is want of memory. One pass.
+/// than `__key__`, and then a key, which ascends where no column is `__key__`. A refusal means out of memory. One pass.
 pub(crate) fn is_row_of(alloc: Global, columns: &Columns, bytes: &[u8]) -> Result<bool, NoMemory>
     ensures { IfOk result (λ row. IsTrue row ↔ IsRowOf columns.now bytes.now) }
 {

@@ -26,7 +26,7 @@ const HEAD: usize = 5;
 
 /// The cursor of a place in the branch's rows, none being the place before the first row: in base64 with padding the version,
 /// the number of query bytes, the query bytes, and the place. It is read as the same place under the branch, and is a cursor
-/// of another query under each branch with other query bytes. A refusal is want of memory, and comes for each branch with
+/// of another query under each branch with other query bytes. A refusal means out of memory, and comes for each branch with
 /// 2^32 or more query bytes.
 pub fn write(alloc: Global, branch: &Branch, place: Option<&Place>) -> Result<TextString, NoMemory>
     ensures text { IfOk result (λ t. t ≡ cursor_text branch.now (option_copied place.entry)) }

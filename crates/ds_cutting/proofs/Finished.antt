@@ -50,7 +50,7 @@ limit_cut words file n content left rest old new run = by run.journal where
 
 -- ---- no fault and no limit
 
--- a run that began ends well, for want of memory, or for too many rows
+-- a run that began ends well, when out of memory, or for too many rows
 pub finished : (how : CutStatus) (left rest : Option (List ℕ)) (in_old in_new out_old out_new : ℕ) → HasBegunCut how
     → (how ≡ cut.Served status.InputLimit → HasTaken most_input_bytes left rest) → in_new ≡ cut_read_faults how in_old
     → out_new ≡ cut_write_faults how out_old → IsBelow most_input_bytes left → IsSteady in_old in_new → IsSteady out_old out_new
@@ -75,7 +75,7 @@ module _ (content : List ℕ → Option (List ℕ)) (before after : List ℕ →
       → indexes_named w.words ≡ Some name → IsFine (Some name) content before after
   fine_named w name fine named = subst (λ (o : Option (List ℕ)). IsFine o content before after) named fine
 
-  -- where all is fine, a run isn't set up for want of memory alone
+  -- where all is fine, a run fails to be set up only when out of memory
   unset_fine : (w : CutWordsParts) (how : CutStatus) → IsUnsetBy w content before after how → IsSome (options_of w.words)
       → AreFine w content before after → IsFinished how
   unset_fine w (cut.Served status.Usage) why some fine = none_some (options_of w.words) some why where

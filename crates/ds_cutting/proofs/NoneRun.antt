@@ -81,14 +81,14 @@ module _ (words : List (List ℕ)) (file : List ℕ) (n : ℕ) (content : List �
         too_many = many;
       }))))
 
-  -- for want of memory
+  -- when out of memory
   pub none_for_memory : (run : CutRun) → run.status ≡ cut.Served status.NoMemory → run.cut ≡ None → run.journal ≡ Some [] → run.unsent ≡ []
       → IfSome run.journal (λ journal. IsLegalCutRun words file n content run.status run.cut left left journal held held run.unsent)
   none_for_memory run no_memory none empty all_sent =
       ends_at_once (cut.Served status.NoMemory) run (inl (rounds_in false 1 [], refl, inr (refl, omega arith))) (inl refl) (omega arith) tt
       no_memory none empty all_sent
 
--- a run that ran no round, for want of memory
+-- a run that ran no round, when out of memory
 pub nothing_ran : (setting : Setting) (second : List IndexDef) (n : ℕ) (left held : Option (List ℕ)) (reads writes : ℕ) (run : CutRun)
     → run.status ≡ cut.Served status.NoMemory → run.cut ≡ None → run.journal ≡ Some [] → run.unsent ≡ []
     → IsCutRunOf setting second n left left held held reads reads writes writes run

@@ -33,7 +33,7 @@ abbrev pub WereFirst : ℕ → Bool → List ℕ → List (List NumberedLine) �
 WereFirst n ended read rounds =
     (length rounds ≡ n) × ((behind : List (List NumberedLine)) × AreFirst rounds behind (rounds_in ended 1 read))
 
--- The rounds that were run: by the status of the server as there. Where a run ends at the cut, for too many rows or for want of memory, they
+-- The rounds that were run: by the status of the server as there. Where a run ends at the cut, for too many rows or when out of memory, they
 -- are the first n rounds, and there was no cut.
 abbrev pub WereRunCut : CutStatus → Option ℕ → ℕ → Bool → List ℕ → List (List NumberedLine) → Type 0
 WereRunCut (cut.Served how) cut_at n ended read rounds =
@@ -48,7 +48,7 @@ IsCut (cut.NextFile line) n many = ⊥
 IsCut (cut.TooManyRows commit count) n many = ⊥
 
 -- How many rounds were run where there was none: fewer than n, or n where the last one's replies weren't all taken, or where the run ends at
--- the cut, for too many rows or for want of memory.
+-- the cut, for too many rows or when out of memory.
 abbrev pub IsUncut : CutStatus → ℕ → ℕ → Type 0
 IsUncut (cut.Served status.NoMemory) n many = many ≤ n
 IsUncut (cut.Served how) n many = StoppedWithin how n many

@@ -39,7 +39,7 @@ pub struct CutRun {
     pub status: CutStatus,
     /// How many commits there were behind the last round before the cut; none where there was no cut.
     pub cut: Option<u64>,
-    /// The commits. They are there with every status but want of memory.
+    /// The commits. They are there with every status but lack of memory.
     pub journal: Option<Journal>,
     /// The replies' bytes that were not taken; none unless a write failed.
     pub unsent: Unsent,

@@ -26,7 +26,7 @@ pub struct MemoryDisk {
     room: u64,
     stop: u64,
     faults: u64,
-    // Whether the last call was refused for want of memory.
+    // Whether the last call was refused when out of memory.
     lacks: bool,
 }
 

@@ -30,7 +30,7 @@ pub struct Drawn {
     pub seats: Seats,
 }
 
-/// A word that stands at `first`, with so many seats, which have drawn nothing. `Err` is want of memory.
+/// A word that stands at `first`, with so many seats, which have drawn nothing. `Err` means out of memory.
 pub fn make(alloc: Global, first: u64, seats: u32) -> Result<Drawn, AllocError>
     requires seats { 0 < seats }
     requires first { first < 2 ^ 63 }

@@ -72,7 +72,7 @@ impl Seats {
         self.items.get(i)
     }
 
-    /// Puts a seat at the end. `Err` is want of memory: it hands the seat back, and the list is as it was.
+    /// Puts a seat at the end. `Err` means out of memory: it hands the seat back, and the list is as it was.
     pub fn push(&mut self, item: Seat) -> Result<(), Seat>
         ensures { MatchResult result (λ _. self.new ≡ self.old ++ item ∷ []) (λ s. (s ≡ item) × (self.new ≡ self.old)) }
     {

@@ -13,7 +13,7 @@ pub struct KeptRun {
     pub status: KeptStatus,
     /// How many commits were kept at the start; 0 where the disk wasn't opened.
     pub start: u64,
-    /// The commits, the kept ones first. None where the disk wasn't opened, with `TooManyRows`, and only then or for want of memory.
+    /// The commits, the kept ones first. None where the disk wasn't opened, with `TooManyRows`, and only then or when out of memory.
     pub journal: Option<Journal>,
     /// The replies' bytes that were not taken. None unless a write failed, or a round was run whose commits could not be kept.
     pub unsent: Unsent,

@@ -61,7 +61,7 @@ use std::thread::Threads;
 /// - `Served`, with the other statuses: as the server does. `NoMemory` may come after a round too, as `DiskFault` does.
 ///
 /// `start` tells how many commits were kept at the start, 0 where the disk wasn't opened. There is no journal where it wasn't, nor with
-/// `TooManyRows`, and else only for want of memory; then nothing was read or written.
+/// `TooManyRows`, and else only when out of memory; then nothing was read or written.
 pub fn serve_kept<Rt: Threads + Wait + Sync, D: Disk, F: Files, I: Source, O: Sink, G: Gate + Sync>(
     rt: &Rt,
     alloc: Global,

@@ -74,7 +74,7 @@ impl Model for Gathered {
 }
 
 impl Gathered {
-    /// Nothing yet, of so many shards. A refusal is want of memory.
+    /// Nothing yet, of so many shards. A refusal means out of memory.
     pub fn nothing(alloc: Global, shards: u32) -> Result<Gathered, NoMemory>
         ensures { IfOk result (λ g. g ≡ record { place = None; first = None; applied = None; views = replicate shards None }) }
     {
@@ -169,7 +169,7 @@ impl Gathered {
         first_unviewed(self.views.as_slice())
     }
 
-    /// The viewed counts, as soon as each shard was viewed; `None` where a View is missing. A refusal is want of memory.
+    /// The viewed counts, as soon as each shard was viewed; `None` where a View is missing. A refusal means out of memory.
     pub fn counts(&self, alloc: Global) -> Result<Option<Counts>, NoMemory>
         ensures viewed { IfOk result (λ o. IfSome o (λ counts. map (λ n. Some n) counts ≡ self.now.views)) }
         ensures all { IfOk result (λ o. is_some o ≡ list_all is_some self.now.views) }
@@ -178,7 +178,7 @@ impl Gathered {
     }
 }
 
-/// The numbers, as soon as there is none missing. A refusal is want of memory.
+/// The numbers, as soon as there is none missing. A refusal means out of memory.
 fn all_viewed(alloc: Global, views: &[Option<u64>]) -> Result<Option<Counts>, NoMemory>
     ensures viewed { IfOk result (λ o. IfSome o (λ counts. map (λ n. Some n) counts ≡ views.now)) }
     ensures all { IfOk result (λ o. is_some o ≡ list_all is_some views.now) }

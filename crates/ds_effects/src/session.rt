@@ -111,7 +111,7 @@ impl Session {
         self.see_place(place);
     }
 
-    /// A group is read, and the transaction, if there is one, touches it. A refusal is want of memory and changes nothing.
+    /// A group is read, and the transaction, if there is one, touches it. A refusal means out of memory and changes nothing.
     pub fn read_group(&mut self, read: GroupRead) -> Result<(), NoMemory>
         requires { group_refusal self.old.transaction (Some read.group) ≡ None }
         ensures ok { OnOk result (self.new
@@ -152,7 +152,7 @@ impl Session {
             .see_count(seen.shard as usize, seen.count, seen.commit);
     }
 
-    /// The transaction touches a group and takes a write. A refusal is want of memory and changes nothing.
+    /// The transaction touches a group and takes a write. A refusal means out of memory and changes nothing.
     pub fn write(&mut self, group: Key, place: u64, write: Write) -> Result<(), NoMemory>
         requires { MayWrite self.old.transaction group }
         ensures ok { OnOk result (self.new

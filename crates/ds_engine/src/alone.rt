@@ -25,7 +25,7 @@ use std::alloc::Global;
 use std::sync::ledger::Ledger;
 
 /// The page of a branch's results in one shard: these come in their order, each once, so no row is compared with another one, and those
-/// before the offset are counted and not kept. A refusal is want of memory.
+/// before the offset are counted and not kept. A refusal means out of memory.
 pub(crate) fn page_alone<L: Ledger>(
     alloc: Global,
     snapshot: &ShardSnapshot<'_>,

@@ -35,7 +35,7 @@ pub enum GroupFound {
     },
 }
 
-/// What a query with an ancestor finds in a shard that is entered, at the stamp of so many entries. A refusal is want of memory, or that
+/// What a query with an ancestor finds in a shard that is entered, at the stamp of so many entries. A refusal means out of memory, or that
 /// the shard isn't entered.
 pub fn query_slot<L: Ledger>(
     alloc: Global,

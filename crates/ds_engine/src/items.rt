@@ -20,7 +20,7 @@ use std::alloc::Global;
 use std::sync::ledger::Ledger;
 
 /// What is selected of each row: its entity, which is looked up in the shard of its group by one step, its key alone, or the values of the
-/// projected columns. The keys are moved, and an entity shares its properties. A refusal is want of memory.
+/// projected columns. The keys are moved, and an entity shares its properties. A refusal means out of memory.
 pub(crate) fn items<L: Ledger>(
     alloc: Global,
     snapshots: &[ShardSnapshot<'_>],

@@ -27,7 +27,7 @@ use std::alloc::Global;
 use std::sync::ledger::Ledger;
 
 /// The page of a branch's results in shards. Each shard gives the places of its first results, as many as the page skips or takes; they are
-/// put in order, and the rows of the page alone are read. A refusal is want of memory.
+/// put in order, and the rows of the page alone are read. A refusal means out of memory.
 pub(crate) fn page_over_shards<L: Ledger>(
     alloc: Global,
     snapshots: &[ShardSnapshot<'_>],

@@ -19,7 +19,7 @@ use std::alloc::Global;
 use std::sync::ledger::Ledger;
 
 /// Puts what a shard gives of a query behind other rows: branch by branch its results, as many as a page may need, in the columns of the
-/// query, each with its place there. A refusal is want of memory.
+/// query, each with its place there. A refusal means out of memory.
 pub(crate) fn put_shard_rows<L: Ledger>(
     alloc: Global,
     snapshot: &ShardSnapshot<'_>,

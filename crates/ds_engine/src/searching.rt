@@ -38,7 +38,7 @@ pub struct Found {
 ///
 /// It needs the definitions of the shards and for each branch a plan that answers it and has no scan too many, as `plans_of` gives them.
 /// The steps are within the sum of the bounds of all branches over all shards, where a query of one branch asks each shard for as many
-/// results as its page skips or takes; and each entity that is given takes one step more. A refusal is want of memory.
+/// results as its page skips or takes; and each entity that is given takes one step more. A refusal means out of memory.
 pub fn search<L: Ledger>(
     alloc: Global,
     snapshots: &[ShardSnapshot<'_>],

@@ -187,7 +187,7 @@ fn answer_wide<R: Threads + Sync, G: Gate + Sync>(
     counted(alloc, snapshots.as_slice(), found)
 }
 
-/// The shards that are entered, each with all that it has absorbed. A refusal is want of memory.
+/// The shards that are entered, each with all that it has absorbed. A refusal means out of memory.
 fn snapshots_of<'a>(
     alloc: Global,
     slots: &'a [Slot<Entry, ShardState>],

@@ -83,7 +83,7 @@ impl<'a> ShardSnapshot<'a> {
         self.shard.last()
     }
 
-    /// The entity of a key, if there is one, which shares its properties. It takes one step. A refusal is want of memory.
+    /// The entity of a key, if there is one, which shares its properties. It takes one step. A refusal means out of memory.
     pub fn entity<L: Ledger>(
         &self,
         alloc: Global,

@@ -26,7 +26,7 @@ use std::thread::{self, Threads};
 type Lane = Option<RowList>;
 
 /// What `search` finds, where each shard is scanned in a thread of its own as far as threads can be made. The gate is called before and
-/// after each shard's scan, with the shard's number and line 0. The steps aren't counted. A refusal is want of memory.
+/// after each shard's scan, with the shard's number and line 0. The steps aren't counted. A refusal means out of memory.
 pub fn search_wide<R: Threads + Sync, G: Gate + Sync>(
     rt: &R,
     alloc: Global,

@@ -59,7 +59,7 @@ impl Store {
         self.shard.last()
     }
 
-    /// Absorbs the next entry, once more where it is refused for want of memory, which changes nothing.
+    /// Absorbs the next entry, once more where it is refused when out of memory, which changes nothing.
     pub(crate) fn absorb(&mut self, entry: &Entry) -> Result<(), Fail> {
         if self.shard.count() > MOST_ENTRIES {
             return Err(Fail::new("many entries"));

@@ -9,7 +9,7 @@ use std::alloc::{AllocError, Global};
 use std::sync::Wait;
 
 /// These passes of a store, each of which has then seen no less than this pass of another store with as many shards, and has applied all
-/// that its own store had. A refusal is want of memory.
+/// that its own store had. A refusal means out of memory.
 pub(crate) fn all_caught_up<K: Names, H: Wait + Drop, J: Names, R: Wait>(
     rt: &R,
     alloc: Global,

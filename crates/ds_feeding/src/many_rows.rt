@@ -8,7 +8,7 @@ use ds_rows::{RowsRefused, count_rows};
 use std::alloc::Global;
 
 /// Whether each put of the commit has at most 20,000 index rows under these definitions. Else it answers TooManyRows with the number of the
-/// first one that has more, or want of memory.
+/// first one that has more, or lack of memory.
 pub(crate) fn check_rows(alloc: Global, defs: &Defs, commit: &Commit) -> Result<(), RowsRefused>
     ensures { IsChecked (too_many_rows defs.now commit.now.writes) result }
 {

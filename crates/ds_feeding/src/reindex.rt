@@ -52,7 +52,7 @@ pub struct Fed {
 
 impl<K: Names, H: Wait + Drop> Reindex<K, H> {
     /// Makes the second store of what was opened, whose names these are; the definitions are those that it was opened with. One of its
-    /// passes feeds it. A refusal is want of memory.
+    /// passes feeds it. A refusal means out of memory.
     pub fn make(alloc: Global, opened: Opened<H>, defs: Defs) -> Result<Reindex<K, H>, NoMemory>
         requires names { AreNamesOf opened K.journal K.shards K.commits K.ids K.definitions K.window }
         requires begun { AreBegun opened }
@@ -74,7 +74,7 @@ impl<K: Names, H: Wait + Drop> Reindex<K, H> {
 
     /// Feeds the next commits of the old store, at most so many, and first draws the ids that were drawn there. The pass is of that store,
     /// has seen the commits that were fed before, and stands no lower. TooManyRows comes where the next commit has a put with more than
-    /// 20,000 rows under the new definitions, and fewer than `most` were fed before it; else a refusal is want of memory. What was fed
+    /// 20,000 rows under the new definitions, and fewer than `most` were fed before it; else a refusal means out of memory. What was fed
     /// before a refusal stays, and a later call goes on there.
     pub fn feed<J: Names, G: Wait + Drop, R: Wait>(
         &mut self,

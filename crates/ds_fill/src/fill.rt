@@ -52,7 +52,7 @@ impl FillStatus {
 /// the four clients and the appliers, each put was committed once, and the query, behind the settle of a later round, saw them all. That is
 /// read from the
 /// replies and follows from the server's theorem. `Usage`: exactly where the words leave their form; nothing is printed then.
-/// `WriteFault`: exactly where a write or a flush failed; the sink counts that fault and no other. `NoMemory`: want of memory; also where
+/// `WriteFault`: exactly where a write or a flush failed; the sink counts that fault and no other. `NoMemory`: lack of memory; also where
 /// the last reply doesn't count all items, as where a put was refused.
 pub fn fill<Rt: Threads + Wait + Sync, O: Sink>(
     rt: &Rt,
@@ -76,7 +76,7 @@ pub fn fill<Rt: Threads + Wait + Sync, O: Sink>(
     }
 }
 
-/// What is printed of so many items. A refusal is want of memory.
+/// What is printed of so many items. A refusal means out of memory.
 fn summary_text<Rt: Threads + Wait + Sync>(
     rt: &Rt,
     alloc: Global,
@@ -106,7 +106,7 @@ fn lines_of(alloc: Global, items: u32, found: &Summary) -> Result<Buffer, NoMemo
     Ok(text)
 }
 
-/// What a load of so many items is told of, by a run of its own. A refusal is want of memory, here or for one of the load's requests.
+/// What a load of so many items is told of, by a run of its own. A refusal means out of memory, here or for one of the load's requests.
 fn served<Rt: Threads + Wait + Sync>(
     rt: &Rt,
     alloc: Global,
@@ -121,7 +121,7 @@ fn served<Rt: Threads + Wait + Sync>(
     }
 }
 
-/// The replies to a load, all of them. A refusal is want of memory.
+/// The replies to a load, all of them. A refusal means out of memory.
 fn replies_of<Rt: Threads + Wait + Sync>(
     rt: &Rt,
     alloc: Global,

@@ -26,7 +26,7 @@ read_on given d (t ∷ tokens) = stepped (step given d t.piece) t (λ next. read
 unfoldable pub statement_of : List ℕ → Bindings → Result Statement ℕ
 statement_of text given = read_on given empty (tokens_of text)
 
--- the place where a text stops being a statement, but for want of memory
+-- the place where a text stops being a statement, except when out of memory
 abbrev pub refused_at : GqlRefused → Option ℕ
 refused_at (refused.At place) = Some place
 refused_at refused.NoMemory = None

@@ -8,7 +8,7 @@ use ds_tokens::{Mark, first, skip_blanks};
 use std::alloc::Global;
 
 /// The statement that a text is: the one that `specs/Statements` defines. `At` comes exactly where the text is none, with the
-/// byte that the definition names; `NoMemory` for want of memory alone.
+/// byte that the definition names; `NoMemory` only when out of memory.
 ///
 /// The text is read once from its front, token by token; strings and names are copied once. The names of arguments are put in
 /// order first, so that each is found without a look at the others.

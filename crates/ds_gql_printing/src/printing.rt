@@ -50,7 +50,7 @@ impl From<NoMemory> for PrintRefused {
 
 /// The text that a statement is, with the arguments that it cites: `parse` reads it with them as the same statement. Integers,
 /// strings, truth values, nulls and keys of the default namespace stand in the text; each other value is an argument. `Name` comes
-/// exactly where a kind or a property is empty or has a double quote; `NoMemory` for want of memory alone.
+/// exactly where a kind or a property is empty or has a double quote; `NoMemory` only when out of memory.
 ///
 /// It needs a statement that `can_print` takes, as `parse` gives them. Its time and memory grow with the text.
 pub fn print(alloc: Global, statement: &Statement) -> Result<Printed, PrintRefused>

@@ -44,7 +44,7 @@ impl<'a> Model for History<'a> {
 }
 
 impl<'a> History<'a> {
-    /// That of a journal, for 1 to 16 shards. It is linear in the journal's writes. A refusal is want of memory.
+    /// That of a journal, for 1 to 16 shards. It is linear in the journal's writes. A refusal means out of memory.
     pub fn make(alloc: Global, journal: &'a Journal, shards: u32) -> Result<History<'a>, NoMemory>
         requires least { 1 ≤ shards }
         requires most { shards ≤ most_shards }
@@ -190,7 +190,7 @@ impl<'a> History<'a> {
     }
 
     /// The entity of a key that the first `place` commits leave; `None` exactly where they leave none. It looks at the commits that wrote
-    /// the key's group. A refusal is want of memory.
+    /// the key's group. A refusal means out of memory.
     pub fn entity(&self, alloc: Global, key: &Key, place: u64) -> Result<Option<&Entity>, NoMemory>
         ensures { IfOk result (λ found. option_copied found ≡ entity_of (strong_view self.now.journal place) key.now) }
     {
@@ -231,7 +231,7 @@ impl<'a> History<'a> {
     }
 
     /// The entities that those of the first `place` commits leave which wrote a group: of the group all that the journal leaves there. It
-    /// is linear in these commits' writes. A refusal is want of memory.
+    /// is linear in these commits' writes. A refusal means out of memory.
     pub fn group_view(&self, alloc: Global, group: &Key, place: u64) -> Result<EntityMap, NoMemory>
         ensures { IfOk result (λ v. v ≡ sorted_by_key (after (writes_of (writing group.now (take place self.now.journal))))) }
     {

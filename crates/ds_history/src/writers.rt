@@ -14,7 +14,7 @@ use std::alloc::{AllocError, Global};
 /// Of each entity group the numbers of the commits that wrote it, in their order.
 pub(crate) type Writers = IndexMap<Key, ShardCommits>;
 
-/// The writers of each group of a journal. A refusal is want of memory.
+/// The writers of each group of a journal. A refusal means out of memory.
 pub(crate) fn writers_of(alloc: Global, journal: &[Commit]) -> Result<Writers, NoMemory>
     ensures { IfOk result (λ w. (g : KeyParts) → noted_in w.entries g ≡ writers_of g journal.now) }
 {

@@ -28,14 +28,14 @@ pub trait Absorb<O: Drop> {
     // What shows that absorbing never fails, if anything does.
     ghost never_fails: { Type 0 } = { ⊥ };
 
-    /// Takes in an operation that the other copy will be given. `Err` is want of memory, and changes nothing that contracts see.
+    /// Takes in an operation that the other copy will be given. `Err` means out of memory, and changes nothing that contracts see.
     fn absorb(&mut self, operation: &O) -> Result<(), NoMemory>
         ensures absorbed { MatchResult result (λ _. state self.new ≡ applied (state self.old) operation.now)
             (λ _. state self.new ≡ state self.old) }
         ensures succeeds { never_fails → IsOk result };
 
     /// Takes in an operation that the other copy took in before, and which nobody needs afterwards: a state that keeps parts of it
-    /// moves them in here, and copies nothing. If not given, it is `absorb` and a drop. `Err` is want of memory; it hands the
+    /// moves them in here, and copies nothing. If not given, it is `absorb` and a drop. `Err` means out of memory; it hands the
     /// operation back, and changes nothing that contracts see.
     fn absorb_second(&mut self, operation: O) -> Result<(), O>
         ensures absorbed { MatchResult result (λ _. state self.new ≡ applied (state self.old) operation)

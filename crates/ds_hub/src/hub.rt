@@ -26,7 +26,7 @@ pub struct Hub<O: Drop, S: Absorb<O> + Drop> {
 /// applied: nothing is published or pending, and no reader has seen anything. Its log has room for two operations from the start,
 /// and keeps it: no more are in it where each operation is published before the next is added. A place for a reader that
 /// `left_right` refuses is asked for again, after a yield: `left_right` refuses one without cause only while readers come and go.
-/// `Err` is want of memory.
+/// `Err` means out of memory.
 pub fn make<O: Drop, S: Absorb<O> + Drop, Rt: Wait>(
     rt: &Rt,
     alloc: Global,
@@ -95,7 +95,7 @@ fn open<O: Drop, S: Absorb<O> + Drop, R: Wait>(
 }
 
 // Tells the writer where the hub begins. Two entries that change nothing go through the log, so that it has room for the operation
-// that the spare copy lacks and for the next. `Err` is want of memory.
+// that the spare copy lacks and for the next. `Err` means out of memory.
 fn begin<O: Drop, S: Absorb<O> + Drop, R: Wait>(
     rt: &R,
     copies: &mut Ruled<O, S>,
@@ -115,7 +115,7 @@ fn begin<O: Drop, S: Absorb<O> + Drop, R: Wait>(
     copies.publish_as::<Stays<O>, R>(rt)
 }
 
-// Puts an entry into the log that changes nothing. `Err` is want of memory.
+// Puts an entry into the log that changes nothing. `Err` means out of memory.
 fn append_nothing<O: Drop, S: Absorb<O> + Drop>(
     copies: &mut Ruled<O, S>,
     prefix: &Prefix<S::Told>,
@@ -148,7 +148,7 @@ fn seat<O: Drop, S: Absorb<O> + Drop, R: Wait>(rt: &R, copies: &mut Ruled<O, S>)
     unreachable!()
 }
 
-// So many readers. `Err` is want of memory.
+// So many readers. `Err` means out of memory.
 fn seat_all<O: Drop, S: Absorb<O> + Drop, R: Wait>(
     rt: &R,
     copies: &mut Ruled<O, S>,

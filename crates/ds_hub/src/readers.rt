@@ -63,7 +63,7 @@ impl<O: Drop, S: Absorb<O> + Drop> Readers<O, S> {
         self.items.as_slice().get(i)
     }
 
-    /// Puts a reader at the end. `Err` hands it back for want of memory, and changes nothing.
+    /// Puts a reader at the end. `Err` hands it back when out of memory, and changes nothing.
     pub fn push(&mut self, item: Reader<O, S>) -> Result<(), Reader<O, S>>
         ensures { MatchResult result (λ _. self.new ≡ self.old ++ item ∷ []) (λ back. (back ≡ item) × (self.new ≡ self.old)) }
     {

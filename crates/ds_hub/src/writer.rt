@@ -83,7 +83,7 @@ impl<O: Drop, S: Absorb<O> + Drop> Writer<O, S> {
     }
 
     /// Adds an operation to the pending ones, of which it tells what `M` says of `about`, which stands for the operation. `Err`
-    /// hands it back for want of memory, which an operation that is kept aside counts as, and changes nothing. After an Ok
+    /// hands it back when out of memory, which an operation that is kept aside counts as, and changes nothing. After an Ok
     /// `is_parked` says whether `publish` still wants memory.
     pub fn add_as<X, M: Tells<X, S::Told>>(&mut self, op: O, about: &X) -> Result<(), O>
         requires room { length self.old.published + length self.old.pending < 2 ^ 62 }
@@ -127,7 +127,7 @@ impl<O: Drop, S: Absorb<O> + Drop> Writer<O, S> {
     }
 
     /// Publishes what is pending, all at once. It waits for the readers that still read the copy from before the last call, and
-    /// never for memory. `Err` is want of memory where a copy takes in an operation, or for an operation that is kept aside; it
+    /// never for memory. `Err` means out of memory where a copy takes in an operation, or for an operation that is kept aside; it
     /// changes neither list.
     ///
     /// A thread that holds a view of this hub and publishes in it waits for itself, at the second publish at the latest: it

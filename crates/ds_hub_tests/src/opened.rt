@@ -52,7 +52,7 @@ pub(crate) struct ThreeSeats {
     pub(crate) ghost all: { word.seats ≡ 3 },
 }
 
-/// Makes a hub with two readers. `Err` is want of memory.
+/// Makes a hub with two readers. `Err` means out of memory.
 pub(crate) fn two_readers<R: Wait, H: Wait + Drop>(
     rt: &R,
     handle: H,
@@ -71,7 +71,7 @@ pub(crate) fn two_readers<R: Wait, H: Wait + Drop>(
     Ok(TwoReaders { writer, one, two })
 }
 
-/// Makes a word with three seats. `Err` is want of memory.
+/// Makes a word with three seats. `Err` means out of memory.
 pub(crate) fn three_seats(alloc: Global, first: u64) -> Result<ThreeSeats, AllocError>
     requires { first < 2 ^ 63 }
     ensures { IfOk result (λ w. w.word.first ≡ first) }

@@ -4,7 +4,7 @@ use Rattle.ds_base.specs.Memory.{UnlessNoMemory}
 use Rattle.ds_indexdef.specs.declared.refused.YamlRefused.{YamlRefused}
 use Rattle.ds_indexdef.specs.declared.refused.YamlRefused.TheVariants.{Line, NoMemory}
 
--- the line that is refused, but for want of memory
+-- the line that is refused, except when out of memory
 abbrev pub refused_at : YamlRefused → Option ℕ
 refused_at (Line n) = Some n
 refused_at NoMemory = None

@@ -64,7 +64,7 @@ impl Defs {
     }
 
     /// Puts `def` at the end. It is handed back, and the list stays, exactly where it is there already or there is no
-    /// memory; more than 2^32 - 1 definitions count as want of memory.
+    /// memory; more than 2^32 - 1 definitions count as out of memory.
     pub fn push(&mut self, def: IndexDef) -> Result<(), IndexDef>
         ensures ok { OnOk result (self.new ≡ self.old ++ def ∷ []) }
         ensures distinct { OnOk result (IsFalse (list_any (same_def def) self.old)) }

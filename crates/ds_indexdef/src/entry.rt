@@ -60,7 +60,7 @@ impl Entry {
         !self.key && !self.names.contains(name)
     }
 
-    /// The entry with an ascending column more. `Err` is want of memory.
+    /// The entry with an ascending column more. `Err` means out of memory.
     pub(crate) fn with_column(self, alloc: Global, name: TextString) -> Result<Entry, AllocError>
         ensures { IfOk result (λ more. more ≡ with_column self (record { name = name; descending = false })) }
     {

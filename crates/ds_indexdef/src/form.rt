@@ -31,7 +31,7 @@ pub(crate) enum Form {
     Wrong,
 }
 
-/// What the line says. `Err` is want of memory for a name.
+/// What the line says. `Err` means out of memory for a name.
 #[tactic(auto, unfolding(crate::specs::Forms::form_of))]
 pub(crate) fn read_form(alloc: Global, line: &[u8]) -> Result<Form, AllocError>
     ensures { IfOk result (λ form. form ≡ form_of line.now) }

@@ -31,7 +31,7 @@ pub(crate) enum Moved {
     Stuck(Part),
 }
 
-/// Where a line leads that is neither empty nor the first of an entry. A refusal is want of memory.
+/// Where a line leads that is neither empty nor the first of an entry. A refusal means out of memory.
 pub(crate) fn next(alloc: Global, part: Part, form: Form) -> Result<Moved, AllocError>
     ensures { IfOk result (λ r. r ≡ next part form) }
 {

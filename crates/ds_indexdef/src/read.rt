@@ -27,7 +27,7 @@ use std::alloc::Global;
 ///
 /// `Line`: the first line, counted from 1, such that no text of this form begins with the lines up to it, be it only that its bytes
 /// aren't UTF-8; where the text ends too early, the number of its lines and one more; of an entry that would be the 201st
-/// definition, its last line. `NoMemory`: want of memory.
+/// definition, its last line. `NoMemory`: lack of memory.
 ///
 /// The keys are those of the Datastore's own file; the order of the lines and the refusals are our own profile. Each line is read
 /// once, and a property is looked up among those of its entry; an entry is compared with each definition that is there.

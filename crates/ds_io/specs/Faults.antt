@@ -15,7 +15,7 @@ next_count n = min (n + 1) last_count
 abbrev pub Rose : ℕ → ℕ → Type 0
 Rose old new = (old < new) ⊎ (new ≡ last_count)
 
--- a load answered that it failed, which is a fault; want of memory is none
+-- a load answered that it failed, which is a fault; lack of memory is none
 abbrev pub is_failed : Result (List ℕ) LoadFault → Bool
 is_failed (Ok bytes) = false
 is_failed (Err Failed) = true

@@ -69,7 +69,7 @@ impl Files for MemoryFiles {
     ghost faults = { λ s _. s.schedule.faults };
 
     /// Gives a copy of the content of that name. `Failed`: exactly where this call is one that fails, where there is
-    /// no such file, and where it has more than 2^30 bytes. `NoMemory`: want of memory for the copy.
+    /// no such file, and where it has more than 2^30 bytes. `NoMemory`: lack of memory for the copy.
     fn load(&mut self, alloc: Global, name: &str) -> Result<ByteString, LoadFault>
         ensures gives_the_content { IfOk result (λ bytes. content_of self.old name.now ≡ Some bytes) }
         ensures within { IfOk result (λ bytes. length bytes ≤ most_file_bytes) }

@@ -14,7 +14,7 @@ use std::marker::Model;
 pub struct MemorySink {
     bytes: ByteString,
     most: usize,
-    // Whether the last write was refused for want of memory.
+    // Whether the last write was refused when out of memory.
     lacks: bool,
     schedule: Schedule,
 }

@@ -93,7 +93,7 @@ pub trait Files {
     ghost faults: { Self → List ℕ → ℕ };
 
     /// Gives all bytes of the file of this name. `Failed`: it is missing, has more than 2^30 bytes, or could not be read.
-    /// `NoMemory`: want of memory. A failure counts one fault more for this name, and for another one more or none;
+    /// `NoMemory`: lack of memory. A failure counts one fault more for this name, and for another one more or none;
     /// nothing else counts any.
     fn load(&mut self, alloc: Global, name: &str) -> Result<ByteString, LoadFault>
         ensures gives_the_content { IfOk result (λ bytes. IfSome (content self.old name.now) (λ told. bytes ≡ told)) }

@@ -33,6 +33,6 @@ pub record IsBook (journal : List Commit) (next : ℕ) : Type 0 where
 abbrev pub room_for_commit : ℕ → ℕ → ℕ → ℕ
 room_for_commit commits capacity groups = cond (nat_lt commits capacity && nat_lt commits most_commits) (groups + 1) 0
 
--- the answer to a commit that has this conflict or none: the conflict, or where there is none want of memory
+-- the answer to a commit that has this conflict or none: the conflict, or where there is none lack of memory
 abbrev pub IsCommitAnswer : Option Conflict → Option CommitCause → Type 0
 IsCommitAnswer conflict answer = (answer ≡ option_map cause.Conflict conflict) ⊎ ((conflict ≡ None) × (answer ≡ Some cause.NoMemory))

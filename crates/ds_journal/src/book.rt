@@ -107,7 +107,7 @@ impl Book {
         check_touches(&self.heads, draft.commit().touched.as_slice())
     }
 
-    /// Makes room for the draft: up to the next `commit`, a commit of it isn't refused for want of memory, renumbered or not.
+    /// Makes room for the draft: up to the next `commit`, a commit of it isn't refused when out of memory, renumbered or not.
     /// A refusal records nothing, and doesn't come where there is the room already; it comes too where the journal has 2^48 commits.
     pub fn make_room(&mut self, draft: &Draft) -> Result<(), NoMemory>
         ensures ok { OnOk result (length draft.now.writes < self.new.spare) }
@@ -123,7 +123,7 @@ impl Book {
     }
 
     /// Appends the draft as commit |J| + 1 of a journal J, and gives that number. It is refused where it conflicts, with the
-    /// answer of `check`, or else for want of memory, which doesn't come where there is room; a refusal records nothing and
+    /// answer of `check`, or else when out of memory, which doesn't come where there is room; a refusal records nothing and
     /// hands the draft back. It takes time by the touched and the written groups alone.
     pub fn commit(&mut self, draft: Draft) -> Result<u64, CommitRefused>
         requires touched_before { All (λ t. t.place ≤ length self.old.journal) draft.touched }

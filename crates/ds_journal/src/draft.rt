@@ -35,7 +35,7 @@ impl Model for Draft {
 
 impl Draft {
     /// The commit of a client, 0 to 15, that touched these groups and makes at most 500 writes. It takes the memory that the
-    /// commit needs; 2^32 touches or more are refused as want of memory.
+    /// commit needs; 2^32 touches or more are refused as out of memory.
     pub fn make(
         alloc: Global,
         client: u32,

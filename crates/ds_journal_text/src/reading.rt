@@ -31,7 +31,7 @@ pub enum JournalRefused {
 /// `write_journal` writes is read as the same journal.
 ///
 /// `Line` comes exactly at the first line that isn't the text of a commit with at most 500 writes and the next number, byte by byte.
-/// `NoMemory` is want of memory alone. It is linear in the text.
+/// `NoMemory` means out of memory alone. It is linear in the text.
 pub fn read_journal(alloc: Global, text: &[u8]) -> Result<Journal, JournalRefused>
     ensures read { IfOk result (λ journal. IsJournalOf text.now journal) }
     ensures few { IfOk result (All (λ c. length c.writes ≤ most_writes)) }
@@ -84,7 +84,7 @@ fn commit_in(alloc: Global, number: u64, line: &[u8]) -> Result<Commit, JournalR
 }
 
 /// The commit with this number whose text the line, given without its newline, is; `None` exactly where it is the text of none. A refusal is
-/// want of memory. It is linear in the line.
+/// lack of memory. It is linear in the line.
 pub fn read_commit(alloc: Global, number: u64, line: &[u8]) -> Result<Option<Commit>, NoMemory>
     ensures { IfOk result (LineIs number line.now) }
 {

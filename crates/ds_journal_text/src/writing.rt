@@ -18,7 +18,7 @@ use ds_reply::append_entity;
 use std::alloc::Global;
 
 /// Puts the line of a commit with this number, which counts from 1, at the end of `onto`: one JSON object in compact text with its members
-/// by name, and a newline. A refusal is want of memory, and leaves `onto` as it was: the line is made apart, and put as a whole.
+/// by name, and a newline. A refusal means out of memory, and leaves `onto` as it was: the line is made apart, and put as a whole.
 pub fn write_commit(
     alloc: Global,
     commit: &Commit,
@@ -51,7 +51,7 @@ pub fn write_journal(alloc: Global, journal: &Journal) -> Result<ByteString, NoM
     Ok(ByteString::from(text))
 }
 
-/// The line of a commit with this number, without its newline. A refusal is want of memory.
+/// The line of a commit with this number, without its newline. A refusal means out of memory.
 pub(crate) fn commit_line(alloc: Global, commit: &Commit, number: u64) -> Result<Buffer, NoMemory>
     ensures { IfOk result (λ line. line.bytes ≡ commit_line number commit.now) }
 {

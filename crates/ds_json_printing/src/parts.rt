@@ -10,7 +10,7 @@ use core::mem::replace_with;
 use ds_base::{Buffer, Key, NoMemory};
 use std::alloc::AllocError;
 
-/// Puts a key at the end of `onto`, as a reply shows it: one JSON array in compact text. A refusal is want of memory, and leaves the
+/// Puts a key at the end of `onto`, as a reply shows it: one JSON array in compact text. A refusal means out of memory, and leaves the
 /// bytes as they were.
 pub fn append_key(key: &Key, onto: &mut Buffer) -> Result<(), NoMemory>
     ensures ok { OnOk result (onto.new.bytes ≡ onto.old.bytes ++ compact_text (key_data key.now)) }

@@ -9,7 +9,7 @@ use Rattle.ds_json_reading.specs.declared.refusal.Refusal.TheVariants as refusal
 
 -- ---- what a reader answers
 
--- what is read is what the definition gives, and so is what is wrong with it; want of memory alone is free
+-- what is read is what the definition gives, and so is what is wrong with it; lack of memory alone is free
 abbrev pub Reads : {A E : Type 0} → E → Result A E → Result A E → Type 0
 Reads no_memory given (Ok x) = given ≡ Ok x
 Reads no_memory given (Err e) = e ≢ no_memory → given ≡ Err e

@@ -158,7 +158,7 @@ fn read_default(alloc: Global, first: Value, rest: IntoIter<Value>) -> Result<Ke
     }
 }
 
-/// A path that begins with an element, with room for so many more. A refusal is want of memory.
+/// A path that begins with an element, with room for so many more. A refusal means out of memory.
 fn begun(alloc: Global, elem: Elem, more: usize) -> Result<Vec<Elem>, AllocError>
     ensures { IfOk result (λ path. path.items ≡ elem ∷ []) }
 {

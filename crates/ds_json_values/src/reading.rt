@@ -18,7 +18,7 @@ const MAX_DEPTH: usize = 127;
 /// isn't JSON, nests deeper than 127 levels, or has a number that is too large for a float.
 ///
 /// `scratch` is the memory for the reading. It grows to the length of the longest text in bytes, so one that is kept costs nothing
-/// from the second text on. `AllocError` is want of memory alone.
+/// from the second text on. `AllocError` means out of memory alone.
 pub fn read_text(
     alloc: Global,
     text: &str,

@@ -1,4 +1,4 @@
--- A line is answered by what its request is answered, or by want of memory, which no other reply's line says.
+-- A line is answered by what its request is answered, or by lack of memory, which no other reply's line says.
 use Rattle.std.proofs.Common.{◌≡◌, ℕ, refl, sym, ◌∙◌, subst, Option, Some, None}
 use Rattle.std.specs.Prelude.{Result, Ok, Err}
 use Rattle.ds_request.specs.declared.call.Request.{Request}
@@ -24,7 +24,7 @@ module _ (turn : Turn) (s : Session) where
   abbrev bodies : Result Request (ℕ × Body) → Body → Session → Type 0
   bodies line said after = BodyAnswers w s line said after
 
-  -- want of memory is told
+  -- lack of memory is told
   pub memory_decided : (line : Result Request (ℕ × Body)) (b : Body) → SaidIs turn body.NoMemory (Some b)
       → DecidesTurn turn (bodies line) (Some b) s
   memory_decided line b says = record {

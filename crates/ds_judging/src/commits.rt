@@ -42,7 +42,7 @@ fn have_one_line(
     Ok(are_same(own.bytes(), other.bytes()))
 }
 
-/// The line of a commit. A refusal is want of memory.
+/// The line of a commit. A refusal means out of memory.
 fn line_of(alloc: Global, number: u64, commit: &Commit) -> Result<Buffer, NoMemory>
     requires { length commit.now.writes ≤ most_writes }
     ensures text { IfOk result (λ line. line.bytes ≡ commit_text number commit.now) }

@@ -83,7 +83,7 @@ pub(crate) fn judge_commit(turn: &Turn<'_>, session: &mut Session) -> Result<Opt
     }
 }
 
-/// What the client's transaction commits; none outside a transaction. A refusal is want of memory.
+/// What the client's transaction commits; none outside a transaction. A refusal means out of memory.
 fn draft_of(turn: &Turn<'_>, session: &Session) -> Result<Option<Commit>, NoMemory>
     ensures { IfOk result (λ draft. IsDraft turn.now.client session.now.transaction.transaction draft) }
 {
@@ -204,7 +204,7 @@ fn judge_conflict(
     say_ended(turn, session, body, place)
 }
 
-/// What the reply to a conflict says; none where no such group was touched. A refusal is want of memory.
+/// What the reply to a conflict says; none where no such group was touched. A refusal means out of memory.
 fn conflict_body(
     alloc: Global,
     touched: &[Touch],

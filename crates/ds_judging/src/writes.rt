@@ -393,7 +393,7 @@ fn judge_numbered(
     say_alone(turn, session, body, number, above)
 }
 
-/// What the reply to a write says, at a place. A refusal is want of memory.
+/// What the reply to a write says, at a place. A refusal means out of memory.
 fn body_of(turn: &Turn<'_>, write: &Write, at: WriteAt) -> Result<Body, NoMemory>
     ensures { IfOk result (λ body. body ≡ written_body write.now at) }
 {
@@ -413,7 +413,7 @@ fn is_own_commit(turn: &Turn<'_>, number: u64, write: Write) -> Result<bool, NoM
     is_commit(turn, number, &commit)
 }
 
-/// The commit of a write by itself. A refusal is want of memory.
+/// The commit of a write by itself. A refusal means out of memory.
 fn own_commit(turn: &Turn<'_>, write: Write) -> Result<Commit, NoMemory>
     ensures { IfOk result (λ commit. commit ≡ own_commit turn.now.client write) }
 {

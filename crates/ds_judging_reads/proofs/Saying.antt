@@ -39,14 +39,14 @@ pub says_same : (turn : Turn) (b : Body) (s : Session) (found : Option Body) →
 says_same turn b s None says = says
 says_same turn b s (Some f) says = (says.0, says.1, refl)
 
--- what isn't want of memory is the refusal
+-- what isn't lack of memory is the refusal
 pub told_refusal : (refusal : Option Body) (b : Body) → IsRefusal refusal (Some b) → (b ≡ body.NoMemory → ⊥) → refusal ≡ Some b
 told_refusal refusal b (inl is) other = sym is
 told_refusal refusal b (inr is) other = absurd (other (same is)) where
   same : Some b ≡ Some body.NoMemory → b ≡ body.NoMemory
   same is = cc
 
--- of two reasons the one that isn't want of memory
+-- of two reasons the one that isn't lack of memory
 pub not_memory : (b : Body) (P : Type 0) → (b ≡ body.NoMemory → ⊥) → ((b ≡ body.NoMemory) ⊎ P) → P
 not_memory b P other (inl is) = absurd (other is)
 not_memory b P other (inr p) = p

@@ -18,7 +18,7 @@ pub struct Session {
     pub transaction: OpenTransaction,
 }
 
-/// One for each client, which has seen nothing. A refusal is want of memory.
+/// One for each client, which has seen nothing. A refusal means out of memory.
 pub fn first_sessions(alloc: Global, shards: u32) -> Result<Vec<Session>, NoMemory>
     ensures { IfOk result (λ sessions. map seen_by sessions.items ≡ first_sessions shards) }
 {
@@ -39,7 +39,7 @@ fn first_session(alloc: Global, shards: u32) -> Result<Session, NoMemory>
     })
 }
 
-/// The sessions meet: each has seen what any has. A refusal is want of memory.
+/// The sessions meet: each has seen what any has. A refusal means out of memory.
 pub fn meet(alloc: Global, shards: u32, sessions: &mut [Session]) -> Result<(), NoMemory>
     requires { HaveCounts shards (map seen_by sessions.old) }
     ensures { OnOk result (map seen_by sessions.new ≡ met (map seen_by sessions.old)) }
@@ -49,7 +49,7 @@ pub fn meet(alloc: Global, shards: u32, sessions: &mut [Session]) -> Result<(), 
     Ok(())
 }
 
-/// The greatest that any of the sessions has seen. A refusal is want of memory.
+/// The greatest that any of the sessions has seen. A refusal means out of memory.
 fn greatest_of(alloc: Global, shards: u32, sessions: &[Session]) -> Result<Watermark, NoMemory>
     ensures { IfOk result (λ greatest. greatest ≡ greatest_of shards (map seen_by sessions.now)) }
 {

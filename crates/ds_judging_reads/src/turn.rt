@@ -53,7 +53,7 @@ impl<'a> Turn<'a> {
         says(self.alloc, self.client, self.number, body, self.line)
     }
 
-    /// The body of a refusal, where the reply says this; want of memory is none.
+    /// The body of a refusal, where the reply says this; lack of memory is none.
     pub fn say_refusal(&self, body: Body) -> Result<Option<Body>, NoMemory>
         ensures said { IfOk result (SaidIs self.now body) }
         ensures memory { OnOk result (body ≡ Body.NoMemory → ⊥) }

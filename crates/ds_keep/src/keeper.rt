@@ -19,7 +19,7 @@ use ds_log::{Commits, Journal};
 use std::alloc::Global;
 use std::marker::Model;
 
-/// The greatest place of a gate: a file with one behind it is refused as want of memory.
+/// The greatest place of a gate: a file with one behind it is refused as out of memory.
 const MAX_PLACE: u64 = 1 << 62;
 
 /// What an opened disk keeps, and its keeper.
@@ -59,7 +59,7 @@ impl Keeper {
     /// the empty journal and the counter 2^52. The disk is synced first, and again after each change.
     ///
     /// `DiskFault` comes only where the disk's count of faults rose. `Damaged` comes exactly where the file is damaged, with the place of
-    /// the first damage, and then the file is as it was. `NoMemory` is want of memory, or a journal of more than 2^48 commits. At every
+    /// the first damage, and then the file is as it was. `NoMemory` means out of memory, or a journal of more than 2^48 commits. At every
     /// moment, also inside the call, a crash leaves an image that stands for what all images stood for. It is linear in the file.
     pub fn open<D: Disk>(alloc: Global, disk: &mut D) -> Result<Opened, KeepRefused>
         ensures settled { IfOk result (λ o. IsTrue (D.is_honest disk.old)
@@ -106,7 +106,7 @@ impl Keeper {
     ///
     /// What it promises of images is of commits with which the kept journal is one serial history and whose written ids are below `next`.
     /// `DiskFault` comes only where the disk's count of faults rose in this call, and ends the keeper: the disk is to be opened again.
-    /// `NoMemory` is want of memory, or a journal that would have more than 2^48 commits; it comes before the disk is touched, and hands
+    /// `NoMemory` means out of memory, or a journal that would have more than 2^48 commits; it comes before the disk is touched, and hands
     /// the keeper back. It syncs twice, and is linear in the new commits.
     pub fn append<D: Disk>(
         self,

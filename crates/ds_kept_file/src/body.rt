@@ -21,7 +21,7 @@ use std::alloc::{AllocError, Global};
 
 /// Reads the body of a batch that is appended to the book: the counter is raised to its `next`, and its commits are appended. `false`
 /// exactly where it is the body of no batch that may follow; of such a body some commits may be in the book, and the counter be raised. A
-/// refusal is want of memory, or a journal of more than 2^48 commits.
+/// refusal means out of memory, or a journal of more than 2^48 commits.
 pub fn read_body(alloc: Global, book: &mut Book, body: &[u8]) -> Result<bool, NoMemory>
     ensures read { IfOk result (λ whole. IsTrue whole → IsBodyRead (kept_in book.old) body.now (kept_in book.new)) }
     ensures refused { IfOk result (λ whole. whole ≡ false → HasNoBody (kept_in book.old) body.now) }

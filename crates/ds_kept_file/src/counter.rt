@@ -9,7 +9,7 @@ use ds_base::{Buffer, NoMemory};
 use serde_json::Value;
 use std::alloc::{AllocError, Global};
 
-/// Puts the line `{"next":N}` at the end, without its newline. A refusal is want of memory.
+/// Puts the line `{"next":N}` at the end, without its newline. A refusal means out of memory.
 #[tactic(auto, unfolding(json::specs::Print::escape_byte))]
 pub fn append_next(next: u64, onto: &mut Buffer) -> Result<(), NoMemory>
     ensures { OnOk result (onto.new.bytes ≡ onto.old.bytes ++ next_line next) }
@@ -19,7 +19,7 @@ pub fn append_next(next: u64, onto: &mut Buffer) -> Result<(), NoMemory>
     onto.append(b"}")
 }
 
-/// The number whose line this is; `None` exactly where it is the line of no number of 64 bits. A refusal is want of memory.
+/// The number whose line this is; `None` exactly where it is the line of no number of 64 bits. A refusal means out of memory.
 pub fn read_next(alloc: Global, line: &[u8]) -> Result<Option<u64>, NoMemory>
     ensures some { IfOk result (λ next. IfSome next (λ n. line.now ≡ next_line n)) }
     ensures none { IfOk result (λ next. IfNone next ((n : ℕ) → n < 2 ^ 64 → line.now ≡ next_line n → ⊥)) }

@@ -29,7 +29,7 @@ pub struct FileRead {
 /// counter falls or is above 2^63 - 1, or whose counter isn't above each id of 2^52 or more in a written key. The journal and the counter
 /// are those of the batches in front of it. A file that isn't damaged stands for them. The rule is our own.
 ///
-/// A refusal is want of memory, or a journal of more than 2^48 commits. It is linear in the file.
+/// A refusal means out of memory, or a journal of more than 2^48 commits. It is linear in the file.
 pub fn read_file(alloc: Global, file: &[u8]) -> Result<FileRead, NoMemory>
     ensures read { IfOk result (IsReadingOf file.now) }
     ensures few { IfOk result (λ read. length read.journal ≤ most_commits) }

@@ -11,7 +11,7 @@ use ds_log::Commit;
 use std::alloc::Global;
 
 /// What is written behind the closed gate of a file: the length and the body of the batch of these commits, of which the first has the
-/// number `first`, and of this counter, and then a closed gate. A refusal is want of memory. It is linear in the commits.
+/// number `first`, and of this counter, and then a closed gate. A refusal means out of memory. It is linear in the commits.
 pub fn write_batch(
     alloc: Global,
     commits: &[Commit],

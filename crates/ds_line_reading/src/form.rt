@@ -14,7 +14,7 @@ pub trait LineForm: Drop {
 
     ghost reads: { Self → Data → Result Self.Item Refusal };
 
-    /// Reads the value, which nests no deeper than `depth`; none where it has no common form, or for want of memory.
+    /// Reads the value, which nests no deeper than `depth`; none where it has no common form, or when out of memory.
     fn read(&self, alloc: Global, reader: &mut Reader<'_>, depth: usize) -> Option<Self::Item>
         ensures { IfSome result (λ x. IsRead depth (reads self.now) reader.old x reader.new) };
 }

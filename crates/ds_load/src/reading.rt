@@ -23,9 +23,9 @@ pub struct Summary {
 }
 
 /// What the last of the replies tells, whose text this is, of a run over a load of so many items with four shards; `None` where it doesn't
-/// tell that all of them were counted, as where a put or the settle was refused for want of memory. Whatever the schedule of the run, that
+/// tell that all of them were counted, as where a put or the settle was refused when out of memory. Whatever the schedule of the run, that
 /// is how many
-/// items match and which is the last that does. An `Err` is want of memory here.
+/// items match and which is the last that does. An `Err` means out of memory here.
 pub fn read_summary(alloc: Global, items: u32, text: &[u8]) -> Result<Option<Summary>, NoMemory>
     ensures { IfOk result (λ found. IfSome found (IsOfRuns items text.now)) }
 {

@@ -5,7 +5,7 @@ ghost use Rattle.ds_load.specs.Input.{line_of, load_text, put_text};
 use ds_base::{Buffer, ByteString, NoMemory};
 use std::alloc::Global;
 
-/// The lines that put so many items, an empty line, and the lines of a settle and of the query. A refusal is want of memory.
+/// The lines that put so many items, an empty line, and the lines of a settle and of the query. A refusal means out of memory.
 pub fn write_load(alloc: Global, items: u32) -> Result<ByteString, NoMemory>
     ensures { IfOk result (λ text. text ≡ load_text items) }
 {

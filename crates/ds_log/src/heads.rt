@@ -70,7 +70,7 @@ impl Heads {
         self.commits
     }
 
-    /// Makes `commit` the group's last one; the other groups keep theirs. It is refused for want of memory alone, which
+    /// Makes `commit` the group's last one; the other groups keep theirs. It is refused only when out of memory, which
     /// changes nothing and hands the group back, and never where there is room.
     pub fn note(&mut self, group: Key, commit: u64) -> Result<(), Key>
         ensures noted { OnOk result

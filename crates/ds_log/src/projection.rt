@@ -85,7 +85,7 @@ pub struct Routed {
 }
 
 /// The entries that commit `number` gives all shards, one for each group that it writes, by root key, each with its shard out of
-/// `shards`, which are from 1 to 16. A refusal is want of memory.
+/// `shards`, which are from 1 to 16. A refusal means out of memory.
 pub fn route(
     alloc: Global,
     number: u64,

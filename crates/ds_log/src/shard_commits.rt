@@ -46,7 +46,7 @@ impl ShardCommits {
         self.commits.len() as u64
     }
 
-    /// Makes room for so many calls of `push`. A refusal, which is want of memory, changes nothing.
+    /// Makes room for so many calls of `push`. A refusal, which means out of memory, changes nothing.
     pub fn make_room(&mut self, entries: usize) -> Result<(), NoMemory>
         ensures ok { OnOk result (entries ≤ self.new.spare) }
         ensures kept { self.new.commits ≡ self.old.commits }

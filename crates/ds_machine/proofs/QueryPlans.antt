@@ -148,7 +148,7 @@ module _ (st : StateParts) (s : Session) (client : ℕ) (c : Call) (r : Search) 
         quiet true = refl
         quiet false = refl
 
-        -- what was found is no want of memory
+        -- what was found is no lack of memory
         told : (b : Bool) (w : World)
             → RequestAnswers w client s c (search_of c) (found b r.query.select (items es) sn (behind es)) (session_after e st.store s)
             → BodyAnswers w s (Ok (record { client = client; call = c })) (found b r.query.select (items es) sn (behind es))

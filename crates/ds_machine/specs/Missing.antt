@@ -121,7 +121,7 @@ missing st s (operation.AllocateIds count) g taken = missing_ids st count g.firs
 missing st s (operation.Apply shard) g taken = missing_apply st shard g.place g.applied taken
 missing st s _ g taken = None
 
--- the request waits for the missing step; and it is replied to as soon as none is, or for want of memory
+-- the request waits for the missing step; and it is replied to as soon as none is, or when out of memory
 abbrev pub IsNext : Option Step → Due → Type 0
 IsNext next (due.Waits step) = next ≡ Some step
 IsNext next (due.Reply plan) = (next ≡ None) ⊎ (plan.body ≡ body.NoMemory)

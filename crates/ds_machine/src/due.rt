@@ -207,7 +207,7 @@ impl State {
         }
     }
 
-    /// The counts that an open request viewed, with the last commit that they count. `None` is a View that is missing, or want of memory.
+    /// The counts that an open request viewed, with the last commit that they count. `None` is a View that is missing, or lack of memory.
     pub(crate) fn counts_viewed(&self, alloc: Global, turn: &Turn) -> Option<CountsSeen>
         requires { AreViewed turn.now.session.now.counts turn.now.gathered.now.views self.now.applied.counts }
         ensures { IfSome result (AreSeenIn self.now turn.now) }

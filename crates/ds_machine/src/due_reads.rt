@@ -48,7 +48,7 @@ impl State {
     }
 
     /// The read of a group, as soon as it misses neither a Touch, unless the group is touched, nor a View of its shard that covers the
-    /// place. An error is want of memory.
+    /// place. An error means out of memory.
     fn group_due(&self, alloc: Global, turn: &Turn, group: Key) -> Result<ReadDue, NoMemory>
         requires pulled { IsPulled self.now }
         requires allowed { group_refusal turn.now.session.now.transaction (Some group) ≡ None }

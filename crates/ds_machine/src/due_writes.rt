@@ -94,7 +94,7 @@ impl State {
 }
 
 /// The step that is missing for the write of a key: outside a transaction a Commit, and inside one a Touch, unless its group is touched. A
-/// refusal is want of memory.
+/// refusal means out of memory.
 fn write_missing(alloc: Global, turn: &Turn, key: &Key) -> Result<Option<Step>, NoMemory>
     ensures { IfOk result (λ o. o ≡ missing_write turn.now.session.now turn.now.gathered.now (root_of key.now) turn.now.taken) }
 {

@@ -13,7 +13,7 @@ use std::alloc::Global;
 
 impl State {
     /// Takes a step: an Apply applies the shard's next entry, if there is one; and the open request gathers what it calls for. A shard that
-    /// isn't there has no steps, and a Commit is taken by the reply. A refusal is want of memory.
+    /// isn't there has no steps, and a Commit is taken by the reply. A refusal means out of memory.
     #[tactic(auto, using(crate::proofs::Citing::count_laws))]
     pub fn step(
         &mut self,

@@ -32,7 +32,7 @@ pub struct Work {
 
 impl State {
     /// What a request asks; or the plan of its refusal, which needs no step. The refusals come in the order of the table of refusals, and
-    /// each id of a written key is tested against the id counter here alone. `NoMemory` is want of memory alone.
+    /// each id of a written key is tested against the id counter here alone. `NoMemory` means out of memory alone.
     pub fn open(
         &self,
         alloc: Global,

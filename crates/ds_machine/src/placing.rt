@@ -23,7 +23,7 @@ pub(crate) struct WritePlan {
 
 impl State {
     /// Where a write stands that nothing refuses, and what it changes: a commit of its own outside a transaction, and a place of its
-    /// group inside one. `None` is want of memory.
+    /// group inside one. `None` means out of memory.
     pub(crate) fn place_write(&self, alloc: Global, turn: &Turn, write: Write) -> Option<WritePlan>
         requires { IsWriteDue self.now turn.now write }
         ensures plan { IfSome result (λ p. IsWritePlan self.now turn.now.session.now turn.now.client write p.at p.effect) }

@@ -85,7 +85,7 @@ impl State {
         }
     }
 
-    /// What the reply says of the results among the entities of all shards at these counts. A refusal is want of memory.
+    /// What the reply says of the results among the entities of all shards at these counts. A refusal means out of memory.
     fn find_at_counts(
         &self,
         alloc: Global,
@@ -106,7 +106,7 @@ impl State {
     }
 }
 
-/// What the reply says of the results of a prepared search over entities, which stand by key. A refusal is want of memory.
+/// What the reply says of the results of a prepared search over entities, which stand by key. A refusal means out of memory.
 fn find(
     alloc: Global,
     search: &Search,

@@ -36,7 +36,7 @@ impl State {
         }
     }
 
-    /// The shards look at each commit of the journal. A refusal is want of memory.
+    /// The shards look at each commit of the journal. A refusal means out of memory.
     pub fn pull(&mut self, alloc: Global) -> Result<(), NoMemory>
         ensures pulled { OnOk result (IsPulled self.new) }
         ensures store { self.new.store ≡ self.old.store }

@@ -39,7 +39,7 @@ impl State {
     ghost use Rattle.ds_base.specs.Limits.{first_drawn_id, most_shards};
     ghost use Rattle.ds_machine.specs.States.{StateParts, IsState};
 
-    /// Nothing committed. A refusal is want of memory.
+    /// Nothing committed. A refusal means out of memory.
     #[tactic(auto, using(crate::proofs::Citing::first_laws))]
     pub fn make(alloc: Global, shards: u32, defs: Defs) -> Result<State, NoMemory>
         requires least { 1 ≤ shards }

@@ -29,7 +29,7 @@ impl State {
         self.applied.count(shard)
     }
 
-    /// A shard applies its next entry; false where it has none, or isn't there. A refusal is want of memory.
+    /// A shard applies its next entry; false where it has none, or isn't there. A refusal means out of memory.
     #[tactic(auto, using(crate::proofs::Citing::count_laws))]
     pub fn apply_there(&mut self, alloc: Global, shard: u32) -> Result<bool, NoMemory>
         ensures applied { IfOk result (λ applied. applied ≡ (nat_lt shard self.old.store.shards && is_pending (shown self.old) shard)) }

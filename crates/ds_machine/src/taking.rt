@@ -13,7 +13,7 @@ use ds_reply::Body;
 use std::alloc::Global;
 
 impl State {
-    /// Takes effect. A refusal is want of memory and changes nothing.
+    /// Takes effect. A refusal means out of memory and changes nothing.
     pub fn take(
         &mut self,
         alloc: Global,
@@ -42,7 +42,7 @@ impl State {
         }
     }
 
-    /// Commits a write by itself and shows its number. A refusal is want of memory and changes nothing.
+    /// Commits a write by itself and shows its number. A refusal means out of memory and changes nothing.
     fn commit_write(&mut self, session: &mut Session, write: WriteCommit) -> Result<(), NoMemory>
         requires { MayCommitWrite write self.old }
         ensures ok { OnOk result (self.new ≡ record self.old { store = store_after (Effect.CommitWrite write) self.old.store }) }
@@ -56,7 +56,7 @@ impl State {
         Ok(())
     }
 
-    /// Commits the transaction, which ends, and shows the commit's number. A refusal is want of memory and changes nothing.
+    /// Commits the transaction, which ends, and shows the commit's number. A refusal means out of memory and changes nothing.
     fn commit_transaction(&mut self, session: &mut Session, draft: Draft) -> Result<(), NoMemory>
         requires { MayCommit draft self.old }
         ensures ok { OnOk result (self.new ≡ record self.old { store = store_after (Effect.CommitTransaction draft) self.old.store }) }
@@ -69,7 +69,7 @@ impl State {
         Ok(())
     }
 
-    /// The transaction takes a write. A refusal is want of memory and changes nothing.
+    /// The transaction takes a write. A refusal means out of memory and changes nothing.
     fn write_group(&mut self, session: &mut Session, write: GroupWrite) -> Result<(), NoMemory>
         requires { MayWriteGroup write self.old session.old }
         ensures ok { OnOk result (self.new ≡ record self.old { store = store_after (Effect.WriteGroup write) self.old.store }) }
@@ -83,7 +83,7 @@ impl State {
         Ok(())
     }
 
-    /// Appends a commit that conflicts with nothing, and gives its number. All memory is taken before that; a refusal is want of memory
+    /// Appends a commit that conflicts with nothing, and gives its number. All memory is taken before that; a refusal means out of memory
     /// and changes nothing.
     fn commit(&mut self, draft: Draft) -> Result<u64, NoMemory>
         requires touched_before { All (λ touch. touch.place ≤ length self.old.store.journal) draft.touched }
@@ -100,14 +100,14 @@ impl State {
     }
 }
 
-/// There was no want of memory.
+/// There was no lack of memory.
 fn done(_effect: ()) -> Result<(), NoMemory>
     ensures { IsOk result }
 {
     Ok(())
 }
 
-/// Whether it tells of want of memory.
+/// Whether it tells of lack of memory.
 pub fn is_no_memory(body: &Body) -> bool
     ensures yes { result ≡ true → body.now ≡ Body.NoMemory }
     ensures no { result ≡ false → body.now ≢ Body.NoMemory }

@@ -283,7 +283,7 @@ abbrev pub AskedAnswers : World → Session → Result Request (ℕ × Body) →
 AskedAnswers w s (Err e) said after = Refuses e.1 s said after
 AskedAnswers w s (Ok r) said after = RequestAnswers w r.client s r.call (search_of r.call) said after
 
--- want of memory is free, and changes nothing that the client has seen
+-- lack of memory is free, and changes nothing that the client has seen
 abbrev pub BodyAnswers : World → Session → Result Request (ℕ × Body) → Body → Session → Type 0
 BodyAnswers w s line body.NoMemory after = after ≡ s
 BodyAnswers w s line said after = AskedAnswers w s line said after

@@ -16,7 +16,7 @@ use Rattle.ds_rounds.specs.Lines.{Content, Kept, TooLong}
 
 -- ---- the line
 
--- A refused line: its client, and what the reply says. The tables of requests refuse no line for want of memory, so the last case
+-- A refused line: its client, and what the reply says. The tables of requests refuse no line when out of memory, so the last case
 -- is never met: such a reply carries the client that stands in the text, as every reply to the line does.
 abbrev pub refused_line : RequestRefused → ℕ × Body
 refused_line refused.BadJson = (0, body.BadJson)

@@ -14,7 +14,7 @@ use ds_query::{Normal, Place, RowList};
 use ds_reply::Body;
 use std::alloc::{AllocError, Global};
 
-/// The counts that were looked at. A refusal is want of memory.
+/// The counts that were looked at. A refusal means out of memory.
 pub fn counts_in(alloc: Global, seen: &Seen) -> Result<Counts, NoMemory>
     ensures { IfOk result (λ counts. seen.now ≡ Seen.Counts counts) }
 {
@@ -34,7 +34,7 @@ pub fn place_in(seen: &Seen) -> Result<u64, NoMemory>
     }
 }
 
-/// What the reply to a search says of what the store found. A refusal is want of memory.
+/// What the reply to a search says of what the store found. A refusal means out of memory.
 pub fn found_body(
     alloc: Global,
     search: &Search,

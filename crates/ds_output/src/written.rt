@@ -13,7 +13,7 @@ use ds_protocol::make_room;
 use ds_reply::{Body, Reply, WriteAt};
 use std::alloc::{AllocError, Global};
 
-/// What the reply to a write says, at a place. A refusal is want of memory.
+/// What the reply to a write says, at a place. A refusal means out of memory.
 pub fn body_of(alloc: Global, write: &Write, at: WriteAt) -> Result<Body, NoMemory>
     ensures { IfOk result (λ b. b ≡ written_body write.now at) }
 {
@@ -35,7 +35,7 @@ pub fn placed(body: Body, at: WriteAt) -> Body
     }
 }
 
-/// The key that the reply to a put with a new id tells, but for that id; there is then room for the reply. A refusal is want of memory.
+/// The key that the reply to a put with a new id tells, but for that id; there is then room for the reply. A refusal means out of memory.
 pub fn prepare_key(
     alloc: Global,
     client: u32,

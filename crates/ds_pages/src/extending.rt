@@ -10,7 +10,7 @@ use ds_query::{Branch, Pair, asked_value, value_named};
 use std::alloc::Global;
 
 /// The values of a branch's row in the merged columns: where a column is none of the branch's it has the least value that the branch
-/// asks of the property. A refusal is want of memory.
+/// asks of the property. A refusal means out of memory.
 pub fn extended_values(
     alloc: Global,
     merged: &[Column],

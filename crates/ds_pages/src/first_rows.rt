@@ -33,7 +33,7 @@ impl Model for FirstRows {
 }
 
 impl FirstRows {
-    /// No row yet, of rows of these columns with these names projected. Refused: want of memory.
+    /// No row yet, of rows of these columns with these names projected. Refused: lack of memory.
     pub fn new(
         alloc: Global,
         columns: &[Column],

@@ -6,7 +6,7 @@ use ds_base::NoMemory;
 use ds_query::{Row, RowLists};
 use std::alloc::Global;
 
-/// The rows of all lists, one list after another. They are moved. A refusal is want of memory.
+/// The rows of all lists, one list after another. They are moved. A refusal means out of memory.
 pub fn joined(alloc: Global, lists: RowLists) -> Result<Vec<Row>, NoMemory>
     ensures { IfOk result (λ rows. rows.items ≡ all_rows lists) }
 {

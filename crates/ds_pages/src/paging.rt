@@ -17,7 +17,7 @@ use std::alloc::Global;
 /// The page of rows in any order: in the order of their places the first row of each result, skipped and taken by the window.
 ///
 /// A result is a key, and where names are projected the key with the values of these columns. The rows are moved. n rows take the time
-/// n log n, and rows in order n: the sort keeps ascending runs and merges them. A refusal is want of memory.
+/// n log n, and rows in order n: the sort keeps ascending runs and merges them. A refusal means out of memory.
 pub fn page_of_rows(
     alloc: Global,
     rows: Vec<Row>,
@@ -37,7 +37,7 @@ pub fn page_of_rows(
 /// The page of rows in any order of which each is a result of its own: in the order of their places, skipped and taken by the window.
 ///
 /// The rows are moved, and their keys and values aren't compared. n rows take the time n log n, and rows in order n: the sort keeps
-/// ascending runs and merges them. A refusal is want of memory.
+/// ascending runs and merges them. A refusal means out of memory.
 pub fn page_of_results(alloc: Global, rows: Vec<Row>, window: &Window) -> Result<RowPage, NoMemory>
     ensures { (columns : List Column) → All (IsPlaced columns) rows.items → IfOk result (λ page. page
         ≡ with_places columns (page_of columns window.now (sorted_by (compare_rows columns) (map parts_of rows.items)))) }

@@ -22,7 +22,7 @@ pub struct Directions {
     pub key: bool,
 }
 
-/// The directions of columns. A refusal is want of memory.
+/// The directions of columns. A refusal means out of memory.
 pub fn directions_of(alloc: Global, columns: &[Column]) -> Result<Directions, NoMemory>
     ensures values { IfOk result (λ d. d.values.items ≡ column_directions columns.now) }
     ensures key { IfOk result (λ d. d.key ≡ key_descends columns.now) }
@@ -44,7 +44,7 @@ fn value_directions(alloc: Global, columns: &[Column]) -> Result<Vec<bool>, NoMe
     Ok(values)
 }
 
-/// The row with its place, among columns of these directions. A refusal is want of memory.
+/// The row with its place, among columns of these directions. A refusal means out of memory.
 pub fn placed(
     alloc: Global,
     directions: &Directions,
@@ -65,7 +65,7 @@ pub fn placed(
     Ok(Row { key, values, place })
 }
 
-/// The place of the row of these values and this key, among columns of these directions. A refusal is want of memory.
+/// The place of the row of these values and this key, among columns of these directions. A refusal means out of memory.
 pub fn place_of(
     alloc: Global,
     directions: &[bool],

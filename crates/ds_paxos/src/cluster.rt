@@ -32,7 +32,7 @@ impl Model for Cluster {
 }
 
 impl Cluster {
-    /// Members that heard of nothing. A refusal is want of memory.
+    /// Members that heard of nothing. A refusal means out of memory.
     pub(crate) fn make(alloc: Global, members: u32) -> Result<Cluster, NoMemory>
         ensures { IfOk result (λ c. c ≡ fresh members) }
     {
@@ -149,7 +149,7 @@ impl Cluster {
         next_ballot(self.members.len() as u32, member, above)
     }
 
-    /// What a proposal changes. A refusal is want of memory.
+    /// What a proposal changes. A refusal means out of memory.
     fn proposal(&self, alloc: Global, site: Site, entry: TextString) -> Result<Change, NoMemory>
         requires { site.member < length self.now.members }
         ensures { IfOk result (λ change. (change.instance ≡ begun site.ballot entry (instance_of self.now site.member site.place))
@@ -160,7 +160,7 @@ impl Cluster {
         on_propose(alloc, site, entry, instance)
     }
 
-    /// What a message changes at its member; `None` where it has no effect. A refusal is want of memory.
+    /// What a message changes at its member; `None` where it has no effect. A refusal means out of memory.
     fn outcome(&self, alloc: Global, message: &Message) -> Result<Option<Change>, NoMemory>
         requires members { length self.now.members ≤ 9 }
         requires member { message.now.to < length self.now.members }
@@ -184,7 +184,7 @@ impl Cluster {
         }
     }
 
-    /// Puts another instance at a member, and sends messages. A refusal, which is want of memory, changes nothing.
+    /// Puts another instance at a member, and sends messages. A refusal, which means out of memory, changes nothing.
     fn change(&mut self, member: u32, place: Place, change: Change) -> Result<(), NoMemory>
         requires { member < length self.old.members }
         ensures ok { OnOk result (self.new ≡ changed self.old member place change) }

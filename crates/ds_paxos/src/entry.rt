@@ -22,7 +22,7 @@ impl Model for Entry {
 }
 
 impl Entry {
-    /// The entry of this text, which is moved in. A refusal is want of memory.
+    /// The entry of this text, which is moved in. A refusal means out of memory.
     pub fn new(alloc: Global, text: TextString) -> Result<Entry, NoMemory>
         ensures { IfOk result (λ entry. entry ≡ text) }
     {

@@ -45,7 +45,7 @@ impl Member {
         }
     }
 
-    /// A copy of the instance of this place. A refusal is want of memory.
+    /// A copy of the instance of this place. A refusal means out of memory.
     pub(crate) fn instance(&self, alloc: Global, place: Place) -> Result<Instance, NoMemory>
         ensures { IfOk result (λ instance. instance ≡ instance_in self.now place) }
     {
@@ -75,7 +75,7 @@ impl Member {
         }
     }
 
-    /// Puts each entry that this member holds at the end, by log and position. A refusal, which is want of memory, leaves some there.
+    /// Puts each entry that this member holds at the end, by log and position. A refusal, which means out of memory, leaves some there.
     pub(crate) fn put_holdings<'a>(
         &'a self,
         member: u32,
@@ -97,7 +97,7 @@ impl Member {
         Ok(())
     }
 
-    /// Puts another instance at this place. A refusal, which is want of memory, changes nothing.
+    /// Puts another instance at this place. A refusal, which means out of memory, changes nothing.
     pub(crate) fn put(&mut self, place: Place, instance: Instance) -> Result<(), NoMemory>
         ensures ok { OnOk result (self.new ≡ with_instance self.old place instance) }
         ensures err { OnErr result (self.new ≡ self.old) }

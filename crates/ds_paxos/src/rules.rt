@@ -62,7 +62,7 @@ pub(crate) fn next_ballot(members: u32, member: u32, above: u64) -> Option<u64>
     }
 }
 
-/// One message, to the ballot's proposer. A refusal is want of memory.
+/// One message, to the ballot's proposer. A refusal means out of memory.
 fn answer(alloc: Global, site: Site, content: Content) -> Result<Sequence<Message>, NoMemory>
     requires { site.member < site.members }
     ensures { IfOk result (λ sends. sends ≡ answer site.members site.place site.ballot content) }
@@ -79,7 +79,7 @@ fn answer(alloc: Global, site: Site, content: Content) -> Result<Sequence<Messag
     )
 }
 
-/// The same message to each member. A refusal is want of memory.
+/// The same message to each member. A refusal means out of memory.
 fn to_all(alloc: Global, site: Site, content: &Content) -> Result<Sequence<Message>, NoMemory>
     ensures { IfOk result (λ sends. sends ≡ to_all site.members site.place site.ballot content.now) }
 {
@@ -96,7 +96,7 @@ fn to_all(alloc: Global, site: Site, content: &Content) -> Result<Sequence<Messa
     Ok(Sequence::from(sends))
 }
 
-/// What a proposal changes, whose ballot is the site's. A refusal is want of memory.
+/// What a proposal changes, whose ballot is the site's. A refusal means out of memory.
 pub(crate) fn on_propose(
     alloc: Global,
     site: Site,
@@ -117,7 +117,7 @@ pub(crate) fn on_propose(
     Ok(Change { instance, sends })
 }
 
-/// What a message changes at its member; `None` where it has no effect. A refusal is want of memory.
+/// What a message changes at its member; `None` where it has no effect. A refusal means out of memory.
 pub(crate) fn on_content(
     alloc: Global,
     site: Site,

@@ -44,7 +44,7 @@ pub struct Held<'a> {
 }
 
 impl World {
-    /// A world of 1 to 9 members that heard of nothing. A refusal is want of memory.
+    /// A world of 1 to 9 members that heard of nothing. A refusal means out of memory.
     pub fn make(alloc: Global, members: u32) -> Result<World, NoMemory>
         requires least { 1 ≤ members }
         requires most { members ≤ 9 }
@@ -58,7 +58,7 @@ impl World {
     /// Takes the step of an event. A refusal leaves the world as it was.
     ///
     /// `NoMember`: exactly where the event names a member that there isn't. `NoMessage`: exactly where so many messages weren't sent yet.
-    /// `NoBallot`: exactly where the ballot of a proposal would pass 2^63 - 1. `NoMemory` is want of memory, where none of these holds.
+    /// `NoBallot`: exactly where the ballot of a proposal would pass 2^63 - 1. `NoMemory` means out of memory, where none of these holds.
     /// A delivery takes time by the logarithm of what its member keeps, and a restart as much for each attempt that began at its member
     /// since the last one.
     pub fn step(&mut self, alloc: Global, event: Event) -> Result<(), StepRefused>
@@ -82,7 +82,7 @@ impl World {
         self.cluster.held(member, log, position)
     }
 
-    /// All entries that are held, by member, log and position. A refusal is want of memory.
+    /// All entries that are held, by member, log and position. A refusal means out of memory.
     pub fn holdings(&self, alloc: Global) -> Result<Vec<Held<'_>>, NoMemory>
         ensures { IfOk result (λ list. map (λ h. holding_of h.member h.log h.position h.entry.now) list.items ≡ holdings self.now) }
     {

@@ -23,7 +23,7 @@ pub type Plain = RowPage;
 ///
 /// The rules are those of the Datastore's queries: an entity counts where it has the namespace and the kind, lies under the ancestor and
 /// meets each filter; it has a row for each way to take one indexed value per column; of each result the first row is kept, after the
-/// rows outside of the window's places are dropped. A refusal is want of memory.
+/// rows outside of the window's places are dropped. A refusal means out of memory.
 pub fn answer(
     alloc: Global,
     entities: &Entities,
@@ -73,7 +73,7 @@ fn several(
 }
 
 /// The rows of each branch in the merged columns, with their places there. Where a column is none of the
-/// branch's its value is the least that the branch asks of the property. The lists stand in no order. A refusal is want of memory.
+/// branch's its value is the least that the branch asks of the property. The lists stand in no order. A refusal means out of memory.
 pub fn branch_lists(
     alloc: Global,
     entities: &[&Entity],
@@ -131,7 +131,7 @@ fn single(
 }
 
 /// The rows of a branch between the window's places, after the start and up to the end, each with its place among the branch's
-/// columns. They stand in no order. A refusal is want of memory.
+/// columns. They stand in no order. A refusal means out of memory.
 pub fn rows_between(
     alloc: Global,
     entities: &[&Entity],

@@ -24,7 +24,7 @@ pub(crate) struct Found {
 }
 
 /// The rows of the branch: of each entity that counts one for each way to take one indexed value per column, the first column's value
-/// within the range. They stand in no order that is promised. A refusal is want of memory.
+/// within the range. They stand in no order that is promised. A refusal means out of memory.
 pub(crate) fn found_rows(
     alloc: Global,
     entities: &[&Entity],

@@ -3,6 +3,6 @@ use Rattle.std.specs.Prelude.{ℕ}
 use Rattle.ds_reply.specs.declared.reply.Body.TheVariants as body
 use Rattle.ds_reply.specs.declared.reply.Reply.{Reply}
 
--- the reply of want of memory
+-- the reply of lack of memory
 abbrev pub no_memory_reply : ℕ → ℕ → Reply
 no_memory_reply client number = record { client = client; line = number; body = body.NoMemory }

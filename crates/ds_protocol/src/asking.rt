@@ -27,7 +27,7 @@ pub struct Refused {
 /// requests say of its bytes, and a shard that isn't below the number of shards. A line that is too long is client 0's.
 /// `scratch` is memory that is kept from line to line, and grows to the length of the longest.
 ///
-/// `NoMemory` is want of memory alone; it doesn't tell whose line it is.
+/// `NoMemory` means out of memory alone; it doesn't tell whose line it is.
 pub fn ask(
     alloc: Global,
     shards: u32,

@@ -9,7 +9,7 @@ use ds_log::{Touches, Write, Writes};
 use ds_txn::Txn;
 use std::alloc::Global;
 
-/// The commit of one write outside a transaction, which touched nothing. A refusal is want of memory.
+/// The commit of one write outside a transaction, which touched nothing. A refusal means out of memory.
 pub fn draft_of_write(alloc: Global, client: u32, write: Write) -> Result<Draft, NoMemory>
     ensures { IfOk result (λ d. d ≡ record { client = client; touched = []; writes = write ∷ [] }) }
 {
@@ -17,7 +17,7 @@ pub fn draft_of_write(alloc: Global, client: u32, write: Write) -> Result<Draft,
     Draft::make(alloc, client, Touches::new(alloc), writes)
 }
 
-/// The commit that a transaction asks for: its touched groups and its writes. A refusal is want of memory.
+/// The commit that a transaction asks for: its touched groups and its writes. A refusal means out of memory.
 pub fn draft_of_transaction(alloc: Global, client: u32, txn: &Txn) -> Result<Draft, NoMemory>
     ensures { IfOk result (λ d. d ≡ commit_of client (transaction_of txn.now)) }
 {

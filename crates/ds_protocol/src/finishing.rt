@@ -20,7 +20,7 @@ use std::alloc::Global;
 
 /// What the reply to a search says of a page: what is selected of each row, what was seen, and the cursor of the next place where it was
 /// asked for. The entities are those that were seen, by key; a row's entity is found among them by halving. The keys of the rows are moved,
-/// and an entity shares its properties. A refusal is want of memory.
+/// and an entity shares its properties. A refusal means out of memory.
 pub fn finish(
     alloc: Global,
     search: &Search,
@@ -71,7 +71,7 @@ fn next_cursor(
 }
 
 /// What is told of each row: the entity of its key among these, which stand by key, the key alone, or the key with the values of the
-/// projected columns. The columns are those that the rows are united by. A refusal is want of memory.
+/// projected columns. The columns are those that the rows are united by. A refusal means out of memory.
 fn items(
     alloc: Global,
     columns: &Columns,

@@ -34,7 +34,7 @@ pub fn next_above(path: &[Elem]) -> u64
     next
 }
 
-/// The group of a written key; `None` for an incomplete root, whose id isn't drawn yet. A refusal is want of memory.
+/// The group of a written key; `None` for an incomplete root, whose id isn't drawn yet. A refusal means out of memory.
 pub(crate) fn group_asked(
     alloc: Global,
     key: &Key,

@@ -98,7 +98,7 @@ impl OperationRefused {
 /// What a call asks. Its parts are moved.
 ///
 /// The refusals are those that need neither definitions nor a session: an entity that is too large (`TooLarge`), and a text that is no
-/// statement (`BadGql`). `NoMemory` is want of memory alone.
+/// statement (`BadGql`). `NoMemory` means out of memory alone.
 pub fn operation_of(alloc: Global, call: Call) -> Result<Operation, OperationRefused>
     requires { IsLawfulCall call }
     ensures ok { IfOk result (IsOperationOf call) }

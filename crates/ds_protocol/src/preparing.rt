@@ -39,7 +39,7 @@ pub struct Ready {
 /// The refusals, of which the first that holds is answered: a rule that the query breaks, or more than 30 branches (`BadQuery`,
 /// `TooManySubqueries`); in a transaction a query without an ancestor (`NeedAncestor`); the texts of the start and then of the end that are
 /// no cursors of the query (`BadCursor`, `CursorMismatch`); and what no index serves of the first branch that misses one
-/// (`MissingIndex`). `NoMemory` is want of memory alone.
+/// (`MissingIndex`). `NoMemory` means out of memory alone.
 #[tactic(auto, using(crate::proofs::Refusals::refused_form, crate::proofs::Refusals::suits_several))]
 pub fn prepare(
     alloc: Global,

@@ -18,7 +18,7 @@ use std::alloc::Global;
 
 /// The first refusal of a request that the index definitions, the client's transaction and the request decide, in the order of the table of
 /// refusals; `None` where there is none, and for a search, whose refusals `prepare` tells. Those that the journal and the id counter decide
-/// come after it. `NoMemory` is want of memory alone. Nothing is owned while it is made.
+/// come after it. `NoMemory` means out of memory alone. Nothing is owned while it is made.
 pub fn refusal_of(
     alloc: Global,
     defs: &Defs,

@@ -35,7 +35,7 @@ pub struct Search {
 }
 
 /// What a query or a statement searches for. The parts of a query are moved; a statement is read, in the namespace of its request, and
-/// its cursors work as a query's. `BadGql` comes exactly where its text is no statement; `NoMemory` is want of memory, and what any other
+/// its cursors work as a query's. `BadGql` comes exactly where its text is no statement; `NoMemory` means out of memory, and what any other
 /// call is told, which is none.
 pub(crate) fn search_of(alloc: Global, call: Call) -> Result<Search, OperationRefused>
     requires { IsLawfulCall call }

@@ -76,7 +76,7 @@ impl OpenTransaction {
         self.open.as_ref()?.place(group)
     }
 
-    /// Makes room for a touch and a write behind it, where there is a transaction. A refusal is want of memory and changes nothing.
+    /// Makes room for a touch and a write behind it, where there is a transaction. A refusal means out of memory and changes nothing.
     pub fn make_room(&mut self) -> Result<(), NoMemory>
         ensures same { self.new.transaction ≡ self.old.transaction }
         ensures room { OnOk result (IsTrue (is_some self.new.transaction) → 0 < self.new.room) }

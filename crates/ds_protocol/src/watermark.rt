@@ -31,7 +31,7 @@ impl Model for Watermark {
 }
 
 impl Watermark {
-    /// Nothing seen of so many shards: the id counter is the first drawn id. A refusal is want of memory.
+    /// Nothing seen of so many shards: the id counter is the first drawn id. A refusal means out of memory.
     pub fn first(alloc: Global, shards: u32) -> Result<Watermark, NoMemory>
         ensures { IfOk result (λ w. w ≡ first_session shards) }
     {

@@ -10,7 +10,7 @@ use ds_base::{NoMemory, TextString};
 use ds_paxos::Event;
 use std::alloc::Global;
 
-/// The event of a line; `None` where the line leaves the form. A refusal is want of memory.
+/// The event of a line; `None` where the line leaves the form. A refusal means out of memory.
 pub(crate) fn event_of(alloc: Global, line: &[u8]) -> Result<Option<Event>, NoMemory>
     ensures value { IfOk result (λ found. found ≡ event_of line.now) }
     ensures form { IfOk result (λ found. IfSome found (λ event. IsTrue (is_well_formed event))) }

@@ -11,7 +11,7 @@ use ds_io::Sink;
 use ds_paxos::{Held, World};
 use std::alloc::Global;
 
-/// What all members hold, a line an entry. A refusal is want of memory.
+/// What all members hold, a line an entry. A refusal means out of memory.
 pub(crate) fn text_of(alloc: Global, world: &World) -> Result<Vec<u8>, NoMemory>
     ensures { IfOk result (λ text. text.items ≡ world_text world.now) }
 {
@@ -23,7 +23,7 @@ pub(crate) fn text_of(alloc: Global, world: &World) -> Result<Vec<u8>, NoMemory>
     Ok(text)
 }
 
-/// Puts the line of an entry at the end. A refusal, which is want of memory, leaves some of it there.
+/// Puts the line of an entry at the end. A refusal, which means out of memory, leaves some of it there.
 fn put_line(alloc: Global, held: &Held<'_>, text: &mut Vec<u8>) -> Result<(), NoMemory>
     ensures { let h = held.now in OnOk result (text.new.items
         ≡ text.old.items ++ holding_line (holding_of h.member h.log h.position h.entry.now)) }

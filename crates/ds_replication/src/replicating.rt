@@ -17,7 +17,7 @@ use std::alloc::Global;
 ///
 /// `Usage`: exactly where the words aren't one digit from 1 to 9; then nothing is read. `InputLimit`: exactly where 67,108,864 bytes were
 /// taken. `Script`: at the first line that leaves the form, or whose event can't happen. `ReadFault` and `WriteFault`: only where the count
-/// of faults of the input or of the output rose. `NoMemory` is want of memory. They are looked for in this order: words, input, script,
+/// of faults of the input or of the output rose. `NoMemory` means out of memory. They are looked for in this order: words, input, script,
 /// output. Nothing is written but with `Done`, and with `WriteFault` a beginning of it.
 pub fn replicate<I: Source, O: Sink>(
     alloc: Global,

@@ -10,7 +10,7 @@ use ds_entity::{Entity, Property};
 use ds_json_printing::{Growing, Output, write_comma, write_key, write_text, write_values};
 use std::alloc::AllocError;
 
-/// Puts an entity at the end of `onto`, as a reply shows it: one JSON object in compact text. A refusal is want of memory, and leaves
+/// Puts an entity at the end of `onto`, as a reply shows it: one JSON object in compact text. A refusal means out of memory, and leaves
 /// the bytes as they were.
 pub fn append_entity(entity: &Entity, onto: &mut Buffer) -> Result<(), NoMemory>
     ensures ok { OnOk result (onto.new.bytes ≡ onto.old.bytes ++ compact_text (entity_data entity.now)) }

@@ -7,7 +7,7 @@ use ds_base::NoMemory;
 use std::alloc::Global;
 
 /// The lines of a text without their newlines; `None` exactly where something stands behind the last newline. It is linear in the text. A
-/// refusal is want of memory.
+/// refusal means out of memory.
 pub fn whole_lines(alloc: Global, text: &[u8]) -> Result<Option<Vec<&[u8]>>, NoMemory>
     ensures { IfOk result (λ found. option_map (λ lines. map (λ line. line.now) lines.items) found ≡ whole_lines text.now) }
 {

@@ -18,7 +18,7 @@ pub struct Members {
 }
 
 impl Members {
-    /// Those of a line; of a line that isn't JSON nothing is told. A refusal is want of memory.
+    /// Those of a line; of a line that isn't JSON nothing is told. A refusal means out of memory.
     pub fn of(alloc: Global, line: &[u8]) -> Result<Members, NoMemory>
         ensures { IfOk result (λ m. (d : Data) → line_data line.now ≡ Some d → told_by m ≡ d) }
     {
@@ -47,7 +47,7 @@ impl Members {
         self.value.get(name)?.as_bool()
     }
 
-    /// The natural numbers in the member of this name, which is an array of such. A refusal is want of memory.
+    /// The natural numbers in the member of this name, which is an array of such. A refusal means out of memory.
     pub fn numbers(&self, alloc: Global, name: &str) -> Result<Option<Vec<u64>>, NoMemory>
         ensures { IfOk result (λ found. option_map (λ ns. ns.items) found ≡ numbers_at name.now (told_by self.now)) }
     {

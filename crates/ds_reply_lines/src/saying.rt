@@ -8,7 +8,7 @@ use ds_reply::{Body, Reply, write_reply};
 use std::alloc::Global;
 
 /// The body, where the line is the reply of this body to that client's line of this number; `None` exactly where it isn't. A refusal is
-/// want of memory.
+/// lack of memory.
 pub fn says(
     alloc: Global,
     client: u32,

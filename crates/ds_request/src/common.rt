@@ -21,7 +21,7 @@ const MAX_DEPTH: usize = 127;
 /// How many bytes a line has at most that is read here.
 const MAX_COMMON_BYTES: usize = 512;
 
-/// The request of a line of a common form; none where it has no such form, or for want of memory.
+/// The request of a line of a common form; none where it has no such form, or when out of memory.
 pub(crate) fn read_common(alloc: Global, line: &[u8], scratch: &mut Scratch) -> Option<Request>
     ensures { IfSome result (λ r. (request_of line.now ≡ Ok r) × IsLawfulCall r.call) }
 {

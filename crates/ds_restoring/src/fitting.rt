@@ -18,7 +18,7 @@ pub enum Unfit {
     NoMemory,
 }
 
-/// Counts the rows of each put of a journal. It refuses exactly where a put has more than 20,000, or for want of memory. It is linear in
+/// Counts the rows of each put of a journal. It refuses exactly where a put has more than 20,000, or when out of memory. It is linear in
 /// the journal.
 pub fn check_rows(alloc: Global, defs: &Defs, journal: &[Commit]) -> Result<(), Unfit>
     requires { length journal.now < 2 ^ 62 }

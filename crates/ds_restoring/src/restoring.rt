@@ -41,7 +41,7 @@ pub struct Ready<J: Names, H: Wait + Drop> {
 }
 
 /// Makes a store of what was opened, whose names these are, with the kept journal and the kept id counter, and lets the sessions begin
-/// behind them. A refusal is want of memory, or comes where the journal has more than 2^48 commits.
+/// behind them. A refusal means out of memory, or comes where the journal has more than 2^48 commits.
 pub fn restore<J: Names, R: Wait, H: Wait + Drop>(
     rt: &R,
     alloc: Global,
@@ -135,7 +135,7 @@ struct Loaded<J: Names, H: Wait + Drop> {
     tail: Tail<J>,
 }
 
-/// Shares a loaded store. The pass that loaded it stands apart from the others. A refusal is want of memory.
+/// Shares a loaded store. The pass that loaded it stands apart from the others. A refusal means out of memory.
 fn share_apart<J: Names, H: Wait + Drop>(
     loading: Loading<J, H>,
 ) -> Result<(Loaded<J, H>, Passes<J>), NoMemory>
@@ -161,7 +161,7 @@ struct Clients<J: Names> {
 }
 
 /// What a run begins with over a store, of which these are passes. The clients begin behind this place and this id counter, and there is
-/// room for their passes and one more. A refusal is want of memory.
+/// room for their passes and one more. A refusal means out of memory.
 fn begin_clients<J: Names, R: Wait, H: Wait + Drop>(
     rt: &R,
     alloc: Global,
@@ -212,7 +212,7 @@ fn begin_with_room<J: Names>(
     Ok(begun)
 }
 
-/// The last of these passes, and the others. A refusal is want of memory.
+/// The last of these passes, and the others. A refusal means out of memory.
 fn last_apart<J: Names>(passes: Passes<J>) -> Result<(Pass<J>, Passes<J>), NoMemory>
     ensures { IfOk result (λ parts. passes ≡ parts.1 ++ parts.0 ∷ []) }
 {

@@ -40,7 +40,7 @@ impl Model for Rounds {
 }
 
 impl Rounds {
-    /// A reader that has read nothing. A refusal is want of memory.
+    /// A reader that has read nothing. A refusal means out of memory.
     pub fn make(alloc: Global) -> Result<Rounds, AllocError>
         ensures { IfOk result (λ reader. reader ≡ first_reader) }
     {
@@ -58,7 +58,7 @@ impl Rounds {
     ///
     /// `None` comes exactly where the input has ended and no line is left, and again with each later call. `ReadFault`: exactly
     /// where a read of this call failed. `InputLimit`: exactly where `MAX_INPUT_BYTES` were taken in all calls and no round
-    /// of them is left; the end isn't asked for. `NoMemory`: want of memory, which doesn't come once so many bytes were taken.
+    /// of them is left; the end isn't asked for. `NoMemory`: lack of memory, which doesn't come once so many bytes were taken.
     ///
     /// A refused round is lost. After a refusal each further call is refused and reads nothing: with `InputLimit` where the
     /// limit is reached, and else with `NoMemory`.

@@ -49,7 +49,7 @@ pub(crate) fn indexed_counts(alloc: Global, properties: &[Property]) -> Result<V
 }
 
 /// The values that the indexes hold of the entity's property of this name, each once, ascending; none where it has no such property.
-/// One pass over the properties. A refusal is want of memory.
+/// One pass over the properties. A refusal means out of memory.
 pub fn indexed_values(
     alloc: Global,
     entity: &Entity,

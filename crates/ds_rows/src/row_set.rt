@@ -77,7 +77,7 @@ impl Model for RowWriter {
 
 impl RowWriter {
     /// No row, with room for so many rows of so many bytes each, which fewer or shorter ones leave unused and more outgrow.
-    /// Refused: want of memory.
+    /// Refused: lack of memory.
     pub(crate) fn with_room(alloc: Global, rows: usize, each: usize) -> Result<RowWriter, NoMemory>
         ensures { IfOk result (λ w. w ≡ record { rows = []; begun = [] }) }
     {

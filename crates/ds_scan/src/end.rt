@@ -8,7 +8,7 @@ use ds_base::ByteString;
 use std::alloc::{AllocError, Global};
 
 /// The least string above all that begin with the prefix; `None` exactly where there is none, as all its bytes are 255. So the
-/// rows that begin with a prefix are those from the prefix up to but without this end. Refused: want of memory.
+/// rows that begin with a prefix are those from the prefix up to but without this end. Refused: lack of memory.
 pub fn end_of_prefix(alloc: Global, prefix: &[u8]) -> Result<Option<ByteString>, AllocError>
     ensures value { IfOk result (λ end. end ≡ prefix_end prefix.now) }
     ensures parts { IfOk result (λ end. (row : List ℕ) → AreBytes row → in_range prefix.now end row ≡ begins_with prefix.now row) }

@@ -16,7 +16,7 @@ use ds_rows::fronts::{put_all_front, put_composite_front, put_kind_front, put_pr
 use std::alloc::Global;
 
 /// What the rows of a planned scan begin with: their index in the branch's namespace and kind, the scan's ancestor, and its
-/// values, each in the direction of its column. Refused: want of memory.
+/// values, each in the direction of its column. Refused: lack of memory.
 pub(crate) fn scan_prefix(
     alloc: Global,
     branch: &Branch,

@@ -16,7 +16,7 @@ use ds_rows::Tables;
 use std::alloc::Global;
 
 /// The scans of the plan over the tables at the stamp, one for each planned scan: of the rows that begin with what it is bound to what
-/// follows, from where the branch's rows stand up to where they end. Refused: want of memory.
+/// follows, from where the branch's rows stand up to where they end. Refused: lack of memory.
 pub fn scans_of<'a, T: Tables>(
     alloc: Global,
     tables: &'a T,

@@ -110,7 +110,7 @@ ends_at_once how words content s left held journal unsent run set_up same_status
       written = all_wrote held held [] (Appends-nil held);
     })))
 
--- a run that ran no round, for want of memory
+-- a run that ran no round, when out of memory
 pub nothing_ran : (setting : Setting) (left held : Option (List ℕ)) (reads writes : ℕ) (run : Run) → run.status ≡ status.NoMemory
     → run.journal ≡ Some [] → run.unsent ≡ [] → IsRunOf setting left left held held reads reads writes writes run
 nothing_ran setting left held reads writes run no_memory empty all_sent = record {

@@ -31,7 +31,7 @@ taken read (Some l) (Some r) whole told = omega (arith, ap (λ (bs : List ℕ). 
 rose : (old new : ℕ) → new ≡ next_count old → Rose old new
 rose old new is = subst (Rose old) (sym is) (Rose-next_count old)
 
--- with no fault and below the limit a run that began ends well or for want of memory
+-- with no fault and below the limit a run that began ends well or when out of memory
 pub complete : (how : Status) (left rest : Option (List ℕ)) (in_old in_new out_old out_new : ℕ) → HasBegun how
     → (how ≡ status.InputLimit → HasTaken most_input_bytes left rest) → in_new ≡ read_faults how in_old
     → out_new ≡ write_faults how out_old → IsBelow most_input_bytes left → IsSteady in_old in_new → IsSteady out_old out_new

@@ -23,7 +23,7 @@ pub struct Begun<J: Names> {
 }
 
 /// What a run begins with, of a store with so many shards, whose passes these are: the clients have the last sixteen of them, and appliers
-/// the others. A refusal is want of memory.
+/// the others. A refusal means out of memory.
 pub fn begin<J: Names>(alloc: Global, shards: u32, passes: Passes<J>) -> Result<Begun<J>, NoMemory>
     requires enough { greatest_client + 1 ≤ length passes }
     requires new { All (λ p. p ≡ nothing_seen shards) passes }

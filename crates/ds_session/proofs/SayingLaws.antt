@@ -64,7 +64,7 @@ quiet-draws read b is = draws_nothing read b (by b is) where
 
 -- ---- what is said of a request
 
--- what is said to a request isn't want of memory, or it is and nothing changes
+-- what is said to a request isn't lack of memory, or it is and nothing changes
 pub body_asked : (w : World) (s : Session) (read : Result Request (ℕ × Body)) (said : Body) → AskedAnswers w s read said s
     → BodyAnswers w s read said s
 body_asked w s read body.NoMemory a = refl

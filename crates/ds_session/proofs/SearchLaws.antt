@@ -109,7 +109,7 @@ found_answers w s later (call.Query namespace kind ancestor filters orders selec
 found_answers w s later (call.Gql namespace text args names start end cursor) search places selected results saw told is a = a
 found_answers w s later _ search places selected results saw told is a = cc
 
--- what was found is no want of memory
+-- what was found is no lack of memory
 found_body : (w : World) (s later : Session) (r : Request) (statement : Bool) (selected : Select) (results : List Item) (saw : Seen)
     (told : Option (List ℕ))
     → AskedAnswers w s (Ok r) (found statement selected results saw told) later

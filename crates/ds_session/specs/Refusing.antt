@@ -9,7 +9,7 @@ use Rattle.ds_model.specs.Sessions.{Session}
 use Rattle.ds_model.specs.Worlds.{World}
 use Rattle.ds_protocol.specs.Refused.{is_quiet}
 
--- whatever the journal, it is said to what was read from the line, and nothing changes; or it is want of memory
+-- whatever the journal, it is said to what was read from the line, and nothing changes; or it means out of memory
 pub record IsRefusedWith (definitions : List IndexDef) (shards : ℕ) (s : Session) (read : Result Request (ℕ × Body)) (refusal : Body) :
     Type 0 where
   pub quiet : is_quiet refusal ≡ true

@@ -27,7 +27,7 @@ use ds_store::{Expired, GetRefused, Got, Names, Pass, Store};
 use std::alloc::Global;
 use std::sync::Wait;
 
-/// The group of a key, and its shard. A refusal is want of memory.
+/// The group of a key, and its shard. A refusal means out of memory.
 pub(crate) fn group_and_shard(alloc: Global, key: &Key, shards: u32) -> Result<(Key, u32), NoMemory>
     requires { (1 ≤ shards) × (shards ≤ most_shards) }
     ensures group { IfOk result (λ both. both.0 ≡ root_of key.now) }

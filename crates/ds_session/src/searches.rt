@@ -251,7 +251,7 @@ impl<J: Names> State<J> {
 }
 
 /// What a query finds over all shards. Where they are asked at once, in threads as far as there are any, no steps are counted. A refusal is
-/// want of memory.
+/// lack of memory.
 fn query<J: Names, R: Threads + Sync, H: Wait + Drop, L: Ledger>(
     rt: &R,
     store: &Store<J, H>,

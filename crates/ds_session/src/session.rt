@@ -55,7 +55,7 @@ impl<J: Names> Model for Session<J> {
 
 impl<J: Names> Session<J> {
     /// A session of a client, 0 to 15, that has seen nothing, with room for replies to so many lines that there was no memory. A refusal is
-    /// want of memory, and hands the pass back.
+    /// lack of memory, and hands the pass back.
     pub fn make(
         alloc: Global,
         pass: Pass<J>,

@@ -170,7 +170,7 @@ impl<J: Names> State<J> {
     }
 }
 
-/// The commit that the transaction asks for, once there is room to tell it; `None` where there is no transaction, or for want of memory.
+/// The commit that the transaction asks for, once there is room to tell it; `None` where there is no transaction, or when out of memory.
 fn prepared(
     alloc: Global,
     client: u32,
@@ -194,7 +194,7 @@ fn prepared(
     }
 }
 
-/// The touched group of this turn; `None` where there is none, or for want of memory.
+/// The touched group of this turn; `None` where there is none, or when out of memory.
 fn group_at(alloc: Global, draft: &Draft, turn: u32) -> Option<Key>
     ensures { IfSome result (λ group. IsTouchedAs draft.now.touched turn group) }
 {

@@ -45,7 +45,7 @@ struct PreparedNew {
     key: Key,
 }
 
-/// The commit of a write, and its reply, for which there is then room. A refusal is want of memory.
+/// The commit of a write, and its reply, for which there is then room. A refusal means out of memory.
 fn prepare_commit(
     alloc: Global,
     client: u32,
@@ -66,7 +66,7 @@ fn prepare_commit(
     Ok(Prepared { draft, body })
 }
 
-/// The commit of a put with a new id, and the key that its reply tells, for which there is then room. A refusal is want of memory.
+/// The commit of a put with a new id, and the key that its reply tells, for which there is then room. A refusal means out of memory.
 fn prepare_new(
     alloc: Global,
     client: u32,

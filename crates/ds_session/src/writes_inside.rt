@@ -174,7 +174,7 @@ impl<J: Names> State<J> {
     }
 }
 
-/// The group of a key, with room in the transaction to touch it and to take a write. A refusal is want of memory.
+/// The group of a key, with room in the transaction to touch it and to take a write. A refusal means out of memory.
 fn group_with_room(
     alloc: Global,
     key: &Key,
@@ -197,7 +197,7 @@ struct NewPut {
 }
 
 /// Takes all memory for a put whose id isn't drawn yet: in the transaction, for its group, and for its reply, with the greatest id and
-/// place. A refusal is want of memory.
+/// place. A refusal means out of memory.
 fn prepare_new(
     alloc: Global,
     client: u32,

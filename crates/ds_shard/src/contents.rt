@@ -79,7 +79,7 @@ impl Contents {
         self.entities.seen_at(at, key)
     }
 
-    /// Does the writes in turn at the stamp. A refusal, which is want of memory, leaves some of them done.
+    /// Does the writes in turn at the stamp. A refusal, which means out of memory, leaves some of them done.
     fn write_all(&mut self, stamp: u64, writes: &[Write]) -> Result<(), NoMemory>
         requires { AreKept stamp self.old }
         ensures entities { OnOk result (self.new.entities ≡ fold (written stamp) self.old.entities writes.now) }
@@ -94,7 +94,7 @@ impl Contents {
     }
 
     /// Does one write at the stamp: the current entity of its key ends there with its rows, and a put begins one with its rows. A
-    /// refusal, which is want of memory, leaves a part of it done.
+    /// refusal, which means out of memory, leaves a part of it done.
     fn write(&mut self, stamp: u64, write: &Write) -> Result<(), NoMemory>
         requires { AreKept stamp self.old }
         ensures entities { OnOk result (self.new.entities ≡ written stamp self.old.entities write.now) }
@@ -140,7 +140,7 @@ impl Contents {
         self.entities.begin(self.alloc, entity, stamp)
     }
 
-    /// Does the writes in turn at the stamp, above all that were given. A refusal, which is want of memory, changes nothing that
+    /// Does the writes in turn at the stamp, above all that were given. A refusal, which means out of memory, changes nothing that
     /// contracts of a shard see.
     pub(crate) fn absorb(&mut self, stamp: u64, writes: &[Write]) -> Result<(), NoMemory>
         requires kept { AreKept stamp self.old }

@@ -73,7 +73,7 @@ impl EntityVersions {
         end_in(&mut self.by_key, key, stamp);
     }
 
-    /// Begins a version at the stamp, by which each one of its key has ended. A refusal, which is want of memory, changes nothing.
+    /// Begins a version at the stamp, by which each one of its key has ended. A refusal, which means out of memory, changes nothing.
     pub(crate) fn begin(
         &mut self,
         alloc: Global,

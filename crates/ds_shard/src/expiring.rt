@@ -43,7 +43,7 @@ impl Expiring {
         }
     }
 
-    /// Notes that a version of this key ended at the stamp, by which all others ended. A refusal is want of memory.
+    /// Notes that a version of this key ended at the stamp, by which all others ended. A refusal means out of memory.
     pub(crate) fn push(&mut self, key: Key, stamp: u64) -> Result<(), NoMemory>
         requires { AreBy stamp self.old }
         ensures noted { OnOk result (self.new ≡ self.old ++ record { stamp = stamp; key = key } ∷ []) }

@@ -31,7 +31,7 @@ pub(crate) fn close_rows(table: &mut Table, rows: &RowSet, stamp: u64)
     }
 }
 
-/// Adds the rows, which aren't alive, at the stamp. A refusal, which is want of memory, leaves some of them added.
+/// Adds the rows, which aren't alive, at the stamp. A refusal, which means out of memory, leaves some of them added.
 pub(crate) fn add_rows(table: &mut Table, rows: &RowSet, stamp: u64) -> Result<(), NoMemory>
     requires not_alive { Each (λ row. IsFalse (has_alive row (versions table.old))) rows.now }
     requires once { IsOnce rows.now }

@@ -81,7 +81,7 @@ impl Shard {
 
     /// Absorbs the next entry, of fewer than 2^62: at the next stamp the rows of replaced and deleted entities are closed and those
     /// of put entities are added, and then the versions are taken out, with their entities and rows, that no stamp of the window
-    /// sees any more. A refusal, which is want of memory, changes nothing.
+    /// sees any more. A refusal, which means out of memory, changes nothing.
     ///
     /// It takes time by the rows of the entities that are written, old and new; their properties are shared with the entry.
     pub fn absorb(&mut self, entry: &Entry) -> Result<(), NoMemory>

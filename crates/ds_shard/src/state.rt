@@ -21,7 +21,7 @@ pub struct ShardState {
 
 impl ShardState {
     /// The two copies of a shard that has absorbed no entry, with these definitions and a window of 1 to 65,536 stamps. A refusal is
-    /// want of memory.
+    /// lack of memory.
     pub fn make_both(
         alloc: Global,
         defs: &Defs,

@@ -140,7 +140,7 @@ impl VersionList {
         end_last(&mut self.items, stamp);
     }
 
-    /// Begins a version at the stamp, by which each one has ended. A refusal, which is want of memory, changes nothing.
+    /// Begins a version at the stamp, by which each one has ended. A refusal, which means out of memory, changes nothing.
     pub(crate) fn begin(
         &mut self,
         alloc: Global,
@@ -181,7 +181,7 @@ impl VersionList {
     }
 }
 
-/// Makes room for the first version alone: most entities are never written again. A refusal is want of memory.
+/// Makes room for the first version alone: most entities are never written again. A refusal means out of memory.
 fn make_room(items: &mut VecDeque<Kept>) -> Result<(), NoMemory>
     ensures { items.new.items ≡ items.old.items }
 {

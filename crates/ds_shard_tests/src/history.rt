@@ -12,7 +12,7 @@ use std::marker::Brand;
 use std::sync::ledger::{Blank, Ledger};
 use std::test::Fail;
 
-/// Absorbs what a commit writes, and where it is refused for want of memory, which changes nothing, once more.
+/// Absorbs what a commit writes, and where it is refused when out of memory, which changes nothing, once more.
 fn absorb(alloc: Global, shard: &mut Shard, written: &Written) -> Result<(), Fail>
     requires { shard.old.count < 2 ^ 62 }
     ensures count { OnOk result (shard.new.count ≡ shard.old.count + 1) }

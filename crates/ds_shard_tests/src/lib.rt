@@ -10,7 +10,7 @@
 //!
 //! `counts` says how many rows an entity has, `rows` what they are, byte for byte, and `tables` has tables without an entity. `history`
 //! says what a shard stands for at every stamp that it keeps, after puts, replacements and deletes, also where an entry was refused for
-//! want of memory before, and `state` has the two copies of it that a hub keeps. `parts` and `made` make keys, properties, definitions and
+//! lack of memory before, and `state` has the two copies of it that a hub keeps. `parts` and `made` make keys, properties, definitions and
 //! entries, and `look` looks at a shard.
 #![tactic(auto)]
 

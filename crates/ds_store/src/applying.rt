@@ -20,7 +20,7 @@ const MOST_AT_ONCE: u64 = 64;
 
 impl<J: Names, H: Wait + Drop> Store<J, H> {
     /// Applies the next entry of a shard, below the number of shards: `moved` says whether, at the place that it looked at, the shard's
-    /// list was longer than its count. A refusal is want of memory.
+    /// list was longer than its count. A refusal means out of memory.
     pub fn apply_one<R: Wait>(
         &self,
         rt: &R,
@@ -36,7 +36,7 @@ impl<J: Names, H: Wait + Drop> Store<J, H> {
     }
 
     /// Applies the next entries of a shard, at most 64 at once, unless another thread works on the shard: what an applier asks, which then
-    /// goes on to another shard. `None` tells of such a thread, or of want of memory. It may also come without a cause: who is told it
+    /// goes on to another shard. `None` tells of such a thread, or of lack of memory. It may also come without a cause: who is told it
     /// by all shards asks `apply_one`, which waits.
     pub fn apply_if_free<R: Wait>(&self, rt: &R, pass: &mut Pass<J>, shard: u32) -> Option<Applied>
         requires { shard < self.now.shards }
@@ -67,7 +67,7 @@ impl<J: Names, H: Wait + Drop> Store<J, H> {
         apply_known(rt, pass, desk, most)
     }
 
-    /// Applies all entries up to a place. A refusal is want of memory; it may then have applied some.
+    /// Applies all entries up to a place. A refusal means out of memory; it may then have applied some.
     pub fn settle<R: Wait>(&self, rt: &R, pass: &mut Pass<J>) -> Result<Settled, NoMemory>
         ensures settled { IfOk result (λ s. HasSettled self.now.shards pass.old pass.new s.place s.counts s.commit) }
         ensures read { OnErr result (HasRead pass.old pass.new) }

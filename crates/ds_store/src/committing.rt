@@ -15,7 +15,7 @@ use std::sync::Wait;
 impl<J: Names, H: Wait + Drop> Store<J, H> {
     /// Appends the draft as the next commit, and gives its number. Each touch place is at most the pass's place, and each id of 2^52 or
     /// more in a written key is below its id counter. It is refused where it conflicts, with the first touched group that a commit
-    /// after its touch place wrote; or else for want of memory, or where the journal has 2^48 commits. A refusal records nothing, and
+    /// after its touch place wrote; or else when out of memory, or where the journal has 2^48 commits. A refusal records nothing, and
     /// hands the draft back.
     pub fn commit<R: Wait>(
         &self,
@@ -42,7 +42,7 @@ impl<J: Names, H: Wait + Drop> Store<J, H> {
 
     /// Draws the next id, makes it the last identifier of the key of the draft's one put, and appends that as the next commit, all at
     /// once. The draft touched nothing, and its key ends in an id; each other id of 2^52 or more in the key is below the pass's id
-    /// counter. It is refused where no id is left, or else for want of memory, or where the journal has 2^48 commits. A refusal draws
+    /// counter. It is refused where no id is left, or else when out of memory, or where the journal has 2^48 commits. A refusal draws
     /// and records nothing, and hands the draft back.
     pub fn commit_new<R: Wait>(
         &self,

@@ -66,7 +66,7 @@ impl<J: Names, H: Wait + Drop> Model for Loading<J, H> {
 }
 
 impl<J: Names, H: Wait + Drop> Loading<J, H> {
-    /// Makes an empty store of what was opened, whose names these are. The last of its passes loads it. A refusal is want of memory.
+    /// Makes an empty store of what was opened, whose names these are. The last of its passes loads it. A refusal means out of memory.
     pub fn make(alloc: Global, opened: Opened<H>) -> Result<Loading<J, H>, NoMemory>
         requires names { AreNamesOf opened J.journal J.shards J.commits J.ids J.definitions J.window }
         requires begun { AreBegun opened }
@@ -148,7 +148,7 @@ impl<J: Names, H: Wait + Drop> Loading<J, H> {
     }
 
     /// Appends the draft as the next commit. Its touch places are at most the number of commits so far, no later commit wrote one of its
-    /// groups, and each id of 2^52 or more in a written key is below the counter: so it has no conflict. A refusal is want of memory, or
+    /// groups, and each id of 2^52 or more in a written key is below the counter: so it has no conflict. A refusal means out of memory, or
     /// comes where there are 2^48 commits, and changes nothing.
     pub fn commit<R: Wait>(&mut self, rt: &R, draft: Draft) -> Result<(), NoMemory>
         requires committed { IsCommitted self.old.journal draft }
@@ -217,7 +217,7 @@ impl<J: Names, H: Wait + Drop> Loading<J, H> {
     }
 }
 
-/// The last of these passes, and the others with room for it. A refusal is want of memory.
+/// The last of these passes, and the others with room for it. A refusal means out of memory.
 fn last_apart<J: Names>(passes: Passes<J>) -> Result<(Pass<J>, Vec<Pass<J>>), NoMemory>
     ensures apart { IfOk result (λ parts. passes ≡ parts.1.items ++ parts.0 ∷ []) }
     ensures room { IfOk result (λ parts. length parts.1.items < vec_capacity parts.1) }

@@ -29,7 +29,7 @@ pub struct Made<J: Names, H: Wait + Drop> {
     pub passes: Passes<J>,
 }
 
-/// Makes a store of what was opened, whose names these are. A refusal is want of memory.
+/// Makes a store of what was opened, whose names these are. A refusal means out of memory.
 pub fn make<J: Names, H: Wait + Drop>(
     alloc: Global,
     opened: Opened<H>,

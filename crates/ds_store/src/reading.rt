@@ -17,7 +17,7 @@ impl<J: Names, H: Wait + Drop> Store<J, H> {
     /// The entity of a key: outside a transaction as all commits up to a new place leave it, which is no lower than the pass's, and inside
     /// one, where `at` is the group's touch place, as the commits up to there leave it. `at` is not above the pass's place. `Expired`
     /// comes only with `at`, where so many entries are applied that the window doesn't reach back to those up to the place. Else a
-    /// refusal is want of memory, or that the shard's hub has ended.
+    /// refusal means out of memory, or that the shard's hub has ended.
     pub fn get<R: Wait>(
         &self,
         rt: &R,

@@ -30,7 +30,7 @@ impl<J: Names, H: Wait + Drop> Store<J, H> {
     /// shards' lists begin with those that the pass has then seen, as that of a close does. The steps are within the bounds of all branches
     /// over all shards, where a query of one branch asks each shard for as many results as it skips or takes, and one for each entity that
     /// is given. `MissingIndex` comes exactly where a branch has no plan, and tells what the first such branch misses. Else a refusal is
-    /// want of memory, or that a hub has ended.
+    /// lack of memory, or that a hub has ended.
     pub fn query<L: Ledger>(
         &self,
         pass: &mut Pass<J>,

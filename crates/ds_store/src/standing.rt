@@ -16,7 +16,7 @@ impl<J: Names, H: Wait + Drop> Store<J, H> {
     /// Applies a shard's entries up to a place, and enters the shard for the pass; where there is an entry of later commits, it stays
     /// waiting. The place is the given one, and else that of all commits that the shard's desk knows, which are no fewer than the pass
     /// has seen. The place is taken and the shard entered while the shard's lock is held, so that without a given place nothing is
-    /// published between the two. A refusal is want of memory, or that the shard's hub has ended.
+    /// published between the two. A refusal means out of memory, or that the shard's hub has ended.
     pub(crate) fn stand<R: Wait>(
         &self,
         rt: &R,
@@ -52,7 +52,7 @@ impl<J: Names, H: Wait + Drop> Store<J, H> {
     }
 
     /// Lets a shard's desk know at least so many commits: it looks at the journal where it knows fewer, or where it is to look anyway.
-    /// `Err` is want of memory; then it knows what it knew.
+    /// `Err` means out of memory; then it knows what it knew.
     pub(crate) fn catch_up<R: Wait>(
         &self,
         rt: &R,

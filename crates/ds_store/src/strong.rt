@@ -30,7 +30,7 @@ impl<J: Names, H: Wait + Drop> Store<J, H> {
     /// What a query with an ancestor finds in the ancestor's group. It stands where a get of the group would, and is `Expired` just as
     /// one. The steps are within the bounds of all branches over that shard, and one for each entity that is given, of which an expiry
     /// gives none. `MissingIndex` comes exactly where a branch has no plan, and tells what the first such branch misses. Else a refusal is
-    /// want of memory, or that the shard's hub has ended.
+    /// lack of memory, or that the shard's hub has ended.
     pub fn strong_query<R: Wait, L: Ledger>(
         &self,
         rt: &R,

@@ -20,7 +20,7 @@ use std::sync::Wait;
 
 impl<J: Names, H: Wait + Drop> Store<J, H> {
     /// The commits above `from`, which is not above the pass's place, up to the journal's length, and the id counter, in one hold of
-    /// the journal's lock: each id of 2^52 or more in a written key is below it. A refusal is want of memory.
+    /// the journal's lock: each id of 2^52 or more in a written key is below it. A refusal means out of memory.
     pub fn commits_after<R: Wait>(
         &self,
         rt: &R,

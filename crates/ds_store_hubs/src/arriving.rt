@@ -17,7 +17,7 @@ use std::sync::Wait;
 /// So many entries of a shard are never reached: a journal has at most 2^48 commits of at most 500 writes.
 const MOST_ENTRIES: u64 = 1 << 61;
 
-/// The entries that the commits behind the first `from` give a shard, in their order. A refusal is want of memory.
+/// The entries that the commits behind the first `from` give a shard, in their order. A refusal means out of memory.
 pub fn later_entries(
     alloc: Global,
     journal: &[Commit],
@@ -61,10 +61,10 @@ pub fn take_in(waiting: &mut VecDeque<Entry>, commits: &mut ShardCommits, entrie
     }
 }
 
-/// Publishes what is pending and so many of the entries that wait, the first ones. A refusal is want of memory; it may then have published
+/// Publishes what is pending and so many of the entries that wait, the first ones. A refusal is lack of memory; it may then have published
 /// what was pending, and added some.
 ///
-/// Behind an entry that is kept aside for want of memory none is added, so what is pending is then published first.
+/// Behind an entry that is kept aside when out of memory none is added, so what is pending is then published first.
 pub fn publish_waiting<R: Wait>(
     rt: &R,
     waiting: &mut VecDeque<Entry>,
@@ -83,7 +83,7 @@ pub fn publish_waiting<R: Wait>(
     writer.publish(rt)
 }
 
-/// Publishes what is pending where the last of it is kept aside. A refusal is want of memory, and publishes nothing.
+/// Publishes what is pending where the last of it is kept aside. A refusal means out of memory, and publishes nothing.
 fn publish_parked<R: Wait>(rt: &R, writer: &mut Writer<Entry, ShardState>) -> Result<(), NoMemory>
     ensures same { (writer.new.hub ≡ writer.old.hub) × (writer.new.start ≡ writer.old.start) }
     ensures kept { writer.new.published ++ writer.new.pending ≡ writer.old.published ++ writer.old.pending }
@@ -94,7 +94,7 @@ fn publish_parked<R: Wait>(rt: &R, writer: &mut Writer<Entry, ShardState>) -> Re
     writer.publish(rt)
 }
 
-/// Adds so many of the entries that wait to what is pending, the first ones. A refusal is want of memory; it may then have added some.
+/// Adds so many of the entries that wait to what is pending, the first ones. A refusal means out of memory; it may then have added some.
 fn add_waiting(
     waiting: &mut VecDeque<Entry>,
     writer: &mut Writer<Entry, ShardState>,

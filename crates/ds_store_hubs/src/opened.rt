@@ -109,7 +109,7 @@ impl<H: Wait + Drop> Model for Opened<H> {
 }
 
 /// Opens all hubs and words of a store: shards from 1 to 16, passes from 1 to 26, and a window of 1 to 65,536 stamps. Nothing is
-/// published, and nothing drawn. `handle` is what ends the hubs where the store is dropped without a close. A refusal is want of memory.
+/// published, and nothing drawn. `handle` is what ends the hubs where the store is dropped without a close. A refusal means out of memory.
 pub fn open<R: Wait, H: Wait + Drop + Copy>(
     rt: &R,
     handle: H,

@@ -23,7 +23,7 @@ pub struct SeatRoom {
 }
 
 impl SeatRoom {
-    /// Room for the seats of so many passes. A refusal is want of memory.
+    /// Room for the seats of so many passes. A refusal means out of memory.
     pub fn for_passes(alloc: Global, passes: u32) -> Result<SeatRoom, NoMemory>
         ensures { IfOk result (λ room. room.passes ≡ passes) }
     {

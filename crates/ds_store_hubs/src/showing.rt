@@ -50,7 +50,7 @@ pub fn see_shard_in<R: Wait>(
     slot.learn(writer.tell());
 }
 
-/// Tells one commit more to the readers of the journal. It says whether it did; it didn't for want of memory, and nothing is changed.
+/// Tells one commit more to the readers of the journal. It says whether it did; it didn't when out of memory, and nothing is changed.
 pub fn tell<X, M: Tells<X, Commit>, R: Wait>(
     rt: &R,
     writer: &mut Writer<(), JournalState>,

@@ -17,7 +17,7 @@ use std::sync::Wait;
 
 impl<J: Names, H: Wait + Drop> JournalDesk<J, H> {
     /// The commits above `from`, which is not above the pass's place, up to the journal's length, and the id counter: each id of 2^52 or
-    /// more in a written key is below it. A refusal is want of memory.
+    /// more in a written key is below it. A refusal means out of memory.
     pub fn hand_out<R: Wait>(
         &mut self,
         rt: &R,

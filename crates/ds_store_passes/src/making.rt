@@ -21,7 +21,7 @@ use std::sync::Wait;
 /// The passes of a store.
 pub type Passes<J> = Sequence<Pass<J>>;
 
-/// So many passes, each with a reader of each hub and a seat on each word. A refusal is want of memory.
+/// So many passes, each with a reader of each hub and a seat on each word. A refusal means out of memory.
 pub fn all_passes<J: Names, H: Wait + Drop>(
     alloc: Global,
     readers: &mut Vec<Reader<(), JournalState>>,

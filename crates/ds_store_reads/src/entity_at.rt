@@ -15,7 +15,7 @@ use std::alloc::Global;
 use std::sync::ledger::Ledger;
 
 /// The entity of a key at a stamp that the shard keeps, if there is one: as many of the shard's entries as the stamp says leave it. It
-/// is a copy, which shares the properties. It takes one step. A refusal is want of memory.
+/// is a copy, which shares the properties. It takes one step. A refusal means out of memory.
 pub(crate) fn entity_at<L: Ledger>(
     alloc: Global,
     shard: &Shard,

@@ -31,7 +31,7 @@ pub enum Found {
     Gone(Expired),
 }
 
-/// Looks a key up in the shard that was entered, at the stamp of so many entries, and leaves. A refusal is want of memory, or that the
+/// Looks a key up in the shard that was entered, at the stamp of so many entries, and leaves. A refusal means out of memory, or that the
 /// shard wasn't entered.
 pub fn look_up<J: Names>(
     pass: &mut Pass<J>,

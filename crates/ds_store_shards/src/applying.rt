@@ -12,7 +12,7 @@ use ds_store_passes::{Applied, Pass};
 use std::sync::Wait;
 
 /// Applies the next entries of a shard, `most` at most, whose desk knows no fewer commits than the pass has seen and stands at. A refusal
-/// is want of memory.
+/// means out of memory.
 pub fn apply_known<J: Names, H: Wait + Drop, R: Wait>(
     rt: &R,
     pass: &mut Pass<J>,
@@ -42,7 +42,7 @@ pub fn apply_known<J: Names, H: Wait + Drop, R: Wait>(
     })
 }
 
-/// Applies a shard's entries up to a place, of which its desk knows all commits. A refusal is want of memory; it may then have applied
+/// Applies a shard's entries up to a place, of which its desk knows all commits. A refusal means out of memory; it may then have applied
 /// some.
 pub fn settle_known<J: Names, H: Wait + Drop, R: Wait>(
     rt: &R,

@@ -15,7 +15,7 @@ use std::collections::VecDeque;
 use std::marker::PhantomData;
 use std::sync::{Mutex, Wait};
 
-/// What lies under the lock of each shard, by number. A refusal is want of memory.
+/// What lies under the lock of each shard, by number. A refusal means out of memory.
 pub fn shard_desks<J: Names, H: Wait + Drop>(
     alloc: Global,
     opened: Vec<OpenedShard<H>>,

@@ -47,7 +47,7 @@ pub struct ShardDesk<J: Names, H: Wait + Drop> {
 
 impl<J: Names, H: Wait + Drop> ShardDesk<J, H> {
     /// Takes the entries of all commits of the journal that it hasn't seen yet, to be applied later: the journal's writer tells them.
-    /// `Err` is want of memory, and takes none.
+    /// `Err` means out of memory, and takes none.
     pub fn fetch<R: Wait>(
         &mut self,
         rt: &R,
@@ -121,7 +121,7 @@ impl<J: Names, H: Wait + Drop> ShardDesk<J, H> {
         self.writer.writer.confirm_note(rt, &note);
     }
 
-    /// Applies the entries up to the `count`-th; those behind them stay waiting. `Err` is want of memory; it may then have applied some.
+    /// Applies the entries up to the `count`-th; those behind them stay waiting. `Err` means out of memory; it may then have applied some.
     pub fn apply_up_to<R: Wait>(&mut self, rt: &R, count: u64) -> Result<(), NoMemory>
         requires { count ≤ length (shard_list self.old.journal.known self.old.number self.old.shards) }
         ensures same { (self.new.number ≡ self.old.number) × (self.new.shards ≡ self.old.shards) × (self.new.journal ≡ self.old.journal) }
@@ -136,7 +136,7 @@ impl<J: Names, H: Wait + Drop> ShardDesk<J, H> {
     }
 
     /// Applies the next entries that wait, if there are any, and says whether there were: `most` at most. What a call before added and
-    /// couldn't publish is published first, and isn't counted. `Err` is want of memory; then none that waits is applied.
+    /// couldn't publish is published first, and isn't counted. `Err` means out of memory; then none that waits is applied.
     pub fn apply_next<R: Wait>(&mut self, rt: &R, most: u64) -> Result<bool, NoMemory>
         requires { 1 ≤ most }
         ensures same { (self.new.number ≡ self.old.number) × (self.new.shards ≡ self.old.shards) × (self.new.journal ≡ self.old.journal) }
@@ -156,7 +156,7 @@ impl<J: Names, H: Wait + Drop> ShardDesk<J, H> {
     }
 }
 
-/// Publishes what is pending. A refusal is want of memory, and publishes nothing.
+/// Publishes what is pending. A refusal means out of memory, and publishes nothing.
 fn publish_pending<R: Wait>(rt: &R, writer: &mut Writer<Entry, ShardState>) -> Result<(), NoMemory>
     ensures same { (writer.new.hub ≡ writer.old.hub) × (writer.new.start ≡ writer.old.start) }
     ensures kept { writer.new.published ++ writer.new.pending ≡ writer.old.published ++ writer.old.pending }

@@ -21,7 +21,7 @@ pub struct Stand {
 
 /// Applies a shard's entries up to a place, and enters the shard for the pass; where there is an entry of later commits, it stays
 /// waiting. The place is the given one, and else that of all commits that the shard's desk knows, which are no fewer than the pass
-/// has seen and stands at: then these are all entries that the pass has seen of the shard. A refusal is want of memory, or that the
+/// has seen and stands at: then these are all entries that the pass has seen of the shard. A refusal means out of memory, or that the
 /// shard's hub has ended.
 pub fn stand_known<J: Names, H: Wait + Drop, R: Wait>(
     rt: &R,

@@ -15,7 +15,7 @@ use std::alloc::{AllocError, Global};
 const HALF: usize = MOST_VERSIONS / 2;
 
 /// The block with room in which a row's place is, behind the versions of the row itself. A full block is split before, and the
-/// first block is made. A refusal, which is want of memory, changes nothing.
+/// first block is made. A refusal, which means out of memory, changes nothing.
 pub fn block_to_add(alloc: Global, blocks: &mut Vec<Block>, row: &[u8]) -> Result<usize, AllocError>
     requires ordered { IsOrdered (joined blocks.old.items) }
     requires spaced { IsSpaced blocks.old.items }

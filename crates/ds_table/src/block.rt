@@ -54,7 +54,7 @@ pub struct Found {
 }
 
 impl Block {
-    /// A block without versions, with room for all that it may have. Refused: want of memory.
+    /// A block without versions, with room for all that it may have. Refused: lack of memory.
     pub fn new(alloc: Global) -> Result<Block, AllocError>
         ensures { IfOk result (λ b. b ≡ []) }
     {
@@ -225,7 +225,7 @@ impl Block {
         let _to = self.tos.remove(i);
     }
 
-    /// Moves the versions from this place on into a block of their own. A refusal, which is want of memory, changes nothing.
+    /// Moves the versions from this place on into a block of their own. A refusal, which means out of memory, changes nothing.
     pub fn split(&mut self, alloc: Global, i: usize) -> Result<Block, AllocError>
         requires { i ≤ length self.old }
         ensures parts { IfOk result (λ rest. (self.new ≡ take i self.old) × (rest ≡ drop i self.old)) }

@@ -40,7 +40,7 @@ impl Model for Rows {
 }
 
 impl Rows {
-    /// No rows, with room for all that there may be. Refused: want of memory.
+    /// No rows, with room for all that there may be. Refused: lack of memory.
     pub fn new(alloc: Global) -> Result<Rows, AllocError>
         ensures { IfOk result (λ r. r ≡ []) }
     {
@@ -116,7 +116,7 @@ impl Rows {
         let _head = self.heads.remove(i);
     }
 
-    /// Moves the rows from this place on into a list of their own. A refusal, which is want of memory, changes nothing.
+    /// Moves the rows from this place on into a list of their own. A refusal, which means out of memory, changes nothing.
     pub fn split(&mut self, alloc: Global, i: usize) -> Result<Rows, AllocError>
         requires place { i ≤ length self.old }
         requires few { length self.old ≤ 256 }
@@ -159,7 +159,7 @@ impl Rows {
     }
 }
 
-/// The elements of a column from this place on, in a column with room for 256. Refused: want of memory.
+/// The elements of a column from this place on, in a column with room for 256. Refused: lack of memory.
 pub fn copy_behind(alloc: Global, column: &[u64], i: usize) -> Result<Vec<u64>, AllocError>
     requires place { i ≤ length column.now }
     requires few { length column.now ≤ 256 }
@@ -171,7 +171,7 @@ pub fn copy_behind(alloc: Global, column: &[u64], i: usize) -> Result<Vec<u64>, 
     Ok(rest)
 }
 
-/// Moves the rows from this place on into a list with room for 256. A refusal, which is want of memory, changes nothing.
+/// Moves the rows from this place on into a list with room for 256. A refusal, which means out of memory, changes nothing.
 fn move_behind(
     alloc: Global,
     rows: &mut Vec<ByteString>,

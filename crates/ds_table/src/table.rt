@@ -120,7 +120,7 @@ impl Table {
         self.blocks.as_slice()
     }
 
-    /// Adds a row, which isn't alive, at the stamp: it is seen from there on. A refusal, which is want of memory, changes nothing.
+    /// Adds a row, which isn't alive, at the stamp: it is seen from there on. A refusal, which means out of memory, changes nothing.
     pub fn add(&mut self, row: &[u8], stamp: u64) -> Result<(), AllocError>
         requires not_alive { IsFalse (has_alive row.now (versions self.old)) }
         requires not_before { self.old.last ≤ stamp }

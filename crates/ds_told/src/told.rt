@@ -59,7 +59,7 @@ impl Told {
         }
     }
 
-    /// Notes what one more reply tells, to a request that draws such ids. A refusal, which is want of memory, may leave a part noted.
+    /// Notes what one more reply tells, to a request that draws such ids. A refusal, which means out of memory, may leave a part noted.
     pub fn note(&mut self, draws: Draws, body: &Body) -> Result<(), NoMemory>
         requires { CanBeDrawn draws body.now }
         ensures commits { OnOk result (self.new.commits ≡ self.old.commits ++ acknowledged_in body.now) }

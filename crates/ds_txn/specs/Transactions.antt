@@ -55,6 +55,6 @@ touch_refusal t (Some g) = cond (is_touched g t.touched) None (new_group_refusal
 abbrev pub write_refusal : TxnParts → Option WriteCause
 write_refusal t = cond (nat_le most_writes (length t.writes)) (Some TooManyWrites) None
 
--- the answer to a write: that refusal, or where there is none want of memory
+-- the answer to a write: that refusal, or where there is none lack of memory
 abbrev pub IsWriteAnswer : Option WriteCause → Option WriteCause → Type 0
 IsWriteAnswer refusal cause = (cause ≡ refusal) ⊎ ((refusal ≡ None) × (cause ≡ Some NoMemory))

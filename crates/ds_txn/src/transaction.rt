@@ -112,7 +112,7 @@ impl Txn {
         })
     }
 
-    /// Makes room, so that the next `touch`, and the next `put` or `delete`, are not refused for want of memory. A refusal
+    /// Makes room, so that the next `touch`, and the next `put` or `delete`, are not refused when out of memory. A refusal
     /// changes nothing.
     pub fn make_room(&mut self) -> Result<(), NoMemory>
         ensures several { self.new.several_groups ≡ self.old.several_groups }
@@ -126,7 +126,7 @@ impl Txn {
     }
 
     /// Touches the group of this root key, and gives its touch place: `place`, or the one that it has where it was touched
-    /// before. A refusal is the one that `may_touch` answers, or want of memory, which doesn't come where there is room, and
+    /// before. A refusal is the one that `may_touch` answers, or lack of memory, which doesn't come where there is room, and
     /// changes nothing.
     pub fn touch(&mut self, group: Key, place: u64) -> Result<u64, TxnRefused>
         ensures place { IfOk result (λ m. m ≡ unwrap_or (touch_place group self.old.touched) place) }

@@ -31,7 +31,7 @@ struct Numbers {
 /// `--appliers N` (one or two digits, 0 to 8) and `--window N` (one to five digits, 1 to 65,536). A value isn't empty and
 /// doesn't begin with `-`.
 ///
-/// `Usage`: exactly where the words leave that form, so for `--help` and `--` too. `NoMemory`: want of memory for the name of
+/// `Usage`: exactly where the words leave that form, so for `--help` and `--` too. `NoMemory`: lack of memory for the name of
 /// the file, where they are in it.
 pub fn read_words(alloc: Global, words: &[String]) -> Result<Options, WordsRefused>
     ensures read { IfOk result (λ options. options_of (map string_bytes words.now) ≡ Some options) }

@@ -31,7 +31,7 @@ pub struct WorkerPool<C: Drop, K: Handling<C>> {
 }
 
 impl<C: Drop, K: Handling<C>> WorkerPool<C, K> {
-    /// Slots for so many workers, beside the thread that runs the rounds. A refusal is want of memory. No clause says how many
+    /// Slots for so many workers, beside the thread that runs the rounds. A refusal means out of memory. No clause says how many
     /// there are: a pool with fewer handles the same clients, some of them in the thread that runs the rounds.
     pub fn make(
         alloc: Global,

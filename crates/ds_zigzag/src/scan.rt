@@ -28,7 +28,7 @@ pub trait Scan {
 
     /// The first of its strings that isn't below `at_least`; `None` where there is none. It changes neither of its
     /// lists. It takes a step, and at most one more for each passed string that isn't below `at_least` and not above the
-    /// string given; a refusal, which is want of memory, takes no more than `None` would.
+    /// string given; a refusal, which means out of memory, takes no more than `None` would.
     ///
     /// Whoever implements it shows too, where it isn't refused, that its strings ascend, each above the one before it,
     /// and that its passed strings don't fall. It is free to keep where it stands and to begin there, since no clause

@@ -111,7 +111,7 @@ fn keep_first(found: &mut Option<Value>, value: Value)
 }
 
 /// Reads properties by name; none where the member is absent. An object of 2^32 properties or more, for which a line has no
-/// room, is refused as want of memory.
+/// room, is refused as out of memory.
 fn read_properties(alloc: Global, given: Option<Value>) -> Result<Properties, Refusal>
     ensures read { Reads Refusal.NoMemory (defaulted [] properties_of (option_map view given)) result }
     ensures lawful { IfOk result ArePut }
