@@ -29,7 +29,7 @@ DESIGN, THEOREM, PROMISES, PROTOCOL = "docs/design.md", "docs/theorem.md", "docs
 # How many words each page may have. A page that isn't here is a fault.
 MOST_WORDS = {
     "README.md": 1_070, "CHANGELOG.md": 1_000, "CONTRIBUTING.md": 1_680, "docs/python.md": 4_800, PROTOCOL: 4_000, "docs/tools.md": 2_150, DESIGN: 2_350,
-    THEOREM: 2_550, PROMISES: 2_200, "docs/DECISIONS.md": 2_750, "docs/measurements.md": 1_000,
+    THEOREM: 2_550, PROMISES: 2_200, "docs/DECISIONS.md": 2_800, "docs/measurements.md": 1_000,
 }
 MOST_TERMS = 15
 LIMITS = "crates/ds_base/specs/Limits.antt"
@@ -370,7 +370,7 @@ WRONG = [
     (PROMISES, "There are 1 mutants, in `must-fail` of 1 crates.", "mutants, in"),
     ("CONTRIBUTING.md", "A `forgotten_helper_of_old` does it.", "stands nowhere"),
     ("docs/DECISIONS.md", "One is said. Another one follows it.", "two sentences"),
-    ("docs/DECISIONS.md", "word " * 2_500, "and may have 2750"),
+    ("docs/DECISIONS.md", "word " * 2_500, "and may have 2800"),
 ]
 
 
