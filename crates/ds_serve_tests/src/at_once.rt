@@ -1,7 +1,7 @@
 //! Clients of a round, and an applier, at once.
 ghost use Rattle.std.specs.Prelude.{None};
 
-use crate::serving::{ONE_SHARD, STEADY, is_text, run_with, served, sink, source};
+use crate::serving::{ONE_SHARD, STEADY, is_text, joined, run_with, served, sink, source};
 use ds_io::{Failed, Gate, NoGate, Sink, Source};
 use ds_serve::Status;
 use std::alloc::{AllocError, Global};
@@ -55,6 +55,69 @@ fn meets<R: Threads + Wait + Sync>(rt: &R, alloc: Global) -> Result<bool, AllocE
     };
     let run = run_with(rt, alloc, &ONE_SHARD, &mut input, &mut output, &gate)?;
     Ok(run.status == Status::Done && gate.has_met.load(Ordering::SeqCst))
+}
+
+/// Holds each answer until so many clients are held at once, or so many turns have passed, and counts those that saw the others.
+#[derive(Drop)]
+struct Meeting {
+    wanted: u64,
+    held: AtomicU64,
+    met: AtomicU64,
+}
+
+impl Gate for Meeting {
+    fn before(&self, _client: u32, _line: u64) {
+        self.held.fetch_add(1, Ordering::SeqCst);
+        for _ in 0..TURNS {
+            if self.held.load(Ordering::SeqCst) >= self.wanted {
+                self.met.fetch_add(1, Ordering::SeqCst);
+                return;
+            }
+            thread::yield_now();
+        }
+    }
+
+    fn after(&self, _client: u32, _line: u64) {}
+}
+
+/// A line of each of sixteen clients.
+const LINES: [&[u8]; 16] = [
+    b"{\"op\":\"begin\"}\n",
+    b"{\"op\":\"begin\",\"client\":1}\n",
+    b"{\"op\":\"begin\",\"client\":2}\n",
+    b"{\"op\":\"begin\",\"client\":3}\n",
+    b"{\"op\":\"begin\",\"client\":4}\n",
+    b"{\"op\":\"begin\",\"client\":5}\n",
+    b"{\"op\":\"begin\",\"client\":6}\n",
+    b"{\"op\":\"begin\",\"client\":7}\n",
+    b"{\"op\":\"begin\",\"client\":8}\n",
+    b"{\"op\":\"begin\",\"client\":9}\n",
+    b"{\"op\":\"begin\",\"client\":10}\n",
+    b"{\"op\":\"begin\",\"client\":11}\n",
+    b"{\"op\":\"begin\",\"client\":12}\n",
+    b"{\"op\":\"begin\",\"client\":13}\n",
+    b"{\"op\":\"begin\",\"client\":14}\n",
+    b"{\"op\":\"begin\",\"client\":15}\n",
+];
+
+/// Whether so many clients, each with a line of one round, are answered at once, with eight appliers beside them.
+fn all_meet<R: Threads + Wait + Sync>(
+    rt: &R,
+    alloc: Global,
+    clients: usize,
+) -> Result<bool, AllocError> {
+    let text = joined(alloc, &LINES, clients)?;
+    let mut input = source(alloc, text.as_slice(), STEADY)?;
+    let mut output = sink(alloc, STEADY)?;
+    let wanted = clients as u64;
+    let gate = Meeting {
+        wanted,
+        held: AtomicU64::new(0),
+        met: AtomicU64::new(0),
+    };
+    let words = ["--shards", "4", "--appliers", "8"];
+    let run = run_with(rt, alloc, &words, &mut input, &mut output, &gate)?;
+    Ok(run.status == Status::Done && gate.met.load(Ordering::SeqCst) == wanted)
 }
 
 /// Two transactions that read and write one group, begun in one round and committed in the next.
@@ -185,6 +248,9 @@ fn applies<R: Threads + Wait + Sync>(rt: &R, alloc: Global) -> Result<bool, Allo
 #[test]
 fn clients_and_an_applier_work_at_once(rt: HostRuntime) -> Result<(), Fail> {
     assert!(rt; meets(&rt, rt.alloc())?);
+    for clients in [3_usize, 8, 16] {
+        assert!(rt; all_meet(&rt, rt.alloc(), clients)?);
+    }
     assert!(rt; one_commits(&rt, rt.alloc(), 200)?);
     assert!(rt; applies(&rt, rt.alloc())?);
     Ok(())
