@@ -33,8 +33,8 @@ abbrev pub WereFirst : ℕ → Bool → List ℕ → List (List NumberedLine) �
 WereFirst n ended read rounds =
     (length rounds ≡ n) × ((behind : List (List NumberedLine)) × AreFirst rounds behind (rounds_in ended 1 read))
 
--- The rounds that were run: by the status of the server as there. Where a run ends at the cut, for too many rows or when out of memory, they
--- are the first n rounds, and there was no cut.
+-- The rounds that were run: by the status of the server as there. Where a run ends at the cut, for too many rows or when out of memory,
+-- they are the first n rounds, and there was no cut.
 abbrev pub WereRunCut : CutStatus → Option ℕ → ℕ → Bool → List ℕ → List (List NumberedLine) → Type 0
 WereRunCut (cut.Served how) cut_at n ended read rounds =
     WereRun how ended read rounds ⊎ ((how ≡ status.NoMemory) × (cut_at ≡ None) × WereFirst n ended read rounds)
@@ -47,8 +47,8 @@ IsCut (cut.Served how) n many = StoppedPast how n many
 IsCut (cut.NextFile line) n many = ⊥
 IsCut (cut.TooManyRows commit count) n many = ⊥
 
--- How many rounds were run where there was none: fewer than n, or n where the last one's replies weren't all taken, or where the run ends at
--- the cut, for too many rows or when out of memory.
+-- How many rounds were run where there was none: fewer than n, or n where the last one's replies weren't all taken, or where the run ends
+-- at the cut, for too many rows or when out of memory.
 abbrev pub IsUncut : CutStatus → ℕ → ℕ → Type 0
 IsUncut (cut.Served status.NoMemory) n many = many ≤ n
 IsUncut (cut.Served how) n many = StoppedWithin how n many
@@ -87,10 +87,11 @@ WasSetUpCut (cut.Served how) rounds set_up = WasSetUp how rounds set_up
 WasSetUpCut (cut.NextFile line) rounds set_up = ⊤
 WasSetUpCut (cut.TooManyRows commit count) rounds set_up = set_up
 
--- The bytes written, with the unsent rest, are the replies of one legal run, over the journal, of the rounds that were run, whose definitions
--- change behind the first n rounds: first those that these words and the file that they name set up, and then those of the second file. The
--- bytes that were read are those that the source had in front of what it has left, and all that it had where its end was met. Where there was
--- a cut, it tells how many commits the first n rounds made, and none of these has too many rows under the second definitions.
+-- The bytes written, with the unsent rest, are the replies of one legal run, over the journal, of the rounds that were run, whose
+-- definitions change behind the first n rounds: first those that these words and the file that they name set up, and then those of the
+-- second file. The bytes that were read are those that the source had in front of what it has left, and all that it had where its end was
+-- met. Where there was a cut, it tells how many commits the first n rounds made, and none of these has too many rows under the second
+-- definitions.
 pub record IsLegalCutRun (words : List (List ℕ)) (file : List ℕ) (n : ℕ) (content : List ℕ → Option (List ℕ)) (how : CutStatus) (cut_at : Option ℕ)
     (left rest : Option (List ℕ)) (journal : List Commit) (old new : Option (List ℕ)) (unsent : List ℕ) : Type 0 where
   pub read : List ℕ

@@ -9,8 +9,8 @@ pub record CutWordsParts : Type 0 where
   pub after : ℕ
   pub words : List (List ℕ)
 
--- `--next`, the name of a file, which is a value as an option's is, `--after` and a number of one to four digits, 1 to 9,999; and then the words
--- of the server
+-- `--next`, the name of a file, which is a value as an option's is, `--after` and a number of one to four digits, 1 to 9,999; and then
+-- the words of the server
 abbrev pub cut_form : List (List ℕ) → Option CutWordsParts
 cut_form (next ∷ file ∷ after ∷ number ∷ words) =
     cond (bytes_eq next (codes "--next") && is_value file && bytes_eq after (codes "--after"))

@@ -4,8 +4,8 @@
 //! before the cut; `cutting` brings clients from the first store to the second one, which was fed with the commits of the first
 //! (`ds_feeding`); `later` serves the rounds behind the cut. `words` reads the words, `outcome` holds what a run gives.
 //!
-//! In `specs/`, `LegalCut` says what a legal run is over which the definitions change, `CutRuns` what a run of this server is, and `CutWords`
-//! what its words are.
+//! In `specs/`, `LegalCut` says what a legal run is over which the definitions change, `CutRuns` what a run of this server is, and
+//! `CutWords` what its words are.
 #![tactic(auto)]
 
 mod cutting;

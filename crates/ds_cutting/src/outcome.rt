@@ -14,8 +14,8 @@ pub enum CutStatus {
     Served(Status),
     /// The second index file leaves its form, first at this line.
     NextFile { line: u64 },
-    /// Under the second file's definitions the commit with this number has a put with more than 20,000 index rows: so many has the first such
-    /// put, or 2^63 - 1 where it has more. No round was run behind the cut.
+    /// Under the second file's definitions the commit with this number has a put with more than 20,000 index rows: so many has the first
+    /// such put, or 2^63 - 1 where it has more. No round was run behind the cut.
     TooManyRows { commit: u64, count: u64 },
 }
 

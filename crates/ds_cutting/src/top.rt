@@ -24,25 +24,25 @@ use std::marker::Brand;
 use std::sync::Wait;
 use std::thread::Threads;
 
-/// Serves one run whose index definitions change behind round N. The words are `--next FILE --after N`, and then those of a server. It serves
-/// rounds 1 to N as `ds_serve::serve` does, by the definitions of the server's index file, and beside them feeds their commits to a second
-/// store, whose definitions are those of FILE. Then clients go over: the second store is fed what is left, each session goes on with a pass of
-/// it that has seen no less, open transactions go on, the first store is closed, and later rounds are served by the second one. With fewer
-/// rounds there is no cut.
+/// Serves one run whose index definitions change behind round N. The words are `--next FILE --after N`, and then those of a server. It
+/// serves rounds 1 to N as `ds_serve::serve` does, by the definitions of the server's index file, and beside them feeds their commits to
+/// a second store, whose definitions are those of FILE. Then clients go over: the second store is fed what is left, each session goes on
+/// with a pass of it that has seen no less, open transactions go on, the first store is closed, and later rounds are served by the second
+/// one. With fewer rounds there is no cut.
 ///
 /// The main theorem is `legal`: whatever the schedule, and whatever the source, the sink, the files and the gate do, the bytes that were
-/// written in this call, followed by the unsent ones, are the replies of one legal run of the rounds that were run, over one journal, which is
-/// given: those of the first N rounds under the first file's definitions, and those of later rounds under the second's. It also says which
-/// rounds were run by how the run ended; that `cut` tells how many commits the first N rounds made, where there was a cut, and none where the
-/// replies of round N weren't all taken; and when there are too many rows. There is a journal with every status.
+/// written in this call, followed by the unsent ones, are the replies of one legal run of the rounds that were run, over one journal,
+/// which is given: those of the first N rounds under the first file's definitions, and those of later rounds under the second's. It also
+/// says which rounds were run by how the run ended; that `cut` tells how many commits the first N rounds made, where there was a cut, and
+/// none where the replies of round N weren't all taken; and when there are too many rows. There is a journal with every status.
 ///
 /// How a run ends, and when:
 ///
 /// - as `serve` does (`Served`), with its causes; `Usage` exactly where the words leave their form, those of the server included, and
 ///   `FileFault` exactly where one of both files failed to load, which its count tells;
 /// - `NextFile`: the second file's text leaves its form, first at this line; it is looked for behind all that is looked for of the first;
-/// - `TooManyRows`: at the cut, exactly where a put of the first N rounds has more than 20,000 index rows under the second definitions; it tells
-///   the first such commit, with the rows of its first such put. No later round is run.
+/// - `TooManyRows`: at the cut, exactly where a put of the first N rounds has more than 20,000 index rows under the second definitions;
+///   it tells the first such commit, with the rows of its first such put. No later round is run.
 ///
 /// Where the words have their form, both files are told to have theirs, the input tells that it is below the limit and no count of faults
 /// rose, the run ends `Done`, `NoMemory` or `TooManyRows` (`complete`).

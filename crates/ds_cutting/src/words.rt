@@ -17,8 +17,8 @@ pub struct CutWords<'a> {
     pub rest: &'a [String],
 }
 
-/// Takes the words apart: exactly `--next FILE --after N`, in four words and in front of all others. FILE isn't empty and doesn't begin with
-/// `-`, and N has one to four digits. There are none where the words leave that form; the form of the others isn't looked at.
+/// Takes the words apart: exactly `--next FILE --after N`, in four words and in front of all others. FILE isn't empty and doesn't begin
+/// with `-`, and N has one to four digits. There are none where the words leave that form; the form of the others isn't looked at.
 pub fn cut_words(words: &[String]) -> Option<CutWords<'_>>
     ensures { MatchOption result (cut_form (map string_bytes words.now) ≡ None)
         (λ cut. cut_form (map string_bytes words.now)

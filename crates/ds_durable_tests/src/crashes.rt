@@ -55,8 +55,8 @@ fn is_done<R: Threads + Wait + Sync>(
     }
 }
 
-/// Whether a run is done of which the call of the disk of this number fails; none where it doesn't end as it has to, or leaves an image that
-/// it must not.
+/// Whether a run is done of which the call of the disk of this number fails; none where it doesn't end as it has to, or leaves an image
+/// that it must not.
 fn ends_well<R: Threads + Wait + Sync>(
     rt: &R,
     alloc: Global,

@@ -83,8 +83,8 @@ fn commit_in(alloc: Global, number: u64, line: &[u8]) -> Result<Commit, JournalR
     }
 }
 
-/// The commit with this number whose text the line, given without its newline, is; `None` exactly where it is the text of none. A refusal is
-/// lack of memory. It is linear in the line.
+/// The commit with this number whose text the line, given without its newline, is; `None` exactly where it is the text of none. A refusal
+/// is lack of memory. It is linear in the line.
 pub fn read_commit(alloc: Global, number: u64, line: &[u8]) -> Result<Option<Commit>, NoMemory>
     ensures { IfOk result (LineIs number line.now) }
 {

@@ -1,5 +1,5 @@
-//! The program: the real input, output and files, and the top call of `ds_cutting`, where its theorem stands. It serves rounds 1 to N by one
-//! index file, and later rounds by a second one.
+//! The program: the real input, output and files, and the top call of `ds_cutting`, where its theorem stands. It serves rounds 1 to N by
+//! one index file, and later rounds by a second one.
 //!
 //! It passes on the words of the command line, and ends with the number of the run's status, which it also names on standard
 //! error.
