@@ -5,6 +5,8 @@ ghost use Rattle.ds_workers.specs.Marks.{last_of};
 use crate::handling::{Handler, Handling};
 use crate::marks::Mark;
 use std::marker::{Model, PhantomData};
+use std::sync::Wait;
+use std::thread::Threads;
 
 /// A client that is handed over, with the mark of the history that ends in it.
 #[derive(Drop)]
@@ -72,7 +74,11 @@ impl<C: Drop, K: Handling<C>> Job<C, K> {
     }
 
     /// Has the client handled.
-    pub(crate) fn run<A: Handler<C, K>>(self, handler: &A) -> Handled<C, K>
+    pub(crate) fn run<R: Threads + Wait + Sync, A: Handler<C, K>>(
+        self,
+        rt: &R,
+        handler: &A,
+    ) -> Handled<C, K>
         ensures { result.mark ≡ self.mark }
     {
         let Job {
@@ -80,7 +86,7 @@ impl<C: Drop, K: Handling<C>> Job<C, K> {
             mark,
             handling: _,
         } = self;
-        handler.handle(&mut client);
+        handler.handle(rt, &mut client);
         Handled {
             client,
             mark,

@@ -1,5 +1,9 @@
 //! What is said of the clients that workers handle, and who handles them.
 ghost use Rattle.std.specs.Prelude.{◌≡◌, false};
+ghost use denote.Param.Send.{IsSync};
+
+use std::sync::Wait;
+use std::thread::Threads;
 
 /// What handling is to contracts. A type that implements it is a tag: it has no bytes, and each pool is of one.
 pub trait Handling<C> {
@@ -21,7 +25,8 @@ pub trait Handler<C, K: Handling<C>> {
         ensures { result ≡ false → K.handled client.now client.now };
 
     /// Handles the client.
-    fn handle(&self, client: &mut C)
-        requires { K.is_ready client.old }
+    fn handle<R: Threads + Wait + Sync>(&self, rt: &R, client: &mut C)
+        requires ready { K.is_ready client.old }
+        requires shared { IsSync R.row }
         ensures { K.handled client.old client.new };
 }

@@ -21,4 +21,3 @@ mod slot;
 pub use handling::{Handler, Handling};
 pub use marks::History;
 pub use pool::{WorkerPool, with_workers};
-pub use std::alloc::AllocError as NoMemory;

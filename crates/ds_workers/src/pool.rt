@@ -5,7 +5,6 @@ ghost use denote.Param.Send.{IsSend, IsSync};
 ghost use Rattle.ds_workers.specs.Marks.{last_of};
 ghost use Rattle.ds_workers.specs.Each.{EachOf};
 
-use crate::NoMemory;
 use crate::handed::Job;
 use crate::handling::{Handler, Handling};
 use crate::marks::{History, Mark};
@@ -31,28 +30,25 @@ pub struct WorkerPool<C: Drop, K: Handling<C>> {
 }
 
 impl<C: Drop, K: Handling<C>> WorkerPool<C, K> {
-    /// Slots for so many workers, beside the thread that runs the rounds. A refusal means out of memory. No clause says how many
-    /// there are: a pool with fewer handles the same clients, some of them in the thread that runs the rounds.
-    pub fn make(
-        alloc: Global,
-        workers: usize,
-        history: History<C>,
-    ) -> Result<WorkerPool<C, K>, NoMemory>
+    /// Slots for so many workers, beside the thread that runs the rounds; fewer where memory runs out. No clause says how many there are:
+    /// a pool with fewer handles the same clients, some of them in the thread that runs the rounds.
+    pub fn make(alloc: Global, workers: usize, history: History<C>) -> WorkerPool<C, K>
         requires { history.history ≡ K.history }
     {
-        let mut slots = Vec::with_capacity(alloc, workers)?;
-        for _worker in 0..workers {
-            slots.push(Slot::new())?;
-        }
-        Ok(WorkerPool {
-            slots,
+        WorkerPool {
+            slots: make_slots(alloc, workers),
             log: Mutex::new(Log::new(history)),
-        })
+        }
     }
 
     /// Has the clients of a round handled: the first that is busy in this thread, and each other one by a worker, all at once. Where there
     /// is no worker, a client is handled in this thread once the first one is. It takes no memory.
-    pub fn run_round<R: Wait, A: Handler<C, K>>(&self, rt: &R, handler: &A, clients: &mut Vec<C>)
+    pub fn run_round<R: Threads + Wait + Sync, A: Handler<C, K>>(
+        &self,
+        rt: &R,
+        handler: &A,
+        clients: &mut Vec<C>,
+    )
         requires { All K.is_ready clients.old.items }
         ensures each { EachOf K.handled clients.old.items clients.new.items }
         ensures capacity { vec_capacity clients.new ≡ vec_capacity clients.old }
@@ -63,7 +59,7 @@ impl<C: Drop, K: Handling<C>> WorkerPool<C, K> {
 
     /// The same of the first clients of a round: their busy ones are handed over in the slots from this one on, as far as there are so
     /// many.
-    fn run_below<R: Wait, A: Handler<C, K>>(
+    fn run_below<R: Threads + Wait + Sync, A: Handler<C, K>>(
         &self,
         rt: &R,
         handler: &A,
@@ -90,7 +86,7 @@ impl<C: Drop, K: Handling<C>> WorkerPool<C, K> {
             }
             Err(client) => {
                 self.run_below(rt, handler, slot, slots, clients);
-                clients.push_reserved(handle_here(handler, client));
+                clients.push_reserved(handle_here(rt, handler, client));
             }
         }
     }
@@ -121,7 +117,7 @@ impl<C: Drop, K: Handling<C>> WorkerPool<C, K> {
     }
 
     /// Takes back the client that was handed over in a slot with this mark, handled.
-    fn take_back<R: Wait, A: Handler<C, K>>(
+    fn take_back<R: Threads + Wait + Sync, A: Handler<C, K>>(
         &self,
         rt: &R,
         handler: &A,
@@ -185,6 +181,17 @@ impl<C, K: Handling<C>> Log<C, K> {
     }
 }
 
+/// So many slots, or fewer where memory runs out.
+fn make_slots<C: Drop, K: Handling<C>>(alloc: Global, workers: usize) -> Vec<Slot<C, K>> {
+    let mut slots = Vec::new(alloc);
+    for _worker in 0..workers {
+        let Ok(()) = slots.push(Slot::new()) else {
+            return slots;
+        };
+    }
+    slots
+}
+
 /// How many of the clients are busy.
 fn count_busy<C, K: Handling<C>, A: Handler<C, K>>(handler: &A, clients: &[C]) -> usize
     requires { All K.is_ready clients.now }
@@ -196,11 +203,15 @@ fn count_busy<C, K: Handling<C>, A: Handler<C, K>>(handler: &A, clients: &[C]) -
 }
 
 /// Handles a client in this thread.
-fn handle_here<C, K: Handling<C>, A: Handler<C, K>>(handler: &A, mut client: C) -> C
+fn handle_here<C, K: Handling<C>, R: Threads + Wait + Sync, A: Handler<C, K>>(
+    rt: &R,
+    handler: &A,
+    mut client: C,
+) -> C
     requires { K.is_ready client }
     ensures { K.handled client result }
 {
-    handler.handle(&mut client);
+    handler.handle(rt, &mut client);
     client
 }
 

@@ -6,6 +6,7 @@ use crate::handed::{Desk, Handled, Job, Place};
 use crate::handling::{Handler, Handling};
 use crate::marks::Mark;
 use std::sync::{Condvar, Mutex, Wait};
+use std::thread::Threads;
 
 /// Where one worker waits for clients. Two threads at most wait for a change: the worker, and who gave a client.
 #[derive(Drop)]
@@ -23,10 +24,10 @@ impl<C: Drop, K: Handling<C>> Slot<C, K> {
     }
 
     /// Handles clients as they are given, until the run ends.
-    pub(crate) fn serve<R: Wait, A: Handler<C, K>>(&self, rt: &R, handler: &A) {
+    pub(crate) fn serve<R: Threads + Wait + Sync, A: Handler<C, K>>(&self, rt: &R, handler: &A) {
         for _ in rt.forever() {
             match self.next_job(rt) {
-                Some(job) => self.put_back(rt, job.run(handler)),
+                Some(job) => self.put_back(rt, job.run(rt, handler)),
                 None => return,
             }
         }
@@ -65,7 +66,7 @@ impl<C: Drop, K: Handling<C>> Slot<C, K> {
 
     /// Takes back the client that was given with this mark: once it is handled, or at once where no worker has taken it yet, and then it
     /// is handled here. Another client is never there.
-    pub(crate) fn take_back<R: Wait, A: Handler<C, K>>(
+    pub(crate) fn take_back<R: Threads + Wait + Sync, A: Handler<C, K>>(
         &self,
         rt: &R,
         handler: &A,
@@ -83,7 +84,7 @@ impl<C: Drop, K: Handling<C>> Slot<C, K> {
     }
 
     /// The same, where that client is there.
-    fn take_handled<R: Wait, A: Handler<C, K>>(
+    fn take_handled<R: Threads + Wait + Sync, A: Handler<C, K>>(
         &self,
         rt: &R,
         handler: &A,
@@ -93,7 +94,7 @@ impl<C: Drop, K: Handling<C>> Slot<C, K> {
         ensures { IfSome result (λ client. IfSome (last_of mark.now.entries) (λ before. K.handled before client)) }
     {
         match self.take(rt) {
-            Place::Given(job) => job.run(handler).into_client(mark),
+            Place::Given(job) => job.run(rt, handler).into_client(mark),
             Place::Returned(handled) => handled.into_client(mark),
             _ => None,
         }

@@ -76,7 +76,7 @@ impl<N: Naming> Handler<Client, Dues<N>> for Meeting {
         client.is_due
     }
 
-    fn handle(&self, client: &mut Client) {
+    fn handle<R: Threads + Wait + Sync>(&self, _rt: &R, client: &mut Client) {
         self.meet();
         client.is_due = false;
     }
@@ -95,7 +95,7 @@ fn make_due(clients: &mut [Client], many: u64) {
 }
 
 /// Whether so many clients meet in a round.
-fn meets<N: Naming, R: Wait>(
+fn meets<N: Naming, R: Threads + Wait + Sync>(
     rt: &R,
     pool: &WorkerPool<Client, Dues<N>>,
     meeting: &Meeting,
@@ -111,7 +111,7 @@ fn meets<N: Naming, R: Wait>(
 }
 
 /// Whether the clients of each round meet.
-fn all_meet<N: Naming, R: Wait>(
+fn all_meet<N: Naming, R: Threads + Wait + Sync>(
     rt: &R,
     pool: &WorkerPool<Client, Dues<N>>,
     meeting: &Meeting,
@@ -141,7 +141,7 @@ fn meet_by<N: Naming + Send + Sync, R: Threads + Wait + Sync>(
 ) -> Result<bool, AllocError>
     requires { history.history ≡ N.history }
 {
-    let pool: WorkerPool<Client, Dues<N>> = WorkerPool::make(alloc, CLIENTS - 1, history)?;
+    let pool: WorkerPool<Client, Dues<N>> = WorkerPool::make(alloc, CLIENTS - 1, history);
     let mut all = clients(alloc)?;
     let meeting = Meeting {
         wanted: AtomicU64::new(0),
