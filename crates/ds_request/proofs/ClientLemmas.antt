@@ -20,9 +20,9 @@ use Rattle.ds_json_reading.specs.Reading.{Reads, and_then, read_as, member_of, r
 use Rattle.ds_json_reading.specs.Keys.{key_of, writable_key_of}
 use Rattle.ds_json_reading.specs.Values.{value_of}
 use Rattle.ds_request.specs.Entities.{entity_of}
-use Rattle.ds_request.specs.Forms.{text_of, name_of, namespace_of, flag_of, client_of, results_of, count_of, shard_of, filter_of}
+use Rattle.ds_member_reading.specs.Forms.{text_of, name_of, namespace_of, flag_of, client_of, results_of, count_of, shard_of, filter_of}
 use Rattle.ds_json_reading.specs.Reading.{list_of}
-use Rattle.ds_request.specs.Forms.{order_of, select_of, named_values_of}
+use Rattle.ds_member_reading.specs.Forms.{order_of, select_of, named_values_of}
 use Rattle.ds_request.specs.Requests.{told_at, member_read, call_of, query_call_of, gql_call_of, operation_of, object_request_of}
 use Rattle.ds_request.specs.Requests.{data_request_of, line_data, request_of, client_told}
 use Rattle.ds_request.proofs.LawfulLemmas.{kept_then, kept_as, kept_told, kept_defaulted, value_kept}

@@ -1,14 +1,13 @@
 -- Lines of a common form.
-use Rattle.std.proofs.Common.{◌≡◌, ℕ, ◌≤◌, List, [], ◌∷◌, ◌++◌, Bool, true, false, cond, not, ◌||◌, ◌<◌, length, nat_le, le-leb, Option, Some, None, option_and_then, Result, Ok, Err}
-use Rattle.std.proofs.Common.{IfOk, IfSome, IsTrue, refl, sym, ap, subst, ◌∙◌, arith, codes}
-use Rattle.std.specs.Option.{ok_or, unwrap_or}
-use Rattle.std.specs.Str.{is_utf8, IsUtf8}
+use Rattle.std.proofs.Common.{◌≡◌, ℕ, List, [], ◌∷◌, Bool, true, false, cond, not, ◌||◌, ◌<◌, length, Option, Some, None, option_and_then, Result, Ok, Err}
+use Rattle.std.proofs.Common.{IfSome, refl, sym, ap, subst, ◌∙◌, codes}
+use Rattle.std.specs.Str.{IsUtf8}
 use Rattle.std.proofs.lemmas.Str.{is_utf8-from_IsUtf8}
 use Rattle.json.specs.Token.{Token}
 use Rattle.json.specs.Json as json
 use Rattle.json.specs.Json.{value}
 use Rattle.json.specs.Lex.{tokens}
-use Rattle.serde_json.specs.Data.{Data, boolean, object, Members}
+use Rattle.serde_json.specs.Data.{Data, object, Members}
 use Rattle.serde_json.specs.Read.{of_json, read, max_depth}
 use Rattle.ds_base.specs.declared.value.Value.{Value}
 use Rattle.ds_base.specs.Keys.{KeyParts, is_name, is_reserved, is_writable}
@@ -16,16 +15,16 @@ use Rattle.ds_entity.specs.declared.entity.Property.{Property}
 use Rattle.ds_json_values.specs.Outcomes.{Gives}
 use Rattle.ds_json_reading.specs.declared.refusal.Refusal.{Refusal}
 use Rattle.ds_json_reading.specs.declared.refusal.Refusal.TheVariants as refusal
-use Rattle.ds_json_reading.specs.Reading.{and_then, read_as, member_of, required, optional, defaulted, natural_of, up_to, from}
+use Rattle.ds_json_reading.specs.Reading.{and_then, read_as, member_of, required, optional, defaulted}
 use Rattle.ds_request.specs.declared.call.Call.{Call}
 use Rattle.ds_request.specs.declared.call.Request.{Request}
 use Rattle.ds_request.specs.declared.operation.Operation.{Operation}
 use Rattle.ds_json_reading.specs.Keys.{key_of, writable_key_of, entity_key_of}
 use Rattle.ds_json_reading.specs.Values.{property_values_of}
-use Rattle.ds_line_reading.specs.Parts.{BeginsWith, IsRead}
-use Rattle.ds_line_reading.proofs.PartLaws.{scalar_read}
+use Rattle.ds_line_reading.specs.Parts.{IsRead}
 use Rattle.ds_request.specs.Entities.{PutParts, property_with, property_of, properties_of, entity_of}
-use Rattle.ds_request.specs.Forms.{flag_of, client_of}
+use Rattle.ds_member_reading.specs.Forms.{client_of}
+use Rattle.ds_member_reading.proofs.MemberLaws.{required_is, defaulted_is}
 use Rattle.ds_request.specs.Lawful.{IsLawfulCall}
 use Rattle.ds_request.specs.Requests.{operation_of, call_of, object_request_of, data_request_of, line_data, request_of}
 
@@ -47,33 +46,6 @@ pub object_request : (text : List ℕ) (ms : Members) (found : Option Request) �
     → IfSome found (λ r. (data_request_of (read text) ≡ Ok r) × IsLawfulCall r.call)
 object_request text ms found is h = subst (λ d. IfSome found (λ r. (data_request_of d ≡ Ok r) × IsLawfulCall r.call)) (sym is) h
 
--- ---- a member that was met, or wasn't
-
-module _ {A : Type 0} (form : Data → Result A Refusal) where
-  pub required_is : (d : Option Data) (x : A) → optional form d ≡ Ok (Some x) → required form d ≡ Ok x
-  required_is None x h = absurd cc
-  required_is (Some d) x h = by (form d) h where
-    by : (r : Result A Refusal) → read_as Some r ≡ Ok (Some x) → r ≡ Ok x
-    by (Ok y) h = cc
-    by (Err e) h = absurd cc
-
-  pub defaulted_is : (absent : A) (d : Option Data) (found : Option A) → optional form d ≡ Ok found → defaulted absent form d ≡ Ok (unwrap_or found absent)
-  defaulted_is absent None found h = ap (λ r. Ok (unwrap_or r absent)) (let e : None ≡ found = cc in e)
-  defaulted_is absent (Some d) found h = by (form d) h where
-    by : (r : Result A Refusal) → read_as Some r ≡ Ok found → r ≡ Ok (unwrap_or found absent)
-    by (Ok y) h = ap (λ r. Ok (unwrap_or r absent)) (let e : Some y ≡ found = cc in e)
-    by (Err e) h = absurd cc
-
--- ---- numbers
-
-pub up_to_read : (greatest : ℕ) (d : Data) (n : ℕ) → natural_of d ≡ Some n → n ≤ greatest → ok_or (up_to greatest d) refusal.Request ≡ Ok n
-up_to_read greatest d n is le =
-    ap (λ r. ok_or (option_and_then (λ m. cond (nat_le m greatest) (Some m) None) r) refusal.Request) is ∙ ap (λ b. ok_or (cond b (Some n) None) refusal.Request) (le-leb n greatest le)
-
-pub from_read : (least : ℕ) (d : Data) (n : ℕ) → natural_of d ≡ Some n → least ≤ n → ok_or (from least d) refusal.Request ≡ Ok n
-from_read least d n is le =
-    ap (λ r. ok_or (option_and_then (λ m. cond (nat_le least m) (Some m) None) r) refusal.Request) is ∙ ap (λ b. ok_or (cond b (Some n) None) refusal.Request) (le-leb least n le)
-
 -- ---- the request
 
 pub request_made : (ms : Members) (client : ℕ) (o : Operation) (c : Call) → defaulted 0 client_of (member_of (codes "client") ms) ≡ Ok client → required operation_of (member_of (codes "op") ms) ≡ Ok o
@@ -94,10 +66,6 @@ entity_made ms k ps key properties =
     ∙ ap (read_as (made (k, false))) (defaulted_is properties_of [] (member_of (codes "properties") ms) (Some ps) properties)
 
 -- ---- what may not be read
-
-pub flag_if : (depth : ℕ) (old left : List Token) (found : Option Bool) → IfSome found (λ b. BeginsWith old (boolean b) left) → IfSome found (λ b. IsRead depth flag_of old b left)
-flag_if depth old left None h = tt
-flag_if depth old left (Some b) h = scalar_read depth flag_of old (boolean b) b left h refl
 
 -- the value of this data, by a form
 pub read_if : {A : Type 0} (depth : ℕ) (form : Data → Result A Refusal) (old new : List Token) (d : Data) (found : Option A) → Gives of_json (value depth old) (Some d) new → length new < length old

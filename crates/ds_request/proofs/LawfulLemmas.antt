@@ -23,9 +23,9 @@ use Rattle.ds_json_reading.specs.declared.refusal.Refusal.TheVariants as refusal
 use Rattle.ds_json_reading.specs.Reading.{Reads, and_then, read_as, each_of, member_of, required, optional, defaulted, natural_of}
 use Rattle.ds_json_reading.specs.Keys.{key_of}
 use Rattle.ds_json_reading.specs.Values.{value_of}
-use Rattle.ds_request.specs.Forms.{text_of, name_of, namespace_of, flag_of, results_of, count_of, op_of, operands_of}
+use Rattle.ds_member_reading.specs.Forms.{text_of, name_of, namespace_of, flag_of, results_of, count_of, op_of, operands_of}
 use Rattle.ds_json_reading.specs.Reading.{some_of, list_of}
-use Rattle.ds_request.specs.Forms.{filter_of, order_of, select_of, named_values_of}
+use Rattle.ds_member_reading.specs.Forms.{filter_of, order_of, select_of, named_values_of}
 use Rattle.ds_request.specs.Requests.{told_at, member_read, query_call_of, gql_call_of, allocate_ids_call_of}
 use Rattle.ds_request.specs.Lawful.{IsLawfulCall}
 

@@ -1,4 +1,3 @@
-pub mod ArraysLemmas
 pub mod ClientLemmas
 pub mod EntitiesLemmas
 pub mod SeveralLemmas
@@ -6,3 +5,4 @@ pub mod FoundLemmas
 pub mod LawfulLemmas
 pub mod CommonLaws
 pub mod PropertiesLaws
+pub mod QueryLaws

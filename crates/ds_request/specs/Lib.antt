@@ -1,6 +1,5 @@
 -- in the order in which they are best read
 pub mod Requests
-pub mod Forms
 pub mod Entities
 pub mod Lawful
 pub mod Members

@@ -1,5 +1,5 @@
 -- What a line asks: its members in the order in which they are looked at, of which the first that fails is told. Begin at the
--- end, with `request_of`; the form of each member stands in `Forms`.
+-- end, with `request_of`; the form of each member stands in `Forms` of ds_member_reading.
 use Rattle.std.specs.Prelude.{ℕ, List, [], false, Option, Some, None, Result, Ok, Err, bytes_eq, cond, codes}
 use Rattle.std.specs.Str.{is_utf8}
 use Rattle.serde_json.specs.Data.{Data, object, Members}
@@ -21,9 +21,9 @@ use Rattle.ds_json_reading.specs.Reading.{and_then, read_as, member_of, required
 use Rattle.ds_json_reading.specs.Keys.{key_of, writable_key_of}
 use Rattle.ds_json_reading.specs.Values.{value_of}
 use Rattle.ds_request.specs.Entities.{entity_of}
-use Rattle.ds_request.specs.Forms.{text_of, name_of, namespace_of, flag_of, client_of, results_of, count_of, shard_of}
+use Rattle.ds_member_reading.specs.Forms.{text_of, name_of, namespace_of, flag_of, client_of, results_of, count_of, shard_of}
 use Rattle.ds_json_reading.specs.Reading.{list_of}
-use Rattle.ds_request.specs.Forms.{filter_of, order_of, select_of, named_values_of}
+use Rattle.ds_member_reading.specs.Forms.{filter_of, order_of, select_of, named_values_of}
 
 -- ---- a member
 

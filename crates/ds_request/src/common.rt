@@ -1,17 +1,21 @@
 //! Lines of a common form, whose requests are made in one pass over their tokens.
-ghost use Rattle.std.specs.Prelude.{◌≡◌, Ok, IfSome};
+ghost use Rattle.std.specs.Prelude.{◌≡◌, Some, Ok, IsTrue, IfSome};
+ghost use Rattle.serde_json.specs.Data.{object, Members, no_members};
 ghost use Rattle.serde_json.specs.Read.{read};
+ghost use Rattle.ds_line_reading.specs.Tables.{are_apart};
+ghost use Rattle.ds_request.specs.Common.{HoldsLine};
 ghost use Rattle.ds_request.specs.Lawful.{IsLawfulCall};
 ghost use Rattle.ds_request.specs.Requests.{data_request_of, request_of};
 
 mod calls;
 mod entities;
 mod members;
+mod queries;
 
 use crate::call::Request;
 use crate::common::calls::request_of;
-use crate::common::members::new_table;
-use ds_line_reading::fill_object;
+use crate::common::members::{LineTable, new_table};
+use ds_line_reading::{Table, fill_object};
 use json::{Reader, Scratch};
 use std::alloc::Global;
 
@@ -38,15 +42,38 @@ pub(crate) fn read_common(alloc: Global, line: &[u8], scratch: &mut Scratch) -> 
 fn read_common_text(alloc: Global, text: &str, scratch: &mut Scratch) -> Option<Request>
     ensures { IfSome result (λ r. (data_request_of (read text.now) ≡ Ok r) × IsLawfulCall r.call) }
 {
-    let Ok(mut reader) = Reader::new(text, scratch) else {
-        return None;
-    };
     let mut table = new_table();
-    if !fill_object(alloc, &mut table, &mut reader, MAX_DEPTH) {
+    read_into(alloc, text, scratch, &mut table)
+}
+
+/// The request of a text, by this table of which nothing was read.
+fn read_into(
+    alloc: Global,
+    text: &str,
+    scratch: &mut Scratch,
+    table: &mut LineTable,
+) -> Option<Request>
+    requires { HoldsLine table.old no_members }
+    ensures { IfSome result (λ r. (data_request_of (read text.now) ≡ Ok r) × IsLawfulCall r.call) }
+{
+    if !fill_from(alloc, text, scratch, table) {
         return None;
     }
-    if reader.next().is_some() {
-        return None;
+    request_of(alloc, table)
+}
+
+/// Reads the members of a text's object into a table; false where that can't be done. It stands apart from the table's making, as what
+/// is held at a way out makes the proof dearer.
+fn fill_from<T: Table>(alloc: Global, text: &str, scratch: &mut Scratch, table: &mut T) -> bool
+    requires apart { IsTrue (are_apart T.names) }
+    requires empty { T.holds table.old no_members }
+    ensures { IsTrue result → (ms : Members) × (read text.now ≡ Some (object ms)) × T.holds table.new ms }
+{
+    let Ok(mut reader) = Reader::new(text, scratch) else {
+        return false;
+    };
+    if !fill_object(alloc, table, &mut reader, MAX_DEPTH) {
+        return false;
     }
-    request_of(table)
+    reader.next().is_none()
 }

@@ -1,7 +1,2 @@
-//! The forms that requests alone have: rules by which the JSON value of a member is read.
+//! The form that requests and other texts have in common: entities, read from a JSON value.
 pub(crate) mod entities;
-pub(crate) mod filters;
-pub(crate) mod named_values;
-pub(crate) mod orders;
-pub(crate) mod scalars;
-pub(crate) mod selects;

@@ -3,7 +3,7 @@ ghost use Rattle.std.specs.Prelude.{◌≡◌, ◌≤◌, length, option_map, If
 ghost use Rattle.serde_json.specs.View.{view, members_view};
 ghost use Rattle.ds_query.specs.Fields.{field_name};
 ghost use Rattle.ds_json_reading.specs.Reading.{Reads, defaulted, required, member_of};
-ghost use Rattle.ds_request.specs.Forms.{client_of};
+ghost use Rattle.ds_member_reading.specs.Forms.{client_of};
 ghost use Rattle.ds_request.specs.Lawful.{IsLawfulCall};
 ghost use Rattle.ds_request.specs.Requests.{operation_of, call_of, object_request_of, data_request_of, line_data, request_of, client_told};
 

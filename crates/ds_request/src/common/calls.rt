@@ -3,63 +3,49 @@ ghost use Rattle.std.specs.Prelude.{◌≡◌, ℕ, Ok, codes, IfSome};
 ghost use Rattle.serde_json.specs.Data.{Members};
 ghost use Rattle.ds_json_reading.specs.Reading.{member_of, optional};
 ghost use Rattle.ds_json_reading.specs.Keys.{key_of};
-ghost use Rattle.ds_request.specs.Common.{AreFound};
+ghost use Rattle.ds_request.specs.Common.{HoldsLine};
 ghost use Rattle.ds_request.specs.Entities.{entity_of};
-ghost use Rattle.ds_request.specs.Forms.{flag_of, count_of, shard_of};
+ghost use Rattle.ds_member_reading.specs.Forms.{flag_of, count_of, shard_of};
 ghost use Rattle.ds_request.specs.Lawful.{IsLawfulCall};
 ghost use Rattle.ds_request.specs.Requests.{call_of, object_request_of, put_call_of, get_call_of, delete_call_of, begin_call_of};
 ghost use Rattle.ds_request.specs.Requests.{allocate_ids_call_of, apply_call_of};
 
 use crate::call::{Call, Request};
 use crate::common::members::LineTable;
+use crate::common::queries::query_of;
 use crate::forms::entities::Written;
 use crate::operation::Operation;
 use ds_base::Key;
+use std::alloc::Global;
 
 /// The request of a table of members; none where a member is missing, or for an operation whose lines aren't read here.
-pub(crate) fn request_of(table: LineTable) -> Option<Request>
-    ensures { (ms : Members) → AreFound table.0.found table.1.0.found table.1.1.0.found table.1.1.1.0.found table.1.1.1.1.0.found
-        table.1.1.1.1.1.0.found table.1.1.1.1.1.1.0.found ms
+pub(crate) fn request_of(alloc: Global, table: &mut LineTable) -> Option<Request>
+    ensures { (ms : Members) → HoldsLine table.old ms
         → IfSome result (λ r. (object_request_of ms ≡ Ok r) × IsLawfulCall r.call) }
 {
-    let (op, (entity, (client, (key, (xg, (count, (shard, ()))))))) = table;
-    let client = client.found.unwrap_or(0);
-    let operation = op.found?;
-    let call = call_of(
-        operation,
-        entity.found,
-        key.found,
-        xg.found,
-        (count.found, shard.found),
-    )?;
+    let operation = table.slots.0.found?;
+    let client = table.slots.1.1.0.found.unwrap_or(0);
+    let call = call_of(alloc, operation, table)?;
     Some(Request { client, call })
 }
 
-/// The call of an operation.
-fn call_of(
-    operation: Operation,
-    entity: Option<Written>,
-    key: Option<Key>,
-    xg: Option<bool>,
-    numbers: (Option<u64>, Option<u64>),
-) -> Option<Call>
-    ensures { (client : ℕ) (ms : Members) → optional entity_of (member_of (codes "entity") ms) ≡ Ok entity
-        → optional key_of (member_of (codes "key") ms) ≡ Ok key → optional flag_of (member_of (codes "xg") ms) ≡ Ok xg
-        → optional count_of (member_of (codes "count") ms) ≡ Ok numbers.0
-        → optional shard_of (member_of (codes "shard") ms) ≡ Ok numbers.1
+/// The call of an operation, which takes what it asks for out of the table.
+fn call_of(alloc: Global, operation: Operation, table: &mut LineTable) -> Option<Call>
+    ensures { (client : ℕ) (ms : Members) → HoldsLine table.old ms
         → IfSome result (λ c. (call_of client ms operation ≡ Ok c) × IsLawfulCall c) }
 {
     match operation {
-        Operation::Put => put(entity),
-        Operation::Delete => delete(key),
-        Operation::Get => get(key),
-        Operation::Begin => Some(begin(xg)),
+        Operation::Put => put(table.slots.1.0.found.take()),
+        Operation::Delete => delete(table.slots.1.1.1.0.found.take()),
+        Operation::Get => get(table.slots.1.1.1.0.found.take()),
+        Operation::Begin => Some(begin(table.slots.1.1.1.1.0.found)),
         Operation::Commit => Some(Call::Commit),
         Operation::Rollback => Some(Call::Rollback),
         Operation::Settle => Some(Call::Settle),
-        Operation::AllocateIds => allocate_ids(numbers.0),
-        Operation::Apply => apply(numbers.1),
-        Operation::Query | Operation::Gql => None,
+        Operation::AllocateIds => allocate_ids(table.slots.1.1.1.1.1.0.found),
+        Operation::Apply => apply(table.slots.1.1.1.1.1.1.0.found),
+        Operation::Query => Some(query_of(alloc, &mut table.slots.1.1.1.1.1.1.1)),
+        Operation::Gql => None,
     }
 }
 

@@ -4,9 +4,9 @@ ghost use Rattle.ds_json_reading.specs.Reading.{Reads};
 ghost use Rattle.ds_request.specs.Requests.{apply_call_of};
 
 use crate::call::{Call, RequestRefused};
-use crate::forms::scalars::ShardForm;
 use crate::members::one::{Required, read_member};
 use ds_json_reading::Members;
+use ds_member_reading::ShardForm;
 use ds_query::Field;
 use std::alloc::Global;
 

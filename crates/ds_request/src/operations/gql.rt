@@ -4,12 +4,11 @@ ghost use Rattle.ds_json_reading.specs.Reading.{Reads};
 ghost use Rattle.ds_request.specs.Requests.{gql_call_of};
 
 use crate::call::{Call, RequestRefused};
-use crate::forms::named_values::NamedValuesForm;
-use crate::forms::scalars::{FlagForm, NamespaceForm, TextForm};
 use crate::members::one::{Defaulted, Optional, Required};
 use crate::members::several::ReadMembers;
 use ds_base::{NamedValues, TextString, Values};
 use ds_json_reading::{ListForm, Members, ValueForm};
+use ds_member_reading::{FlagForm, NamedValuesForm, NamespaceForm, TextForm};
 use ds_query::Field;
 use std::alloc::Global;
 

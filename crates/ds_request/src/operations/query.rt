@@ -4,14 +4,13 @@ ghost use Rattle.ds_json_reading.specs.Reading.{Reads};
 ghost use Rattle.ds_request.specs.Requests.{query_call_of};
 
 use crate::call::{Call, RequestRefused};
-use crate::forms::filters::FilterForm;
-use crate::forms::orders::OrderForm;
-use crate::forms::scalars::{FlagForm, NameForm, NamespaceForm, ResultsForm, TextForm};
-use crate::forms::selects::SelectForm;
 use crate::members::one::{Defaulted, Optional};
 use crate::members::several::ReadMembers;
 use ds_base::{Columns, TextString};
 use ds_json_reading::{KeyForm, ListForm, Members};
+use ds_member_reading::{
+    FilterForm, FlagForm, NameForm, NamespaceForm, OrderForm, ResultsForm, SelectForm, TextForm,
+};
 use ds_query::{Field, Filters, Select};
 use std::alloc::Global;
 

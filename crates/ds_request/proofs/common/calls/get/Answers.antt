@@ -4,7 +4,7 @@ use Rattle.ds_json_reading.specs.Keys.{key_of}
 use Rattle.ds_query.specs.declared.field.Field.TheVariants as field
 use Rattle.ds_request.specs.declared.call.Call.TheVariants as call
 use Rattle.ds_request.specs.Requests.{told_at}
-use Rattle.ds_request.proofs.CommonLaws.{required_is}
+use Rattle.ds_member_reading.proofs.MemberLaws.{required_is}
 use Rattle.ds_request.proofs.common.calls.get.Goals as goal
 
 pub returns-in-Some : goal.returns-in-Some

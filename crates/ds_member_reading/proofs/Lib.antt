@@ -1,0 +1,3 @@
+pub mod ArraysLemmas
+pub mod MemberLaws
+pub mod TermLaws

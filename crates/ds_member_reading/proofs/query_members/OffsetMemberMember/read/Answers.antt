@@ -1,0 +1,4 @@
+use Rattle.ds_member_reading.proofs.query_members.OffsetMemberMember.read.Goals as goal
+
+pub returns : goal.returns
+returns c = c.read_results.ensures c.args._depth

@@ -1,0 +1,3 @@
+-- in the order in which they are best read
+pub mod Forms
+pub mod Queries

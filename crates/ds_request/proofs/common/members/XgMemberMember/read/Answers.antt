@@ -1,5 +1,0 @@
-use Rattle.ds_request.proofs.CommonLaws.{flag_if}
-use Rattle.ds_request.proofs.common.members.XgMemberMember.read.Goals as goal
-
-pub returns : goal.returns
-returns c = flag_if c.args._depth c.args.reader.now c.read_flag.new.reader c.read_flag.result c.read_flag.ensures
