@@ -1,7 +1,7 @@
 -- A query of one branch. One shard gives the first results in their order, each once, and the window cuts them; several give each its own,
 -- which are put in order.
 use Rattle.std.proofs.Common.{◌≡◌, List, [], ◌∷◌, ◌++◌, length, map, drop, get_or, refl, sym, ap, ◌∙◌, append-nil, arith, subst}
-use Rattle.std.proofs.Common.{ℕ, false, cond, Option, Some, None}
+use Rattle.std.proofs.Common.{ℕ, false, cond, Option, Some}
 use Rattle.std.specs.Prelude.{All, flat_map, sum_by}
 use Rattle.std.proofs.lemmas.List.Elements.{All-head}
 use Rattle.std.proofs.lemmas.List.Sums.{sum_by-cons}
@@ -27,7 +27,7 @@ use Rattle.ds_engine.specs.Searches.{all_entities, given_over, most_of, page_in_
 use Rattle.ds_engine.specs.Searches.{AreOfShards, IsCutOf}
 use Rattle.ds_engine.specs.Snapshots.{SnapshotParts, asked_in, entities_in}
 use Rattle.ds_engine.proofs.FewerSteps.{sums-map}
-use Rattle.ds_engine.proofs.ShardPages.{alone, one_of, page_of_single, parts-placed}
+use Rattle.ds_engine.proofs.ShardPages.{alone, most_of_one, one_of, page_of_single, parts-placed}
 
 -- the page of the first rows, as many as are skipped and taken, is that of all
 cut : (columns : List Column) (w : Window) (rs : List RowParts) (rows : List Row) (m : RowPage)
@@ -75,7 +75,7 @@ page_of_one n w q v m lawful single one page =
 
       same : map (placed q.columns) (given q w.start w.end (most_of n w) v) ≡ map (placed n.merged) (rows_of_shards n w (v ∷ []))
       same =
-          (λ i. map (placed (columns i)) (given q w.start w.end (cond (single i) None (plus_limit w.offset w.limit)) v))
+          (λ i. map (placed (columns i)) (given q w.start w.end (most_of_one n w single i) v))
           ∙ ap (map (placed n.merged)) (sym (alone n w q (v ∷ []) single one
           ∙ append-nil (given q w.start w.end (plus_limit w.offset w.limit) v)))
 
@@ -106,7 +106,7 @@ page_of_shards n w q snapshots m lawful single one page own =
     (subst (λ (bs : List Branch). All (λ (b : Branch). b.columns ≡ n.merged) bs) one (lawful.single_columns single)) in
     let are : given_over n w q snapshots ≡ found =
     sym (flat_map-map (given q w.start w.end (most_of n w)) entities_in snapshots)
-    ∙ (λ i. flat_map (given q w.start w.end (cond (single i) None (plus_limit w.offset w.limit))) views)
+    ∙ (λ i. flat_map (given q w.start w.end (most_of_one n w single i)) views)
     ∙ sym (alone n w q views single one) in
     page_of_single n w views (map (placed n.merged) found) m lawful single refl
     (page ∙ (λ i. page_in_order (columns i) w (are i)) ∙ ap (page_in_order n.merged w) (sym (parts-placed n.merged found))) own

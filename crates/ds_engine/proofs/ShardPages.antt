@@ -1,8 +1,8 @@
 -- The page of what the shards give is the page of the query over the entities of all shards.
 use Rattle.std.proofs.Common.{◌≡◌, ℕ, ◌+◌, List, [], ◌∷◌, ◌++◌, length, map, get_or, refl, ap, sym, ◌∙◌, subst, append-nil, arith}
-use Rattle.std.proofs.Common.{Bool, true, false, cond, None}
+use Rattle.std.proofs.Common.{◌<◌, Bool, true, false, ◌&&◌, cond, Option, Some, None}
 use Rattle.std.specs.Prelude.{All, flat_map}
-use Rattle.std.specs.List.{AllByRecursion}
+use Rattle.std.proofs.lemmas.Bool.{true≢false}
 use Rattle.std.proofs.lemmas.List.Elements.{All-head, All-tail, All-nil, All-cons}
 use Rattle.ds_base.specs.declared.column.Column.{Column}
 use Rattle.ds_entity.specs.declared.results.Item.{Item}
@@ -11,26 +11,26 @@ use Rattle.ds_base.specs.Sorting.{sorted_by}
 use Rattle.ds_base.specs.SortingLaws.{sorted_by-IsPermutation}
 use Rattle.ds_bytes.specs.Rows.{RowParts}
 use Rattle.ds_query.specs.declared.query.Select.{Select}
+use Rattle.ds_query.specs.declared.query.Select.TheVariants as select
 use Rattle.ds_query.specs.declared.branch.Branch.{Branch}
 use Rattle.ds_query.specs.declared.branch.Normal.{Normal}
 use Rattle.ds_query.specs.declared.branch.Window.{Window}
 use Rattle.ds_query.specs.declared.row.Row.{Row}
 use Rattle.ds_query.specs.Filters.{projected}
+use Rattle.ds_query.specs.Reasons.{is_projection}
 use Rattle.ds_query.specs.Lawful.{AreAlike, IsLawfulNormal, IsPlaceless, SuitsSeveral}
 use Rattle.ds_pages.specs.declared.row_page.RowPage.{RowPage}
 use Rattle.ds_pages.specs.Extended.{extended}
-use Rattle.ds_pages.specs.Pages.{first_rows, page_of, page_of_rows, plus_limit, same_mark, with_places}
+use Rattle.ds_pages.specs.Pages.{at_most, first_rows, page_of, page_of_rows, plus_limit, same_mark, with_places}
 use Rattle.ds_pages.specs.Places.{compare_rows, parts_of, placed}
 use Rattle.ds_model.specs.Bounds.{given}
 use Rattle.ds_model.specs.Results.{branch_results, items_of, result, united}
-use Rattle.ds_model.proofs.AllOf.{all_of, all-flat_map}
-use Rattle.ds_model.proofs.ResultOrder.{long_extended}
-use Rattle.ds_model.proofs.RowOrder.{IsLongRow, full_row-total, full_row-same, sorted-full}
+use Rattle.ds_model.proofs.RowOrder.{full_row-total, full_row-same, sorted-full}
 use Rattle.ds_engine.proofs.PartFirsts.{AreParts, firsts}
-use Rattle.ds_engine.proofs.ShardResults.{shards_apart, shards_page}
-use Rattle.ds_engine.proofs.UnitedResults.{given_page, given_rows}
+use Rattle.ds_engine.proofs.ShardResults.{page-seen, shards_apart, shards_page}
+use Rattle.ds_engine.proofs.UnitedResults.{cut-firsts, cut_rows, given_page, given_rows, long_cut, long_given}
 use Rattle.ds_engine.specs.Searches.{AreOfShards, IsResultOf, all_entities, item_in, page_over}
-use Rattle.ds_engine.specs.Searches.{rows_of_shards, shard_among}
+use Rattle.ds_engine.specs.Searches.{most_of, rows_of_shards, selects_projection, shard_among}
 use Rattle.ds_engine.proofs.InAnyOrder.{either_order}
 use Rattle.ds_engine.proofs.InShards.{items_in_shards}
 
@@ -41,48 +41,70 @@ as_parts shards first (es ∷ views) own = (own.0, as_parts shards (first + 1) v
 
 -- ---- several branches
 
-module _ (n : Normal) (views : List (List EntityParts)) where
-  abbrev of_branch : List EntityParts → Branch → List RowParts
-  of_branch es q = map (extended n.merged q) (branch_results q None None es)
+-- all branches select what the first one does
+selected_alike : (n : Normal) (q : Branch) (P : Select → Type 0) → IsLawfulNormal n → q ≡ get_or n.branches 0 q → P q.select
+    → All (λ (b : Branch). P b.select) n.branches
+selected_alike n q P lawful first here = from n.branches lawful.alike first where
+  each : (bs : List Branch) → All (AreAlike q) bs → All (λ (b : Branch). P b.select) bs
+  each [] alike = All-nil (λ (b : Branch). P b.select)
+  each (b ∷ bs) alike =
+      All-cons (λ (b : Branch). P b.select) b bs (subst P (All-head (AreAlike q) b bs alike).select here)
+      (each bs (All-tail (AreAlike q) b bs alike))
 
-  abbrev by_shards : List RowParts
-  by_shards = flat_map (λ es. flat_map (of_branch es) n.branches) views
+  from : (bs : List Branch) → All (λ a. All (AreAlike a) bs) bs → q ≡ get_or bs 0 q → All (λ (b : Branch). P b.select) bs
+  from [] alike is = All-nil (λ (b : Branch). P b.select)
+  from (b ∷ bs) alike is =
+      let of_b : All (AreAlike b) (b ∷ bs) = All-head (λ a. All (AreAlike a) (b ∷ bs)) b bs alike in
+      each (b ∷ bs) (subst (λ a. All (AreAlike a) (b ∷ bs)) (sym is) of_b)
 
-  long_of : (q : Branch) (rs : List RowParts) → AllByRecursion (IsLongRow n.merged) (map (extended n.merged q) rs)
-  long_of q [] = tt
-  long_of q (r ∷ rs) = (long_extended n.merged q r, long_of q rs)
+-- where no projection is selected, no branch projects values
+no_names : (s : Select) → is_projection s ≡ false → projected s ≡ []
+no_names select.Entities e = refl
+no_names select.Keys e = refl
+no_names (select.Projection names) e = absurd (true≢false e)
 
-  long_by_shards : AllByRecursion (IsLongRow n.merged) by_shards
-  long_by_shards =
-      all-flat_map (IsLongRow n.merged) (λ es. flat_map (of_branch es) n.branches) views
-      (all_of (λ es. AllByRecursion (IsLongRow n.merged) (flat_map (of_branch es) n.branches))
-      (λ es. all-flat_map (IsLongRow n.merged) (of_branch es) n.branches
-      (all_of (λ q. AllByRecursion (IsLongRow n.merged) (of_branch es q)) (λ q. long_of q (branch_results q None None es)) n.branches))
-      views)
+none_projected : (n : Normal) → IsLawfulNormal n → selects_projection n.branches ≡ false
+    → All (λ (b : Branch). projected b.select ≡ []) n.branches
+none_projected n lawful none =
+    let first = first_branch n.branches lawful.some in
+    selected_alike n first.0 (λ s. projected s ≡ []) lawful first.1 (no_names first.0.select (first.2 ∙ none))
+  where
+    first_branch : (bs : List Branch) → 0 < length bs → (q : Branch) × (q ≡ get_or bs 0 q) × (is_projection q.select ≡ selects_projection bs)
+    first_branch [] some = absurd (omega (arith, some))
+    first_branch (q ∷ bs) some = (q, refl, refl)
 
-  long_given : AllByRecursion (IsLongRow n.merged) (given_rows n views)
-  long_given =
-      all-flat_map (IsLongRow n.merged) (λ q. flat_map (λ es. of_branch es q) views) n.branches
-      (all_of (λ q. AllByRecursion (IsLongRow n.merged) (flat_map (λ es. of_branch es q) views))
-      (λ q. all-flat_map (IsLongRow n.merged) (λ es. of_branch es q) views
-      (all_of (λ es. AllByRecursion (IsLongRow n.merged) (of_branch es q)) (λ es. long_of q (branch_results q None None es)) views))
-      n.branches)
-
+module _ (n : Normal) (views : List (List EntityParts)) (lawful : IsLawfulNormal n) where
   -- shard by shard or branch by branch, the first row of each key is the same
-  same_firsts : first_rows n.merged [] by_shards ≡ first_rows n.merged [] (given_rows n views)
+  same_firsts : first_rows n.merged [] (cut_rows n None views) ≡ first_rows n.merged [] (given_rows n views)
   same_firsts =
       ap (firsts (same_mark n.merged []) [])
-      (sorted-full n.merged by_shards long_by_shards
-      ∙ sorted_by-IsPermutation (full_row-total n.merged) (full_row-same n.merged) by_shards (given_rows n views)
-      (either_order of_branch views n.branches)
-      ∙ sym (sorted-full n.merged (given_rows n views) long_given))
+      (sorted-full n.merged (cut_rows n None views) (long_cut n lawful views None)
+      ∙ sorted_by-IsPermutation (full_row-total n.merged) (full_row-same n.merged) (cut_rows n None views) (given_rows n views)
+      (either_order (λ es q. map (extended n.merged q) (branch_results q None None es)) views n.branches)
+      ∙ sym (sorted-full n.merged (given_rows n views) (long_given n lawful views n.branches)))
+
+  -- the first ones that are skipped or taken are told by what is given
+  abbrev seen : ℕ → Option ℕ → Option ℕ → List RowParts
+  seen offset limit most = at_most (plus_limit offset limit) (first_rows n.merged [] (cut_rows n most views))
+
+  same_seen : (w : Window) → n.several ≡ true → seen w.offset w.limit (most_of n w) ≡ seen w.offset w.limit None
+  same_seen w several = by (selects_projection n.branches) refl where
+    limited : All (λ (b : Branch). projected b.select ≡ []) n.branches → (limit : Option ℕ)
+        → seen w.offset limit (plus_limit w.offset limit) ≡ seen w.offset limit None
+    limited none None = refl
+    limited none (Some limit) = cut-firsts n lawful views (w.offset + limit) none
+
+    by : (b : Bool) → selects_projection n.branches ≡ b → seen w.offset w.limit (most_of n w) ≡ seen w.offset w.limit None
+    by true is = λ i. seen w.offset w.limit (cond (several i && is i) None (plus_limit w.offset w.limit))
+    by false is =
+        (λ i. seen w.offset w.limit (cond (several i && is i) None (plus_limit w.offset w.limit))) ∙ limited (none_projected n lawful is) w.limit
 
 several_rows : (n : Normal) (w : Window) (views : List (List EntityParts)) → n.several ≡ true → IsPlaceless w
-    → rows_of_shards n w views ≡ by_shards n views
+    → rows_of_shards n w views ≡ cut_rows n (most_of n w) views
 several_rows n w views several placeless =
     λ i. flat_map (λ es. flat_map (λ q. cond (several i) (map (extended n.merged q)
-    (given q (placeless.start i) (placeless.end i) (cond (several i) None (plus_limit w.offset w.limit)) es))
-    (given q (placeless.start i) (placeless.end i) (cond (several i) None (plus_limit w.offset w.limit)) es)) n.branches) views
+    (given q (placeless.start i) (placeless.end i) (most_of n w) es))
+    (given q (placeless.start i) (placeless.end i) (most_of n w) es)) n.branches) views
 
 suits_several : (b : Bool) (w : Window) → SuitsSeveral b w → b ≡ true → IsPlaceless w
 suits_several true w suits is = suits
@@ -93,7 +115,10 @@ several_page : (n : Normal) (w : Window) (views : List (List EntityParts)) → I
     → page_of_rows n.merged [] w (rows_of_shards n w views) ≡ with_places n.merged (result n w (all_entities views))
 several_page n w views lawful suits several =
     ap (page_of_rows n.merged [] w) (several_rows n w views several (suits_several n.several w suits several))
-    ∙ ap (λ fs. with_places n.merged (page_of n.merged w fs)) (same_firsts n views)
+    ∙ ap (with_places n.merged)
+    (page-seen n.merged w (first_rows n.merged [] (cut_rows n (most_of n w) views)) (first_rows n.merged [] (cut_rows n None views))
+    (same_seen n views lawful w several))
+    ∙ ap (λ fs. with_places n.merged (page_of n.merged w fs)) (same_firsts n views lawful)
     ∙ given_page n lawful views w several
 
 -- ---- one branch
@@ -103,12 +128,14 @@ only [] q one e = absurd (omega (arith, one))
 only (b ∷ []) q one e = ap (λ z. z ∷ []) (sym e)
 only (b ∷ c ∷ bs) q one e = absurd (omega (arith, one))
 
+pub most_of_one : (n : Normal) (w : Window) → n.several ≡ false → most_of n w ≡ plus_limit w.offset w.limit
+most_of_one n w single = λ i. cond (single i && selects_projection n.branches) None (plus_limit w.offset w.limit)
+
 pub alone : (n : Normal) (w : Window) (q : Branch) (views : List (List EntityParts)) → n.several ≡ false → n.branches ≡ q ∷ []
     → rows_of_shards n w views ≡ flat_map (given q w.start w.end (plus_limit w.offset w.limit)) views
 alone n w q views single one =
-    (λ i. flat_map (λ es. flat_map (λ b. cond (single i) (map (extended n.merged b)
-    (given b w.start w.end (cond (single i) None (plus_limit w.offset w.limit)) es))
-    (given b w.start w.end (cond (single i) None (plus_limit w.offset w.limit)) es)) (one i)) views)
+    (λ i. flat_map (λ es. flat_map (λ b. cond (single i) (map (extended n.merged b) (given b w.start w.end (most_of_one n w single i) es))
+    (given b w.start w.end (most_of_one n w single i) es)) (one i)) views)
     ∙ each views
   where
     each : (es : List (List EntityParts))
@@ -166,22 +193,6 @@ single_page n w q views lawful single first own =
 pub parts-placed : (columns : List Column) (rs : List RowParts) → map parts_of (map (placed columns) rs) ≡ rs
 parts-placed columns [] = refl
 parts-placed columns (r ∷ rs) = ap (λ zs. r ∷ zs) (parts-placed columns rs)
-
--- all branches select what the first one does
-selected_alike : (n : Normal) (q : Branch) (P : Select → Type 0) → IsLawfulNormal n → q ≡ get_or n.branches 0 q → P q.select
-    → All (λ (b : Branch). P b.select) n.branches
-selected_alike n q P lawful first here = from n.branches lawful.alike first where
-  each : (bs : List Branch) → All (AreAlike q) bs → All (λ (b : Branch). P b.select) bs
-  each [] alike = All-nil (λ (b : Branch). P b.select)
-  each (b ∷ bs) alike =
-      All-cons (λ (b : Branch). P b.select) b bs (subst P (All-head (AreAlike q) b bs alike).select here)
-      (each bs (All-tail (AreAlike q) b bs alike))
-
-  from : (bs : List Branch) → All (λ a. All (AreAlike a) bs) bs → q ≡ get_or bs 0 q → All (λ (b : Branch). P b.select) bs
-  from [] alike is = All-nil (λ (b : Branch). P b.select)
-  from (b ∷ bs) alike is =
-      let of_b : All (AreAlike b) (b ∷ bs) = All-head (λ a. All (AreAlike a) (b ∷ bs)) b bs alike in
-      each (b ∷ bs) (subst (λ a. All (AreAlike a) (b ∷ bs)) (sym is) of_b)
 
 -- the page of what the shards give of several branches is that over the entities of all
 pub page_of_several : (n : Normal) (w : Window) (views : List (List EntityParts)) (given : List Row) (page : RowPage) → IsLawfulNormal n

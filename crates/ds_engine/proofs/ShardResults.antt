@@ -2,6 +2,7 @@
 use Rattle.std.proofs.Common.{◌≡◌, ℕ, ◌+◌, List, [], ◌∷◌, ◌++◌, map, drop, take, refl, sym, ap, ◌∙◌}
 use Rattle.std.proofs.Common.{Bool, true, false, Option, Some, None}
 use Rattle.std.specs.Prelude.{filter, flat_map}
+use Rattle.std.specs.Cmp.{IsEquivalence, equiv}
 use Rattle.std.specs.Cmp.Lexicographic.{pointwise_decides}
 use Rattle.std.specs.List.{AllByRecursion}
 use Rattle.std.specs.declared.cmp.Ordering.{Ordering}
@@ -62,6 +63,21 @@ module _ (columns : List Column) (names : List (List ℕ)) where
       let first = mark_parts x y a in
       let second = mark_parts y z b in
       mark_from x z (first.0 ∙ second.0) (first.1 ∙ second.1)
+
+  flip : (x y : RowParts) → same_mark columns names x y ≡ same_mark columns names y x
+  flip x y = by (same_mark columns names x y) (same_mark columns names y x) (turned x y) (turned y x) where
+    turned : (x y : RowParts) → same_mark columns names x y ≡ true → same_mark columns names y x ≡ true
+    turned x y e =
+        let both = mark_parts x y e in
+        mark_from y x (sym both.0) (sym both.1)
+
+    by : (a b : Bool) → (a ≡ true → b ≡ true) → (b ≡ true → a ≡ true) → a ≡ b
+    by true b to back = sym (to refl)
+    by false true to back = back refl
+    by false false to back = refl
+
+  pub mark_laws : IsEquivalence (same_mark columns names)
+  mark_laws = equiv (record { symm = flip; trans = mark_along }) mark_itself
 
 -- ---- the rows of entities
 
@@ -212,24 +228,12 @@ module _ (q : Branch) (start end : Option Place) where
     given_apart None es = results_apart es
     given_apart (Some n) es = apart_taken same n (branch_results q start end es) (results_apart es)
 
-    flip : (x y : RowParts) → same x y ≡ same y x
-    flip x y = by (same x y) (same y x) (turned x y) (turned y x) where
-      turned : (x y : RowParts) → same x y ≡ true → same y x ≡ true
-      turned x y e =
-          let both = mark_parts q.columns (projected q.select) x y e in
-          mark_from q.columns (projected q.select) y x (sym both.0) (sym both.1)
-
-      by : (a b : Bool) → (a ≡ true → b ≡ true) → (b ≡ true → a ≡ true) → a ≡ b
-      by true b to back = sym (to refl)
-      by false true to back = back refl
-      by false false to back = refl
-
     -- No result comes from two shards, and none twice from one: those of all shards, in order, are the first of their marks.
     pub shards_apart : (most : Option ℕ) (shards : List (List EntityParts)) → AreOfShards shard 0 shards
         → first_rows q.columns (projected q.select) (flat_map (given q start end most) shards)
         ≡ sorted_by (compare_rows q.columns) (flat_map (given q start end most) shards)
     shards_apart most shards are =
-        apart_sorted same flip (compare_rows q.columns) (flat_map (given q start end most) shards)
+        apart_sorted same (mark_laws q.columns (projected q.select)).symm (compare_rows q.columns) (flat_map (given q start end most) shards)
         (apart_parts same (given q start end most) (λ (r : RowParts). shard r.key)
         (λ x y e. ap shard (mark_parts q.columns (projected q.select) x y e).0) (given_apart most) 0 shards
         (given_parts most 0 shards are))

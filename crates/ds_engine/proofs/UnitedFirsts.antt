@@ -1,24 +1,55 @@
 -- Of each mark the first, in a list that was joined from parts which may have marks in common: it comes out the same where each part has
--- given the first of each of its own marks alone.
-use Rattle.std.proofs.Common.{◌≡◌, ◌⊎◌, inl, inr, List, [], ◌∷◌, ◌++◌, fold, refl, sym, ap, subst, ◌∙◌}
-use Rattle.std.proofs.Common.{Bool, true, false, cond, not, ◌||◌, ◌&&◌, append_assoc, append-nil}
-use Rattle.std.specs.Prelude.{flat_map}
-use Rattle.std.specs.Cmp.{IsTotalOrder}
+-- given the first of each of its own marks alone; and as many of the first ones as are asked for, where each has given as many of its own.
+use Rattle.std.proofs.Common.{◌≡◌, ◌⊎◌, inl, inr, ℕ, ◌≤◌, List, [], ◌∷◌, ◌++◌, length, fold, take, drop, refl, sym, ap, subst, ◌∙◌}
+use Rattle.std.proofs.Common.{Bool, true, false, cond, not, ◌||◌, ◌&&◌, append_assoc, append-nil, arith}
+use Rattle.std.specs.Prelude.{filter, flat_map, nat_lt}
+use Rattle.std.specs.Cmp.{IsEquivalence, IsTotalOrder}
 use Rattle.std.specs.FinMap.{IsAntisymmetric}
-use Rattle.std.specs.List.{AllByRecursion, list_any}
+use Rattle.std.specs.List.{AllByRecursion, IsDistinct, list_any}
 use Rattle.std.specs.List.Sorted.{IsPermutation}
 use Rattle.std.specs.Ordering.{is_gt, ordering_reverse, match_ordering}
 use Rattle.std.specs.declared.cmp.Ordering.{Ordering}
 use Rattle.std.specs.declared.cmp.Ordering.TheVariants.{Less, Equal, Greater}
-use Rattle.std.proofs.lemmas.Bool.{true≢false}
+use Rattle.std.proofs.lemmas.Bool.{ltb-false, ltb-true, true≢false}
+use Rattle.std.proofs.lemmas.List.{length-take-le, take-append-drop, take_all}
+use Rattle.std.proofs.lemmas.List.Folds.{list_any-append}
 use Rattle.std.proofs.lemmas.List.Sorted.{IsPermutation-refl, IsPermutation-trans, IsPermutation-append_left}
-use Rattle.std.proofs.lemmas.List.Sorted.{IsPermutation-append_right, IsPermutation-append_comm}
+use Rattle.std.proofs.lemmas.List.Sorted.{IsPermutation-append_right, IsPermutation-append_comm, list_any-IsPermutation}
+use Rattle.std.proofs.lemmas.Map.Made.{length-le_from_is_member}
 use Rattle.ds_base.specs.Sorting.{insert_by, sorted_by}
 use Rattle.ds_base.specs.SortingLaws.{NoneBefore, Ascends, Ascends-sorted_by, IsPermutation-sorted_by, sorted_by-IsPermutation}
-use Rattle.ds_base.specs.SortingLaws.{sorted_by-push}
+use Rattle.ds_base.specs.SortingLaws.{sorted_by-filter, sorted_by-push}
 use Rattle.ds_model.proofs.AllOf.{all_of}
 use Rattle.ds_pages.proofs.FirstLaws.{with_item}
-use Rattle.ds_engine.proofs.PartFirsts.{firsts, there, new}
+use Rattle.ds_engine.proofs.Apart.{Apart, apart_firsts, apart_taken}
+use Rattle.ds_engine.proofs.PartFirsts.{enough, firsts, there, new}
+
+-- ---- what stands for a list
+
+module _ {X : Type 0} (F : List X → List X) (moved : (xs ys : List X) → IsPermutation xs ys → F xs ≡ F ys)
+    (part : (xs ys : List X) → F (xs ++ ys) ≡ F (F xs ++ ys)) where
+  part_stands : (xs zs ys : List X) → F xs ≡ F zs → F (xs ++ ys) ≡ F (zs ++ ys)
+  part_stands xs zs ys e = part xs ys ∙ ap (λ fs. F (fs ++ ys)) e ∙ sym (part zs ys)
+
+  behind_stands : (front xs zs : List X) → F xs ≡ F zs → F (front ++ xs) ≡ F (front ++ zs)
+  behind_stands front xs zs e =
+      moved (front ++ xs) (xs ++ front) (IsPermutation-append_comm front xs)
+      ∙ part_stands xs zs front e
+      ∙ moved (zs ++ front) (front ++ zs) (IsPermutation-append_comm zs front)
+
+  -- parts for which the same stands, taken together
+  parts_stand : {A : Type 0} (f g : A → List X) (items : List A) → AllByRecursion (λ a. F (f a) ≡ F (g a)) items
+      → F (flat_map f items) ≡ F (flat_map g items)
+  parts_stand f g [] each = refl
+  parts_stand f g (a ∷ items) each =
+      part_stands (f a) (g a) (flat_map f items) each.0
+      ∙ behind_stands (g a) (flat_map f items) (flat_map g items) (parts_stand f g items each.1)
+
+  -- what stands for a list stands for itself
+  stands_itself : (xs : List X) → F (F xs) ≡ F xs
+  stands_itself xs = ap F (sym (append-nil (F xs))) ∙ sym (part xs []) ∙ ap F (append-nil xs)
+
+-- ---- the first of each mark
 
 module _ {X : Type 0} (same : X → X → Bool) (itself : (x : X) → same x x ≡ true)
     (along : (x y z : X) → same x y ≡ true → same y z ≡ true → same x z ≡ true)
@@ -263,33 +294,160 @@ module _ {X : Type 0} (same : X → X → Bool) (itself : (x : X) → same x x �
   pub part_firsts : (xs ys : List X) → first_items (xs ++ ys) ≡ first_items (first_items xs ++ ys)
   part_firsts = part_fine same (λ x y e. e)
 
-  -- so parts that have the same first ones can stand for each other
-  pub part_same : (xs zs ys : List X) → first_items xs ≡ first_items zs → first_items (xs ++ ys) ≡ first_items (zs ++ ys)
-  part_same xs zs ys e = part_firsts xs ys ∙ ap (λ fs. first_items (fs ++ ys)) e ∙ sym (part_firsts zs ys)
-
-  pub part_same-behind : (front xs zs : List X) → first_items xs ≡ first_items zs → first_items (front ++ xs) ≡ first_items (front ++ zs)
-  part_same-behind front xs zs e =
-      items_same (front ++ xs) (xs ++ front) (IsPermutation-append_comm front xs)
-      ∙ part_same xs zs front e
-      ∙ items_same (zs ++ front) (front ++ zs) (IsPermutation-append_comm zs front)
-
-  -- ---- all parts
-
   -- parts that have the same first ones, taken together
   pub parts_same : {A : Type 0} (f g : A → List X) (items : List A) → AllByRecursion (λ a. first_items (f a) ≡ first_items (g a)) items
       → first_items (flat_map f items) ≡ first_items (flat_map g items)
-  parts_same f g [] each = refl
-  parts_same f g (a ∷ items) each =
-      part_same (f a) (g a) (flat_map f items) each.0
-      ∙ part_same-behind (g a) (flat_map f items) (flat_map g items) (parts_same f g items each.1)
+  parts_same = parts_stand first_items items_same part_firsts
 
   -- the first of each mark of a list that was cut to these are they again
   pub again : (xs : List X) → first_items (first_items xs) ≡ first_items xs
-  again xs =
-      ap first_items (sym (append-nil (first_items xs))) ∙ sym (part_firsts xs []) ∙ ap first_items (append-nil xs)
+  again = stands_itself first_items items_same part_firsts
 
   pub all_firsts : {A : Type 0} (f : A → List X) (items : List A)
       → first_items (flat_map f items) ≡ first_items (flat_map (λ a. first_items (f a)) items)
   all_firsts f items =
       parts_same f (λ a. first_items (f a)) items
       (all_of (λ a. first_items (f a) ≡ first_items (first_items (f a))) (λ a. sym (again (f a))) items)
+
+  -- ---- the first few
+
+  module _ (laws : IsEquivalence same) (n : ℕ) where
+    abbrev pub first_few : List X → List X
+    first_few xs = take n (first_items xs)
+
+    few_same : (xs ys : List X) → IsPermutation xs ys → first_few xs ≡ first_few ys
+    few_same xs ys moved = ap (take n) (items_same xs ys moved)
+
+    abbrev up_to : X → X → Bool
+    up_to x y = not (is_gt (R y x))
+
+    none_behind : (x y : X) (ys : List X) → R x y ≡ Less → NoneBefore R y ys → filter (up_to x) ys ≡ []
+    none_behind x y [] before none = refl
+    none_behind x y (z ∷ ys) before none =
+        ap (λ b. cond (not b) (z ∷ filter (up_to x) ys) (filter (up_to x) ys)) (behind x y before z none.0)
+        ∙ none_behind x y ys before none.1
+
+    none_up_to : (x y : X) (ys : List X) → R x y ≡ Less → NoneBefore R y ys → filter (up_to x) (y ∷ ys) ≡ []
+    none_up_to x y ys before none =
+        ap (λ b. cond (not b) (y ∷ filter (up_to x) ys) (filter (up_to x) ys))
+        (ap is_gt (o.antisymm y x ∙ ap ordering_reverse before))
+        ∙ none_behind x y ys before none
+
+    -- where the items up to x have marks enough, x changes nothing of the first few
+    late : (kept ys : List X) (x : X) → Ascends R ys → n ≤ length (firsts same kept (filter (up_to x) ys))
+        → take n (firsts same kept (insert_by R ys x)) ≡ take n (firsts same kept ys)
+    late kept [] x up many = enough same n kept (x ∷ []) many
+    late kept (y ∷ ys) x up many = by (λ m. late (with_item same kept y) ys x up.1 m) (R x y) refl where
+      by : (n ≤ length (firsts same (with_item same kept y) (filter (up_to x) ys))
+          → take n (firsts same (with_item same kept y) (insert_by R ys x)) ≡ take n (firsts same (with_item same kept y) ys))
+          → (r : Ordering) → R x y ≡ r
+          → take n (firsts same kept (match_ordering r (x ∷ y ∷ ys) (x ∷ y ∷ ys) (y ∷ insert_by R ys x)))
+          ≡ take n (firsts same kept (y ∷ ys))
+      by rest Less is =
+          let long : n ≤ length kept = subst (λ zs. n ≤ length (firsts same kept zs)) (none_up_to x y ys is up.0) many in
+          enough same n kept (x ∷ y ∷ ys) long ∙ sym (enough same n kept (y ∷ ys) long)
+      by rest Equal is =
+          ap (λ z. take n (firsts same (with_item same (with_item same kept z) y) ys)) (equal x y is)
+          ∙ ap (λ ks. take n (firsts same ks ys)) (there same (with_item same kept y) y (knows_put kept y y (itself y)))
+      by rest Greater is =
+          rest (subst (λ b. n ≤ length (firsts same kept (cond b (y ∷ filter (up_to x) ys) (filter (up_to x) ys))))
+          (ap (λ r. not (is_gt r)) (o.antisymm y x ∙ ap ordering_reverse is)) many)
+
+    without_late : (xs : List X) (x : X) → n ≤ length (first_items (filter (up_to x) xs)) → first_few (xs ++ x ∷ []) ≡ first_few xs
+    without_late xs x many =
+        ap (λ zs. take n (firsts same [] zs)) (sorted_by-push R xs x)
+        ∙ late [] (sorted_by R xs) x (Ascends-sorted_by o xs)
+        (subst (λ zs. n ≤ length (firsts same [] zs)) (sorted_by-filter o (up_to x) xs) many)
+
+    -- ---- how many marks there are
+
+    knows_firsts : (kept xs : List X) (q : X) → Knows kept q ⊎ Knows xs q → Knows (firsts same kept xs) q
+    knows_firsts kept [] q (inl known) = known
+    knows_firsts kept [] q (inr known) = absurd (true≢false (sym known))
+    knows_firsts kept (x ∷ xs) q (inl known) = knows_firsts (with_item same kept x) xs q (inl (knows_more kept q x known))
+    knows_firsts kept (x ∷ xs) q (inr known) =
+        knows_firsts (with_item same kept x) xs q (by (either (same q x) (list_any (same q) xs) known))
+      where
+        by : (same q x ≡ true) ⊎ Knows xs q → Knows (with_item same kept x) q ⊎ Knows xs q
+        by (inl here) = inl (knows_put kept q x here)
+        by (inr later) = inr later
+
+    distinct : (xs : List X) → Apart same xs → IsDistinct same xs
+    unfolding IsDistinct
+    distinct [] a = tt
+    distinct (x ∷ xs) a = (turned xs a.0, distinct xs a.1) where
+      turned : (ys : List X) → AllByRecursion (λ y. same y x ≡ false) ys → AllByRecursion (λ y. same x y ≡ false) ys
+      turned [] b = tt
+      turned (y ∷ ys) b = (laws.symm x y ∙ b.0, turned ys b.1)
+
+    own_up_to : (front rest : List X) (x : X) → AllByRecursion (λ y. is_gt (R y x) ≡ false) front
+        → filter (up_to x) (front ++ rest) ≡ front ++ filter (up_to x) rest
+    own_up_to [] rest x all = refl
+    own_up_to (y ∷ front) rest x all =
+        ap (λ b. cond (not b) (y ∷ filter (up_to x) (front ++ rest)) (filter (up_to x) (front ++ rest))) all.0
+        ∙ ap (λ zs. y ∷ zs) (own_up_to front rest x all.1)
+
+    -- as many as there are items up to x of which no two have the same
+    marks_enough : (front rest : List X) (x : X) → n ≤ length front → Apart same front
+        → AllByRecursion (λ y. is_gt (R y x) ≡ false) front → n ≤ length (first_items (filter (up_to x) (front ++ rest)))
+    marks_enough front rest x many apart all =
+        let found : List X = front ++ filter (up_to x) rest in
+        let fewer : length front ≤ length (first_items found) =
+        length-le_from_is_member laws front (first_items found) (distinct front apart)
+        (λ q known. knows_firsts [] (sorted_by R found) q (inr (sym (list_any-IsPermutation (same q) found (sorted_by R found)
+        (IsPermutation-sorted_by R found)) ∙ list_any-append (same q) front (filter (up_to x) rest)
+        ∙ or_left (list_any (same q) front) (list_any (same q) (filter (up_to x) rest)) known))) in
+        subst (λ zs. n ≤ length (first_items zs)) (sym (own_up_to front rest x all)) (omega (arith, many, fewer))
+
+    -- ---- a part that is cut
+
+    all_before : (front : List X) (x : X) (xs : List X) → Ascends R (front ++ x ∷ xs) → AllByRecursion (λ y. is_gt (R y x) ≡ false) front
+    all_before [] x xs up = tt
+    all_before (k ∷ front) x xs up = (at_place k front x xs up.0, all_before front x xs up.1)
+
+    cut_behind : (front rest ys : List X) → n ≤ length front → Apart same front → Ascends R (front ++ rest)
+        → first_few ((front ++ rest) ++ ys) ≡ first_few (front ++ ys)
+    cut_behind front [] ys many apart up = ap (λ zs. first_few (zs ++ ys)) (append-nil front)
+    cut_behind front (x ∷ rest) ys many apart up =
+        few_same ((front ++ x ∷ rest) ++ ys) (((front ++ rest) ++ ys) ++ x ∷ []) (last front x rest ys)
+        ∙ without_late ((front ++ rest) ++ ys) x
+        (subst (λ zs. n ≤ length (first_items (filter (up_to x) zs))) (sym (append_assoc front rest ys))
+        (marks_enough front (rest ++ ys) x many apart (all_before front x rest up)))
+        ∙ cut_behind front rest ys many apart (ascends_without front x rest up)
+
+    cut : (xs ys : List X) → Apart same xs → Ascends R xs → first_few (xs ++ ys) ≡ first_few (take n xs ++ ys)
+    cut xs ys apart up = by (nat_lt (length xs) n) refl where
+      by : (b : Bool) → nat_lt (length xs) n ≡ b → first_few (xs ++ ys) ≡ first_few (take n xs ++ ys)
+      by true is =
+          let few = ltb-true (length xs) n is in
+          ap (λ zs. first_few (zs ++ ys)) (sym (take_all n xs (omega (arith, few))))
+      by false is =
+          let many = ltb-false (length xs) n is in
+          let long = length-take-le n xs many in
+          ap (λ zs. first_few (zs ++ ys)) (sym (take-append-drop n xs))
+          ∙ cut_behind (take n xs) (drop n xs) ys (omega (arith, long)) (apart_taken same n xs apart)
+          (subst (Ascends R) (sym (take-append-drop n xs)) up)
+
+    ascends_firsts : (kept xs : List X) → Ascends R (kept ++ xs) → Ascends R (firsts same kept xs)
+    ascends_firsts kept [] up = subst (Ascends R) (append-nil kept) up
+    ascends_firsts kept (x ∷ xs) up = by (λ ks u. ascends_firsts ks xs u) (list_any (same x) kept) refl where
+      by : ((ks : List X) → Ascends R (ks ++ xs) → Ascends R (firsts same ks xs)) → (b : Bool) → list_any (same x) kept ≡ b
+          → Ascends R (firsts same (with_item same kept x) xs)
+      by rest true is =
+          subst (λ ks. Ascends R (firsts same ks xs)) (sym (there same kept x is)) (rest kept (ascends_without kept x xs up))
+      by rest false is =
+          subst (λ ks. Ascends R (firsts same ks xs)) (sym (new same kept x is))
+          (rest (kept ++ x ∷ []) (subst (Ascends R) (sym (append_assoc kept (x ∷ []) xs)) up))
+
+    -- the first few of each part tell those of all
+    part_few : (xs ys : List X) → first_few (xs ++ ys) ≡ first_few (first_few xs ++ ys)
+    part_few xs ys =
+        ap (take n) (part_firsts xs ys)
+        ∙ cut (first_items xs) ys (apart_firsts same [] (sorted_by R xs) tt) (ascends_firsts [] (sorted_by R xs) (Ascends-sorted_by o xs))
+
+    pub parts_few : {A : Type 0} (f g : A → List X) (items : List A) → AllByRecursion (λ a. first_few (f a) ≡ first_few (g a)) items
+        → first_few (flat_map f items) ≡ first_few (flat_map g items)
+    parts_few = parts_stand first_few few_same part_few
+
+    pub few_again : (xs : List X) → first_few (first_few xs) ≡ first_few (first_items xs)
+    few_again xs = stands_itself first_few few_same part_few xs ∙ ap (take n) (sym (again xs))

@@ -1,12 +1,12 @@
 -- A query of several branches over shards: the first rows of each branch and shard, put into the merged columns, tell the first row of
--- each key.
-use Rattle.std.proofs.Common.{◌≡◌, List, [], ◌∷◌, ◌++◌, map, fold, refl, sym, ap, ◌∙◌, true, cond, not, None}
+-- each key; and where no values are projected as many of them as are asked for, by as many rows of each branch and shard.
+use Rattle.std.proofs.Common.{◌≡◌, ℕ, List, [], ◌∷◌, ◌++◌, map, fold, take, refl, sym, ap, ◌∙◌, true, cond, not, Option, Some, None}
 use Rattle.std.specs.Prelude.{All, filter, flat_map}
 use Rattle.std.specs.List.{AllByRecursion}
 use Rattle.std.specs.Ordering.{match_ordering}
 use Rattle.std.specs.declared.cmp.Ordering.{Ordering}
 use Rattle.std.specs.declared.cmp.Ordering.TheVariants.{Less, Equal, Greater}
-use Rattle.std.proofs.lemmas.List.{map-append}
+use Rattle.std.proofs.lemmas.List.{map-append, take-map}
 use Rattle.std.proofs.lemmas.List.Elements.{All-head, All-tail}
 use Rattle.ds_base.specs.declared.column.Column.{Column}
 use Rattle.ds_entity.specs.Entities.{EntityParts}
@@ -18,7 +18,7 @@ use Rattle.ds_query.specs.declared.branch.Window.{Window}
 use Rattle.ds_query.specs.Filters.{projected}
 use Rattle.ds_query.specs.Lawful.{IsLawfulBranch, IsLawfulNormal, has_pair, names_differ}
 use Rattle.ds_pages.specs.Extended.{extended}
-use Rattle.ds_pages.specs.Pages.{first_rows, is_between, page_of, page_of_rows, same_mark, with_places}
+use Rattle.ds_pages.specs.Pages.{at_most, first_rows, is_between, page_of, page_of_rows, same_mark, with_places}
 use Rattle.ds_pages.specs.Places.{compare_rows}
 use Rattle.ds_pages.proofs.FirstLaws.{first_of_each-map}
 use Rattle.ds_model.specs.Results.{branch_results, result, united}
@@ -28,8 +28,8 @@ use Rattle.ds_model.proofs.ResultOrder.{long_branch, long_extended}
 use Rattle.ds_model.proofs.RowOrder.{IsLongRow, full_row_cmp, full_row-total, full_row-same, sorted-full}
 use Rattle.ds_engine.proofs.MergedOrder.{extended-cmp}
 use Rattle.ds_engine.proofs.PartFirsts.{firsts, kept_all}
-use Rattle.ds_engine.proofs.ShardResults.{all_of_shards, mark_along, mark_from, mark_itself, mark_parts, rows-append}
-use Rattle.ds_engine.proofs.UnitedFirsts.{first_items, alone_fine, parts_same}
+use Rattle.ds_engine.proofs.ShardResults.{all_of_shards, mark_along, mark_from, mark_itself, mark_laws, mark_parts, rows-append}
+use Rattle.ds_engine.proofs.UnitedFirsts.{alone_fine, few_again, first_few, first_items, parts_few, parts_same}
 
 -- ---- sorting through a function that keeps the order
 
@@ -134,11 +134,39 @@ module _ (merged : List Column) (q : Branch) (lawful : IsLawfulBranch q)
       (all_of (λ es. in_merged (put (branch_results q None None es)) ≡ in_merged (put (rows q es))) results-stand shards)
       ∙ ap in_merged (sym (put-all shards))
 
+  -- ---- as many as are asked for, where no values are projected
+
+  abbrev few : ℕ → List RowParts → List RowParts
+  few =
+      first_few (same_mark merged []) (mark_itself merged []) (mark_along merged []) (full_row-total merged) (full_row-same merged)
+      (mark_laws merged [])
+
+  -- a branch's results are the first of each key in the merged columns
+  results_first : (es : List EntityParts) → projected q.select ≡ [] → put (branch_results q None None es) ≡ in_merged (put (rows q es))
+  results_first es none =
+      ap put (results_are es)
+      ∙ ap (λ names. put (firsts (same_mark q.columns names) [] (sorted_by (full_row_cmp q.columns) (rows q es)))) none
+      ∙ sym (firsts-put (rows q es) (long_branch q es))
+
+  few_of_branch : (k : ℕ) (es : List EntityParts) → projected q.select ≡ []
+      → few k (put (take k (branch_results q None None es))) ≡ few k (put (branch_results q None None es))
+  few_of_branch k es none =
+      let first = results_first es none in
+      ap (few k) (sym (take-map (extended merged q) k (branch_results q None None es)) ∙ ap (take k) first)
+      ∙ few_again (same_mark merged []) (mark_itself merged []) (mark_along merged []) (full_row-total merged) (full_row-same merged)
+      (mark_laws merged []) k (put (rows q es))
+      ∙ ap (few k) (sym first)
+
 -- ---- all branches
 
 -- the results of each branch and shard, in the merged columns
 abbrev pub given_rows : Normal → List (List EntityParts) → List RowParts
 given_rows n shards = flat_map (λ q. flat_map (λ es. map (extended n.merged q) (branch_results q None None es)) shards) n.branches
+
+-- of each branch and shard the first results, as many as are asked for
+abbrev pub cut_rows : Normal → Option ℕ → List (List EntityParts) → List RowParts
+cut_rows n most =
+    flat_map (λ es. flat_map (λ q. map (extended n.merged q) (at_most most (branch_results q None None es))) n.branches)
 
 module _ (n : Normal) (lawful : IsLawfulNormal n) (shards : List (List EntityParts)) where
   abbrev whole : List RowParts → List RowParts
@@ -162,7 +190,7 @@ module _ (n : Normal) (lawful : IsLawfulNormal n) (shards : List (List EntityPar
         (All-tail (λ (b : Branch). filter (λ c. not (has_pair b.equal c.name)) n.merged ≡ b.columns) q qs own),
   )
 
-  long_given : (qs : List Branch) → AllByRecursion (IsLongRow n.merged) (flat_map given_of qs)
+  pub long_given : (qs : List Branch) → AllByRecursion (IsLongRow n.merged) (flat_map given_of qs)
   long_given qs =
       all-flat_map (IsLongRow n.merged) given_of qs (all_of (λ q. AllByRecursion (IsLongRow n.merged) (given_of q))
       (λ q. all-flat_map (IsLongRow n.merged) (λ es. map (extended n.merged q) (branch_results q None None es)) shards
@@ -189,3 +217,50 @@ module _ (n : Normal) (lawful : IsLawfulNormal n) (shards : List (List EntityPar
       ap (λ firsts. with_places n.merged (page_of n.merged w firsts)) given-firsts
       ∙ ap (λ b. with_places n.merged (page_of n.merged w (cond b (first_rows n.merged [] (united n (all_of_shards shards)))
       (flat_map (λ q. branch_results q w.start w.end (all_of_shards shards)) n.branches)))) (sym several)
+
+  abbrev cut_to : Option ℕ → List EntityParts → Branch → List RowParts
+  cut_to most es q = map (extended n.merged q) (at_most most (branch_results q None None es))
+
+  pub long_cut : (most : Option ℕ) → AllByRecursion (IsLongRow n.merged) (cut_rows n most shards)
+  long_cut most =
+      all-flat_map (IsLongRow n.merged) (λ es. flat_map (cut_to most es) n.branches) shards
+      (all_of (λ es. AllByRecursion (IsLongRow n.merged) (flat_map (cut_to most es) n.branches))
+      (λ es. all-flat_map (IsLongRow n.merged) (cut_to most es) n.branches
+      (all_of (λ q. AllByRecursion (IsLongRow n.merged) (cut_to most es q))
+      (λ q. long_of n.merged q (at_most most (branch_results q None None es))) n.branches)) shards)
+
+  module _ (k : ℕ) where
+    abbrev few_of_all : List RowParts → List RowParts
+    few_of_all =
+        first_few (same_mark n.merged []) (mark_itself n.merged []) (mark_along n.merged []) (full_row-total n.merged)
+        (full_row-same n.merged) (mark_laws n.merged []) k
+
+    each_few : (es : List EntityParts) (qs : List Branch) → All IsLawfulBranch qs
+        → All (λ b. filter (λ c. not (has_pair b.equal c.name)) n.merged ≡ b.columns) qs → All (λ (b : Branch). projected b.select ≡ []) qs
+        → AllByRecursion (λ q. few_of_all (cut_to (Some k) es q) ≡ few_of_all (cut_to None es q)) qs
+    each_few es [] all own none = tt
+    each_few es (q ∷ qs) all own none = (
+      few_of_branch n.merged q (All-head IsLawfulBranch q qs all)
+          (All-head (λ (b : Branch). filter (λ c. not (has_pair b.equal c.name)) n.merged ≡ b.columns) q qs own) lawful.names_differ k es
+          (All-head (λ (b : Branch). projected b.select ≡ []) q qs none),
+      each_few es qs (All-tail IsLawfulBranch q qs all)
+          (All-tail (λ (b : Branch). filter (λ c. not (has_pair b.equal c.name)) n.merged ≡ b.columns) q qs own)
+          (All-tail (λ (b : Branch). projected b.select ≡ []) q qs none),
+    )
+
+    together : {A : Type 0} (f g : A → List RowParts) (items : List A)
+        → AllByRecursion (λ a. few_of_all (f a) ≡ few_of_all (g a)) items → few_of_all (flat_map f items) ≡ few_of_all (flat_map g items)
+    together =
+        parts_few (same_mark n.merged []) (mark_itself n.merged []) (mark_along n.merged []) (full_row-total n.merged)
+        (full_row-same n.merged) (mark_laws n.merged []) k
+
+    -- The first k of each branch and shard tell the first k of all, where no values are projected.
+    pub cut-firsts : All (λ (b : Branch). projected b.select ≡ []) n.branches
+        → take k (first_rows n.merged [] (cut_rows n (Some k) shards)) ≡ take k (first_rows n.merged [] (cut_rows n None shards))
+    cut-firsts none =
+        ap (λ zs. take k (firsts (same_mark n.merged []) [] zs)) (sorted-full n.merged (cut_rows n (Some k) shards) (long_cut (Some k)))
+        ∙ together (λ es. flat_map (cut_to (Some k) es) n.branches) (λ es. flat_map (cut_to None es) n.branches) shards
+        (all_of (λ es. few_of_all (flat_map (cut_to (Some k) es) n.branches) ≡ few_of_all (flat_map (cut_to None es) n.branches))
+        (λ es. together (cut_to (Some k) es) (cut_to None es) n.branches (each_few es n.branches lawful.lawful lawful.merged none)) shards)
+        ∙ ap (λ zs. take k (firsts (same_mark n.merged []) [] zs))
+        (sym (sorted-full n.merged (cut_rows n None shards) (long_cut None)))

@@ -1,6 +1,6 @@
 -- What a query finds among the entities of shards, and what it is joined from: each shard's own results.
 use Rattle.std.specs.Prelude.{◌≡◌, ℕ, ◌+◌, List, [], ◌∷◌, length, map, flat_map, fold, drop, All, slice_get, Option, None, Some, cond}
-use Rattle.std.specs.Prelude.{unwrap_or, ⊤}
+use Rattle.std.specs.Prelude.{unwrap_or, ⊤, Bool, false, ◌&&◌}
 use Rattle.std.specs.List.{AllByRecursion}
 use Rattle.ds_base.specs.declared.column.Column.{Column}
 use Rattle.ds_entity.specs.declared.results.Item.{Item}
@@ -12,6 +12,7 @@ use Rattle.ds_query.specs.declared.query.Select.TheVariants as select
 use Rattle.ds_query.specs.declared.branch.Branch.{Branch}
 use Rattle.ds_query.specs.declared.branch.Normal.{Normal}
 use Rattle.ds_query.specs.declared.branch.Window.{Window}
+use Rattle.ds_query.specs.Reasons.{is_projection}
 use Rattle.ds_query.specs.declared.row.Place.{Place}
 use Rattle.ds_query.specs.declared.row.Row.{Row}
 use Rattle.ds_log.specs.Shards.{shard_of}
@@ -63,9 +64,15 @@ AreOfShards shards first (entities ∷ views) =
 
 -- ---- what each shard gives
 
--- how many results of a branch: of a query of one branch as many as its page skips or takes, and of several branches all
+-- is a projection selected? All branches of a query select the same
+abbrev pub selects_projection : List Branch → Bool
+selects_projection [] = false
+selects_projection (q ∷ qs) = is_projection q.select
+
+-- How many results of a branch: as many as the page skips or takes. Of several branches the first row of each key is kept, and a branch
+-- of a projection may have many rows of one key, so of these it is all.
 abbrev pub most_of : Normal → Window → Option ℕ
-most_of n w = cond n.several None (plus_limit w.offset w.limit)
+most_of n w = cond (n.several && selects_projection n.branches) None (plus_limit w.offset w.limit)
 
 -- a branch's rows in the columns of the query
 abbrev pub in_columns : Normal → Branch → List RowParts → List RowParts

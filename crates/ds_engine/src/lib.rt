@@ -14,10 +14,11 @@
 //! `group` are the calls of the store (`entered` what both ask of a slot), whose promises are in `specs/Counted` and `specs/Groups`.
 //! What is proved of lists and views stands in `proofs/`. Two laws say that shards can be answered one by one: `ShardResults` (of a query
 //! of one branch the page is told by the first results of each shard, as many as are skipped and taken) and `UnitedResults` (of a query
-//! of several branches by the results of each branch over each shard, put into the merged columns). On them stand `ShardPages` (the page
-//! of what the shards give is that over all entities), `OneShard` (so is what the window cuts of one shard's results), `Placings` (and
-//! what is read of the places of a page), `InShards` (an entity is found in the shard of its group), `GlobalPages` and `GroupPages`
-//! (these are the views of a journal) and `FewerSteps` (sums of bounds).
+//! of several branches by the results of each branch over each shard, put into the merged columns, and where no projection is selected by
+//! as many of each as are skipped and taken). On them stand `ShardPages` (the page of what the shards give is that over all entities),
+//! `OneShard` (so is what the window cuts of one shard's results), `Placings` (and what is read of the places of a page), `InShards` (an
+//! entity is found in the shard of its group), `GlobalPages` and `GroupPages` (these are the views of a journal) and `FewerSteps` (sums of
+//! bounds).
 #![tactic(auto)]
 
 mod alone;

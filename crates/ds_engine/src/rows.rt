@@ -5,7 +5,7 @@ ghost use Rattle.ds_query.specs.Lawful.{IsLawfulBranch, IsLawfulNormal};
 ghost use Rattle.ds_pages.specs.Places.{IsPlaced, placed};
 ghost use Rattle.ds_branch.specs.BoundSums.{bound_at};
 ghost use Rattle.ds_engine.specs.Plans.{ArePlansFor, IsPlanFor};
-ghost use Rattle.ds_engine.specs.Searches.{branch_rows, in_columns, most_of, shard_rows};
+ghost use Rattle.ds_engine.specs.Searches.{branch_rows, in_columns, most_of, selects_projection, shard_rows};
 ghost use Rattle.ds_engine.specs.Snapshots.{asked_in, entities_in};
 
 use crate::snapshot::ShardSnapshot;
@@ -14,7 +14,7 @@ use ds_branch::{answer, extended};
 use ds_indexdef::Defs;
 use ds_io::Steps;
 use ds_planner::ScanPlan;
-use ds_query::{Branch, Normal, Row, RowList, Window};
+use ds_query::{Branch, Normal, Row, RowList, Select, Window};
 use std::alloc::Global;
 use std::sync::ledger::Ledger;
 
@@ -102,16 +102,26 @@ fn branch_rows<L: Ledger>(
     in_columns(alloc, normal, branch, rows)
 }
 
-/// How many results of a branch each shard gives: of a query of one branch those that its page skips or takes, and of several all.
+/// How many results of a branch each shard gives: those that the page skips or takes, and of a projection by several branches all.
 pub(crate) fn most_of(normal: &Normal, window: &Window) -> Option<u64>
     ensures { result ≡ most_of normal.now window.now }
 {
-    if normal.several {
+    if normal.several && is_projection(normal.branches.as_slice()) {
         return None;
     }
     match window.limit {
         Some(limit) => Some(u64::from(window.offset) + u64::from(limit)),
         None => None,
+    }
+}
+
+/// Whether a projection is selected, which all branches do or none.
+fn is_projection(branches: &[Branch]) -> bool
+    ensures { result ≡ selects_projection branches.now }
+{
+    match branches.first() {
+        Some(branch) => matches!(branch.select, Select::Projection(_)),
+        None => false,
     }
 }
 

@@ -37,8 +37,9 @@ pub struct Found {
 /// What a query finds in shards, each as its snapshot stands: a page of its results over the entities of all.
 ///
 /// It needs the definitions of the shards and for each branch a plan that answers it and has no scan too many, as `plans_of` gives them.
-/// The steps are within the sum of the bounds of all branches over all shards, where a query of one branch asks each shard for as many
-/// results as its page skips or takes; and each entity that is given takes one step more. A refusal means out of memory.
+/// The steps are within the sum of the bounds of all branches over all shards, where each shard is asked for as many results of a branch
+/// as the page skips or takes, and by a projection of several branches for all; and each entity that is given takes one step more. A
+/// refusal means out of memory.
 pub fn search<L: Ledger>(
     alloc: Global,
     snapshots: &[ShardSnapshot<'_>],
