@@ -5,7 +5,7 @@ use Rattle.std.proofs.lemmas.List.Elements.{All-append}
 use mathlib.Core.List.{IsPrefix}
 use Rattle.ds_feeding.proofs.FeedLaws.{fed_nothing}
 use Rattle.ds_feeding.specs.Feeding.{HasFed}
-use Rattle.ds_feeding.specs.ManyRows.{too_many_rows}
+use Rattle.ds_row_limit.specs.ManyRows.{first_too_many}
 use Rattle.ds_indexdef.specs.declared.IndexDef.{IndexDef}
 use Rattle.ds_log.specs.declared.Commit.{Commit}
 use Rattle.ds_store.specs.Loads.{LoadingParts}
@@ -30,7 +30,7 @@ fed_more definitions old seen new before fed after a b = record {
   fed = record {
     behind = a.fed.behind ++ b.fed.behind;
     fed = b.fed.fed ∙ ap (λ js. js ++ b.fed.behind) a.fed.fed ∙ append_assoc before.journal a.fed.behind b.fed.behind;
-    few = All-append (λ (c : Commit). too_many_rows definitions c.writes ≡ None) a.fed.behind b.fed.behind a.fed.few b.fed.few;
+    few = All-append (λ (c : Commit). first_too_many definitions c.writes ≡ None) a.fed.behind b.fed.behind a.fed.few b.fed.few;
     begins = b.fed.begins;
     shards = b.fed.shards ∙ a.fed.shards;
     passes = b.fed.passes ∙ a.fed.passes;

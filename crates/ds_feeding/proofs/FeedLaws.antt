@@ -18,7 +18,7 @@ use Rattle.ds_store.specs.Tailing.{AreFirstSince}
 use Rattle.ds_store.specs.Passes.{PassParts}
 use Rattle.ds_store_passes.proofs.Growing.{begins_no_longer, begins_through}
 use Rattle.ds_feeding.specs.Feeding.{AreFed, HasFedAll, HasTooMany, HasTooManyLeft, IsNextPart, WhereTooMany}
-use Rattle.ds_feeding.specs.ManyRows.{too_many_rows}
+use Rattle.ds_row_limit.specs.ManyRows.{first_too_many}
 use Rattle.ds_feeding.specs.declared.refused.ReindexRefused.{ReindexRefused}
 use Rattle.ds_feeding.specs.declared.refused.ReindexRefused.TheVariants as refused
 
@@ -74,7 +74,7 @@ module _ (definitions : List IndexDef) where
   fed_nothing whole before after same begins = record {
     behind = [];
     fed = ap (λ (p : LoadingParts). p.journal) same ∙ sym (append-nil before.journal);
-    few = All-nil (λ (c : Commit). too_many_rows definitions c.writes ≡ None);
+    few = All-nil (λ (c : Commit). first_too_many definitions c.writes ≡ None);
     begins = subst (λ (p : LoadingParts). IsPrefix p.journal whole) (sym same) begins;
     shards = ap (λ (p : LoadingParts). p.shards) same;
     passes = ap (λ (p : LoadingParts). p.passes) same;
@@ -83,16 +83,16 @@ module _ (definitions : List IndexDef) where
 
   -- one more
   pub fed_one : (whole left : List Commit) (c : Commit) (before now after : LoadingParts) → AreFed definitions whole before now
-      → now.journal ++ c ∷ left ≡ whole → too_many_rows definitions c.writes ≡ None
+      → now.journal ++ c ∷ left ≡ whole → first_too_many definitions c.writes ≡ None
       → after ≡ record now { journal = now.journal ++ c ∷ [] } → AreFed definitions whole before after
   fed_one whole left c before now after fed split few more =
       let journal : after.journal ≡ now.journal ++ c ∷ [] = ap (λ (p : LoadingParts). p.journal) more in
       record {
         behind = fed.behind ++ c ∷ [];
         fed = journal ∙ ap (λ xs. xs ++ c ∷ []) fed.fed ∙ append_assoc before.journal fed.behind (c ∷ []);
-        few = All-append (λ (d : Commit). too_many_rows definitions d.writes ≡ None) fed.behind (c ∷ []) fed.few
-            (All-cons (λ (d : Commit). too_many_rows definitions d.writes ≡ None) c [] few
-            (All-nil (λ (d : Commit). too_many_rows definitions d.writes ≡ None)));
+        few = All-append (λ (d : Commit). first_too_many definitions d.writes ≡ None) fed.behind (c ∷ []) fed.few
+            (All-cons (λ (d : Commit). first_too_many definitions d.writes ≡ None) c [] few
+            (All-nil (λ (d : Commit). first_too_many definitions d.writes ≡ None)));
         begins = (left, ap (λ xs. xs ++ left) journal ∙ append_assoc now.journal (c ∷ []) left ∙ split);
         shards = ap (λ (p : LoadingParts). p.shards) more ∙ fed.shards;
         passes = ap (λ (p : LoadingParts). p.passes) more ∙ fed.passes;
@@ -101,7 +101,7 @@ module _ (definitions : List IndexDef) where
 
   -- the next one has too many rows
   pub next_too_many : (whole fed left : List Commit) (c : Commit) (r : ReindexRefused) → fed ++ c ∷ left ≡ whole
-      → WhereTooMany (λ number count. (number ≡ length fed + 1) × (too_many_rows definitions c.writes ≡ Some count)) r
+      → WhereTooMany (λ number count. (number ≡ length fed + 1) × (first_too_many definitions c.writes ≡ Some count)) r
       → WhereTooMany (HasTooMany definitions whole fed) r
   next_too_many whole fed left c (refused.TooManyRows commit count) split many = record {
     next = c;

@@ -1,4 +1,3 @@
 pub mod CatchingUpLaws
 pub mod EndLaws
 pub mod FeedLaws
-pub mod RowLaws

@@ -10,7 +10,7 @@ use Rattle.ds_store.specs.Answered.{AllApplied}
 use Rattle.ds_store.specs.Loads.{LoadingParts, loaded}
 use Rattle.ds_store.specs.Lower.{IsNoLower}
 use Rattle.ds_store.specs.Passes.{HasRead, PassParts, StoreParts, nothing_seen}
-use Rattle.ds_feeding.specs.ManyRows.{HaveFewRows, too_many_rows}
+use Rattle.ds_row_limit.specs.ManyRows.{HaveFewRows, first_too_many}
 use Rattle.ds_feeding.specs.declared.refused.ReindexRefused.{ReindexRefused}
 use Rattle.ds_feeding.specs.declared.refused.ReindexRefused.TheVariants as refused
 
@@ -45,7 +45,7 @@ pub record HasTooMany (definitions : List IndexDef) (journal fed : List Commit) 
   pub next : Commit
   pub there : slice_get journal (length fed) ≡ Some next
   pub number : commit ≡ length fed + 1
-  pub many : too_many_rows definitions next.writes ≡ Some count
+  pub many : first_too_many definitions next.writes ≡ Some count
 
 -- What feeding leaves beside a running store: a pass of that store has seen more, and some of the commits that it has then seen were fed.
 -- The pass stands no lower than they are, and no id was drawn that isn't below the id counter which it has seen.

@@ -10,7 +10,6 @@ use crate::reindex::Reindex;
 use ds_base::NoMemory;
 use ds_base::limits::MAX_COMMITS;
 use ds_store::{Closed, Made, Names, Pass, Passes, Store, Tail};
-use std::alloc::Global;
 use std::sync::Wait;
 
 /// The second store, and what belongs to it.

@@ -6,13 +6,12 @@
 //! `finish` feeds the rest and gives the store with its passes, each of which has seen no less than a pass of the old store: clients go on
 //! with them.
 //!
-//! Begin with `reindex`; `finishing` ends it, `catching_up` is what its passes do then, and `many_rows` counts rows. In `specs/`, `Feeding`
-//! says what is fed, and `ManyRows` when there are too many rows.
+//! Begin with `reindex`; `finishing` ends it, and `catching_up` is what its passes do then. In `specs/`, `Feeding` says what is fed;
+//! `ds_row_limit` counts rows, and says when there are too many.
 #![tactic(auto)]
 
 mod catching_up;
 mod finishing;
-mod many_rows;
 mod refused;
 mod reindex;
 

@@ -7,14 +7,14 @@ ghost use Rattle.ds_log.specs.Conflicts.{IsCommitted, IsSerial};
 ghost use Rattle.ds_store_hubs.specs.Opening.{AreBegun, AreNamesOf};
 ghost use Rattle.ds_store.specs.Passes.{HasRead};
 ghost use Rattle.ds_feeding.specs.Feeding.{AreFed, HasTooMany, IsNextPart, WhereTooMany};
-ghost use Rattle.ds_feeding.specs.ManyRows.{too_many_rows};
+ghost use Rattle.ds_row_limit.specs.ManyRows.{first_too_many};
 
-use crate::many_rows::check_rows;
 use crate::refused::ReindexRefused;
 use ds_base::NoMemory;
 use ds_indexdef::Defs;
 use ds_journal::Draft;
 use ds_log::{Commit, Commits};
+use ds_row_limit::check_writes;
 use ds_rows::RowsRefused;
 use ds_store::{Loading, Names, Opened, Pass, Since, Store, Tail};
 use std::alloc::Global;
@@ -197,12 +197,12 @@ impl<K: Names, H: Wait + Drop> Reindex<K, H> {
         requires issued { AreIssued self.old.next commit.writes }
         requires few { length self.old.journal < most_commits }
         ensures ok { OnOk result (self.new ≡ record self.old { journal = self.old.journal ++ commit ∷ [] }) }
-        ensures few { OnOk result (too_many_rows K.definitions commit.writes ≡ None) }
+        ensures few { OnOk result (first_too_many K.definitions commit.writes ≡ None) }
         ensures err { OnErr result (self.new ≡ self.old) }
         ensures refused { IfErr result (λ r. WhereTooMany (λ number count. (number ≡ length self.old.journal + 1)
-            × (too_many_rows K.definitions commit.writes ≡ Some count)) r) }
+            × (first_too_many K.definitions commit.writes ≡ Some count)) r) }
     {
-        match check_rows(self.alloc, &self.defs, &commit) {
+        match check_writes(self.alloc, &self.defs, commit.writes.as_slice()) {
             Ok(()) => {}
             Err(RowsRefused::TooManyRows { count }) => {
                 let commit = self.loading.len() + 1;

@@ -1,11 +1,12 @@
 //! Whether the kept puts fit the index file of this run: its definitions may give an entity more rows than the ones under which it was
 //! put.
 ghost use Rattle.std.specs.Prelude.{◌+◌, ◌<◌, ◌^◌, length};
-ghost use Rattle.ds_restoring.specs.Fitting.{AreChecked, IsChecked, first_too_many, too_many_in};
+ghost use Rattle.ds_restoring.specs.Fitting.{AreChecked};
 
 use ds_indexdef::Defs;
-use ds_log::{Commit, Write};
-use ds_rows::{RowsRefused, count_rows};
+use ds_log::Commit;
+use ds_row_limit::check_writes;
+use ds_rows::RowsRefused;
 use std::alloc::Global;
 
 /// Why a kept journal isn't served.
@@ -37,27 +38,4 @@ pub fn check_rows(alloc: Global, defs: &Defs, journal: &[Commit]) -> Result<(), 
         }
     }
     Ok(())
-}
-
-/// Counts the rows of each put among a commit's writes.
-fn check_writes(alloc: Global, defs: &Defs, writes: &[Write]) -> Result<(), RowsRefused>
-    ensures { IsChecked (first_too_many defs.now writes.now) result }
-{
-    for write in writes {
-        check_write(alloc, defs, write)?;
-    }
-    Ok(())
-}
-
-/// Counts the rows of a put.
-fn check_write(alloc: Global, defs: &Defs, write: &Write) -> Result<(), RowsRefused>
-    ensures { IsChecked (too_many_in defs.now write.now) result }
-{
-    match write {
-        Write::Put(entity) => {
-            count_rows(alloc, defs, entity)?;
-            Ok(())
-        }
-        Write::Delete(_) => Ok(()),
-    }
 }

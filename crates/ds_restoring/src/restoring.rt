@@ -107,7 +107,7 @@ fn make_ready<J: Names, R: Wait, H: Wait + Drop>(
     let place = loading.len();
     let next = loading.next();
     let (made, others) = share_apart(loading)?;
-    let clients = begin_clients(rt, alloc, &made.store, others, place, next)?;
+    let clients = begin_clients(alloc, &made.store, others, place, next)?;
     let Loaded { store, pass, tail } = made;
     let Clients { begun, counts } = clients;
     let Begun {
@@ -162,8 +162,7 @@ struct Clients<J: Names> {
 
 /// What a run begins with over a store, of which these are passes. The clients begin behind this place and this id counter, and there is
 /// room for their passes and one more. A refusal means out of memory.
-fn begin_clients<J: Names, R: Wait, H: Wait + Drop>(
-    rt: &R,
+fn begin_clients<J: Names, H: Wait + Drop>(
     alloc: Global,
     store: &Store<J, H>,
     passes: Passes<J>,
@@ -188,7 +187,7 @@ fn begin_clients<J: Names, R: Wait, H: Wait + Drop>(
     ensures room { IfOk result (λ c. length passes + 1 ≤ vec_capacity c.begun.passes) }
 {
     let mut begun = begin_with_room(alloc, store.shards(), passes)?;
-    begun.sessions.begin_behind(rt, store, place, next)?;
+    begun.sessions.begin_behind(store, place, next)?;
     let counts = Counts::from(vec![in alloc; 0u64; store.shards() as usize]?);
     Ok(Clients { begun, counts })
 }
