@@ -1,2 +1,3 @@
 pub mod Unsent
 pub mod Writes
+pub mod Looking

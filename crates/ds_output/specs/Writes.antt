@@ -1,4 +1,6 @@
 -- What the reply to a write says.
+use Rattle.std.specs.Prelude.{Bool, true, false}
+use Rattle.ds_base.specs.Keys.{KeyParts}
 use Rattle.ds_log.specs.declared.Write.{Write}
 use Rattle.ds_log.specs.declared.Write.TheVariants.{Put, Delete}
 use Rattle.ds_reply.specs.declared.reply.WriteAt.{WriteAt}
@@ -9,3 +11,13 @@ use Rattle.ds_reply.specs.declared.reply.Body.TheVariants as body
 abbrev pub written_body : Write → WriteAt → Body
 written_body (Put e) = body.Put e.key
 written_body (Delete k) = body.Delete k
+
+-- the same of a key, which was deleted or put
+abbrev pub body_with : Bool → KeyParts → WriteAt → Body
+body_with true key = body.Delete key
+body_with false key = body.Put key
+
+-- is it the reply to a put?
+abbrev pub is_of_put : Body → Bool
+is_of_put (body.Put key at) = true
+is_of_put _ = false

@@ -18,4 +18,4 @@ pub use searched::{counts_in, found_body, place_in};
 pub use telling::{make_room_for_ids, make_room_to_tell, tell, tell_last, tell_no_memory};
 pub use unsent::{Texts, Unsent, no_texts};
 pub use writing::write_all;
-pub use written::{body_of, placed, prepare_key};
+pub use written::{body_of, body_with, prepare_key};

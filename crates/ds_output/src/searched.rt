@@ -1,36 +1,39 @@
 //! What the reply to a search says.
-ghost use Rattle.std.specs.Prelude.{◌≡◌, ℕ, List, Bool, Option, IfOk};
+ghost use Rattle.std.specs.Prelude.{◌≡◌, ℕ, List, Bool, Option, IfOk, IsTrue};
 ghost use Rattle.std.specs.Option.{option_copied};
 ghost use Rattle.ds_entity.specs.declared.results.Item.{Item};
 ghost use Rattle.ds_entity.specs.declared.results.Seen.{Seen};
 ghost use Rattle.ds_model.specs.Answers.{cursor_of};
 ghost use Rattle.ds_protocol.specs.Finishing.{found};
 ghost use Rattle.ds_query.specs.declared.query.Select.{Select};
+ghost use Rattle.ds_output.specs.Looking.{tells_counts, tells_place};
 
 use ds_base::{Counts, NoMemory, TryCopy};
 use ds_entity::{Results, Seen};
 use ds_protocol::{Search, finish};
 use ds_query::{Normal, Place, RowList};
 use ds_reply::Body;
-use std::alloc::{AllocError, Global};
+use std::alloc::Global;
 
-/// The counts that were looked at. A refusal means out of memory.
+/// The counts that were looked at, where counts were. A refusal means out of memory.
 pub fn counts_in(alloc: Global, seen: &Seen) -> Result<Counts, NoMemory>
+    requires { IsTrue (tells_counts seen.now) }
     ensures { IfOk result (λ counts. seen.now ≡ Seen.Counts counts) }
 {
     match seen {
         Seen::Counts(counts) => counts.copy(alloc),
-        Seen::Place(_) => Err(AllocError),
+        Seen::Place(_) => unreachable!(),
     }
 }
 
-/// The place that was looked at.
-pub fn place_in(seen: &Seen) -> Result<u64, NoMemory>
-    ensures { IfOk result (λ place. seen.now ≡ Seen.Place place) }
+/// The place that was looked at, where one was.
+pub fn place_in(seen: &Seen) -> u64
+    requires { IsTrue (tells_place seen.now) }
+    ensures { seen.now ≡ Seen.Place result }
 {
     match seen {
-        Seen::Place(place) => Ok(*place),
-        Seen::Counts(_) => Err(AllocError),
+        Seen::Place(place) => *place,
+        Seen::Counts(_) => unreachable!(),
     }
 }
 

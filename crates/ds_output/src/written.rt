@@ -1,10 +1,9 @@
 //! What the reply to a write says.
 ghost use Rattle.std.specs.Prelude.{◌≡◌, ◌≤◌, ℕ, IfOk, IsTrue};
 ghost use Rattle.ds_base.specs.Keys.{KeyParts, ends_in_id, renumbered};
-ghost use Rattle.ds_log.specs.declared.Write.TheVariants as write;
 ghost use Rattle.ds_reply.specs.declared.reply.Body.{Body};
 ghost use Rattle.ds_reply.specs.declared.reply.WriteAt.{WriteAt};
-ghost use Rattle.ds_output.specs.Writes.{written_body};
+ghost use Rattle.ds_output.specs.Writes.{body_with, is_of_put, written_body};
 
 use ds_base::limits::MAX_ID;
 use ds_base::{Buffer, Key, NoMemory, TryCopy};
@@ -24,14 +23,14 @@ pub fn body_of(alloc: Global, write: &Write, at: WriteAt) -> Result<Body, NoMemo
     })
 }
 
-/// The same, at this place.
-pub fn placed(body: Body, at: WriteAt) -> Body
-    ensures { (write : Write) (before : WriteAt) → body ≡ written_body write before → result ≡ written_body write at }
+/// What the reply to a write of this key says, at a place. It takes no memory.
+pub fn body_with(key: Key, deletes: bool, at: WriteAt) -> Body
+    ensures { result ≡ body_with deletes key at }
 {
-    match body {
-        Body::Put { key, at: _ } => Body::Put { key, at },
-        Body::Delete { key, at: _ } => Body::Delete { key, at },
-        other => other,
+    if deletes {
+        Body::Delete { key, at }
+    } else {
+        Body::Put { key, at }
     }
 }
 
@@ -69,15 +68,16 @@ pub fn prepare_key(
         line: _,
         body,
     } = longest;
-    key_in(body)
+    Ok(key_in(body))
 }
 
-/// The key that the reply to a put tells; there is none in any other.
-fn key_in(body: Body) -> Result<Key, NoMemory>
-    ensures { (key : KeyParts) (at : WriteAt) → body ≡ Body.Put key at → IfOk result (λ k. k ≡ key) }
+/// The key that the reply to a put tells.
+fn key_in(body: Body) -> Key
+    requires { IsTrue (is_of_put body) }
+    ensures { (key : KeyParts) (at : WriteAt) → body ≡ Body.Put key at → result ≡ key }
 {
     match body {
-        Body::Put { key, at: _at } => Ok(key),
-        _other => Err(AllocError),
+        Body::Put { key, at: _at } => key,
+        _other => unreachable!(),
     }
 }

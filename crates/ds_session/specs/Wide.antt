@@ -1,6 +1,6 @@
--- Which searches go over all shards at once, each shard in a thread of its own.
-use Rattle.std.specs.Prelude.{◌≡◌, ℕ, ◌<◌, None, length, sum}
-use Rattle.ds_model.specs.Asked.{Search}
+-- When a search without an ancestor goes over all shards at once, each shard in a thread of its own.
+use Rattle.std.specs.Prelude.{◌≡◌, ℕ, ◌<◌, None, sum}
+use Rattle.ds_query.specs.declared.branch.Window.{Window}
 use Rattle.ds_store.specs.Passes.{PassParts, counts_of}
 
 -- Where shards have applied no more entries together, one thread scans them before others have started: fifteen threads start in some 1.5
@@ -12,7 +12,6 @@ most_scanned_by_one = 16384
 abbrev pub entries_seen : PassParts → ℕ
 entries_seen p = sum (counts_of p)
 
--- A search goes over all shards at once where there are several, it has neither limit nor ancestor, and the pass has seen more entries
--- applied than one thread is to scan.
-abbrev pub GoesWide : Search → PassParts → Type 0
-GoesWide search p = (1 < length p.lists) × (search.query.ancestor ≡ None) × (search.limit ≡ None) × (most_scanned_by_one < entries_seen p)
+-- It does so where there are several shards, it has no limit, and the pass has seen more entries applied than one thread is to scan.
+abbrev pub GoesWide : Window → ℕ → PassParts → Type 0
+GoesWide w shards p = (1 < shards) × (w.limit ≡ None) × (most_scanned_by_one < entries_seen p)

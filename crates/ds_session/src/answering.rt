@@ -124,20 +124,38 @@ impl<J: Names> State<J> {
                 rt, store, number, entity, incomplete, keep,
             ),
             Operation::Delete { key } => self.write(rt, store, number, Write::Delete(key), keep),
-            Operation::Get { key } => self.get(rt, store, number, &key, keep),
-            Operation::Find(search) => self.find(rt, store, defs, number, &search, keep, steps),
-            Operation::Begin { several_groups } => self.begin(number, several_groups, keep),
-            Operation::Commit => self.commit(rt, store, number, keep),
-            Operation::Rollback => self.rollback(number, keep),
-            Operation::Settle => self.settle(rt, store, number, keep),
-            Operation::AllocateIds { count } => self.allocate(rt, store, number, count, keep),
-            Operation::Apply { shard } => self.apply(
-                rt,
-                store,
-                number,
-                shard_number(store, shard),
-                keep,
-            ),
+            Operation::Get { key } => {
+                self.get(rt, store, number, &key, keep);
+                drop(key);
+            }
+            Operation::Find(search) => {
+                self.find(rt, store, defs, number, &search, keep, steps);
+                drop(search);
+            }
+            Operation::Begin { several_groups } => {
+                drop(operation);
+                self.begin(number, several_groups, keep);
+            }
+            Operation::Commit => {
+                drop(operation);
+                self.commit(rt, store, number, keep);
+            }
+            Operation::Rollback => {
+                drop(operation);
+                self.rollback(number, keep);
+            }
+            Operation::Settle => {
+                drop(operation);
+                self.settle(rt, store, number, keep);
+            }
+            Operation::AllocateIds { count } => {
+                drop(operation);
+                self.allocate(rt, store, number, count, keep);
+            }
+            Operation::Apply { shard } => {
+                drop(operation);
+                self.apply(rt, store, number, shard_number(store, shard), keep);
+            }
         }
     }
 

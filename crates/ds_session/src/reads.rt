@@ -1,5 +1,5 @@
 //! Gets, and where strong reads stand.
-ghost use Rattle.std.specs.Prelude.{◌≡◌, ◌+◌, ◌<◌, ◌≤◌, ◌++◌, ◌⊎◌, ℕ, None, Some, Result, is_some, length, take, IfOk};
+ghost use Rattle.std.specs.Prelude.{◌≡◌, ◌+◌, ◌<◌, ◌≤◌, ◌++◌, ◌⊎◌, ℕ, None, Some, Result, is_some, length, take, IfOk, IsTrue};
 ghost use Rattle.ds_base.specs.Keys.{root_of};
 ghost use Rattle.ds_base.specs.Limits.{most_shards};
 ghost use Rattle.ds_log.specs.Shards.{shard_of};
@@ -60,6 +60,17 @@ pub(crate) fn touch_place<J: Names, R: Wait, H: Wait + Drop>(
         return Some(place);
     }
     Some(store.touch(rt, pass))
+}
+
+/// The place at which a read in a transaction stands.
+pub(crate) fn touched(at: Option<u64>) -> u64
+    requires { IsTrue (is_some at) }
+    ensures { at ≡ Some result }
+{
+    match at {
+        Some(place) => place,
+        None => unreachable!(),
+    }
 }
 
 impl<J: Names> State<J> {
@@ -127,6 +138,7 @@ impl<J: Names> State<J> {
         keep: usize,
     )
         requires within { IsWithin self.old.seen self.old.pass }
+        requires inside { IsTrue (is_some at) }
         requires room { keep + length (reply_text (no_memory_reply self.old.client number)) ≤ self.old.room }
         ensures says { (place : ℕ) → at ≡ Some place
             → (self.new.text ≡ self.old.text ++ reply_text (no_memory_reply self.old.client number))
@@ -144,9 +156,7 @@ impl<J: Names> State<J> {
             (Body.Expired expired.applied place expired.snapshot)
             → HasReplied J.definitions shards (Some J.window) (record self.old { pass = p }) self.new number read keep }
     {
-        let Some(place) = at else {
-            return self.say_no_memory(number, keep);
-        };
+        let place = touched(at);
         let body = Body::Expired {
             applied: expired.applied,
             place,

@@ -1,11 +1,12 @@
 //! Queries and statements.
-ghost use Rattle.std.specs.Prelude.{◌≡◌, ◌+◌, ◌≤◌, All, None, Some, length, is_some, IfOk, OnErr};
+ghost use Rattle.std.specs.Prelude.{◌≡◌, ◌+◌, ◌<◌, ◌≤◌, All, None, Some, length, is_some, IfOk, IsTrue, OnErr};
 ghost use Rattle.std.specs.Option.{option_map};
 ghost use Rattle.ds_entity.specs.declared.results.Seen.{Seen};
 ghost use Rattle.ds_base.specs.Keys.{root_of};
 ghost use Rattle.ds_log.specs.Shards.{shard_of};
 ghost use Rattle.ds_model.specs.Answers.{cursor_of};
 ghost use Rattle.ds_model.specs.Groups.{group_refusal};
+ghost use Rattle.ds_output.specs.Looking.{tells_counts, tells_place};
 ghost use Rattle.ds_protocol.specs.Finishing.{found};
 ghost use Rattle.ds_protocol.specs.Preparing.{ArePlansFor, IsReady};
 ghost use Rattle.ds_protocol.specs.Saying.{no_memory_reply};
@@ -16,8 +17,9 @@ ghost use Rattle.ds_request.specs.declared.call.Call.{Call};
 ghost use Rattle.ds_session.specs.Replying.{HasReplied, request_of};
 ghost use Rattle.ds_session.specs.Sessions.{IsWithin};
 ghost use Rattle.ds_session.specs.Steps.{IsWithinSteps};
+ghost use Rattle.ds_session.specs.Wide.{GoesWide};
 ghost use Rattle.ds_engine.specs.Counted.{FindsGlobally};
-ghost use Rattle.ds_engine.specs.Searches.{look_ups, most_of, search_bound};
+ghost use Rattle.ds_engine.specs.Searches.{ancestor_of, look_ups, most_of, search_bound};
 ghost use Rattle.ds_engine.specs.Snapshots.{newest};
 ghost use Rattle.ds_store.specs.Passes.{HasRead};
 ghost use Rattle.ds_store.specs.Searched.{HasCounted};
@@ -68,9 +70,13 @@ impl<J: Names> State<J> {
         };
         match &search.query.ancestor {
             Some(ancestor) => {
-                self.find_in_group(rt, store, number, search, ready, ancestor, keep, steps);
+                self.find_in_group(rt, store, number, search, &ready, ancestor, keep, steps);
+                drop(ready);
             }
-            None => self.find_in_all(rt, store, number, search, ready, keep, steps),
+            None => {
+                self.find_in_all(rt, store, number, search, &ready, keep, steps);
+                drop(ready);
+            }
         }
     }
 
@@ -81,16 +87,17 @@ impl<J: Names> State<J> {
         store: &Store<J, H>,
         number: u64,
         search: &Search,
-        ready: Ready,
+        ready: &Ready,
         keep: usize,
         steps: &mut Steps<L>,
     )
         requires within { IsWithin self.old.seen self.old.pass }
         requires everywhere { search.now.query.ancestor ≡ None }
-        requires ready { IsReady J.definitions (is_some self.old.seen.transaction) (search_parts search.now) ready.normal ready.window }
-        requires lawful { IsLawfulNormal ready.normal }
-        requires planned { ArePlansFor J.definitions ready.normal.branches ready.plans.items }
-        requires placeless { SuitsSeveral ready.normal.several ready.window }
+        requires ready { IsReady J.definitions (is_some self.old.seen.transaction) (search_parts search.now) ready.now.normal
+            ready.now.window }
+        requires lawful { IsLawfulNormal ready.now.normal }
+        requires planned { ArePlansFor J.definitions ready.now.normal.branches ready.now.plans.items }
+        requires placeless { SuitsSeveral ready.now.normal.several ready.now.window }
         requires room { keep + length (reply_text (no_memory_reply self.old.client number)) ≤ self.old.room }
         ensures replied { (call : Call) → IsSearchOf call search.now
             → HasReplied J.definitions store.now.shards (Some J.window) self.old self.new number (request_of self.old.client call) keep }
@@ -98,33 +105,23 @@ impl<J: Names> State<J> {
             → IsWithinSteps J.definitions J.window store.now.shards number (request_of self.old.client call) self.old self.new
             steps.old steps.new }
     {
-        let Ready {
-            normal,
-            window,
-            plans,
-        } = ready;
-        let wide = goes_wide(search, &self.pass);
+        let wide = goes_wide(&ready.window, store.shards(), &self.pass);
         let asked = query(
             rt,
             store,
             &mut self.pass,
             wide,
-            &normal,
-            &window,
-            plans.as_slice(),
+            &ready.normal,
+            &ready.window,
+            ready.plans.as_slice(),
             steps,
         );
-        drop(plans);
-        drop(window);
         let Ok(answer) = asked else {
-            drop(normal);
             return self.say_no_memory(number, keep);
         };
-        let Ok(counted) = counted_body(self.alloc, search, &normal, answer) else {
-            drop(normal);
+        let Ok(counted) = counted_body(self.alloc, search, &ready.normal, answer) else {
             return self.say_no_memory(number, keep);
         };
-        drop(normal);
         let Counted {
             body,
             counts,
@@ -143,17 +140,18 @@ impl<J: Names> State<J> {
         store: &Store<J, H>,
         number: u64,
         search: &Search,
-        ready: Ready,
+        ready: &Ready,
         ancestor: &Key,
         keep: usize,
         steps: &mut Steps<L>,
     )
         requires within { IsWithin self.old.seen self.old.pass }
         requires under { search.now.query.ancestor ≡ Some ancestor.now }
-        requires ready { IsReady J.definitions (is_some self.old.seen.transaction) (search_parts search.now) ready.normal ready.window }
-        requires lawful { IsLawfulNormal ready.normal }
-        requires planned { ArePlansFor J.definitions ready.normal.branches ready.plans.items }
-        requires placeless { SuitsSeveral ready.normal.several ready.window }
+        requires ready { IsReady J.definitions (is_some self.old.seen.transaction) (search_parts search.now) ready.now.normal
+            ready.now.window }
+        requires lawful { IsLawfulNormal ready.now.normal }
+        requires planned { ArePlansFor J.definitions ready.now.normal.branches ready.now.plans.items }
+        requires placeless { SuitsSeveral ready.now.normal.several ready.now.window }
         requires room { keep + length (reply_text (no_memory_reply self.old.client number)) ≤ self.old.room }
         ensures replied { (call : Call) → IsSearchOf call search.now
             → HasReplied J.definitions store.now.shards (Some J.window) self.old self.new number (request_of self.old.client call) keep }
@@ -162,12 +160,10 @@ impl<J: Names> State<J> {
             steps.old steps.new }
     {
         let Ok((group, shard)) = group_and_shard(self.alloc, ancestor, store.shards()) else {
-            drop(ready);
             return self.say_no_memory(number, keep);
         };
         if let Some(body) = self.transaction.group_refusal(self.alloc, Some(&group)) {
             drop(group);
-            drop(ready);
             return self.refuse(number, body, keep);
         }
         self.find_there(rt, store, number, search, ready, group, shard, keep, steps);
@@ -180,7 +176,7 @@ impl<J: Names> State<J> {
         store: &Store<J, H>,
         number: u64,
         search: &Search,
-        ready: Ready,
+        ready: &Ready,
         group: Key,
         shard: u32,
         keep: usize,
@@ -189,11 +185,13 @@ impl<J: Names> State<J> {
         requires within { IsWithin self.old.seen self.old.pass }
         requires under { option_map root_of search.now.query.ancestor ≡ Some group }
         requires shard { shard ≡ shard_of group store.now.shards }
+        requires below { shard < store.now.shards }
         requires allowed { group_refusal self.old.seen.transaction (Some group) ≡ None }
-        requires ready { IsReady J.definitions (is_some self.old.seen.transaction) (search_parts search.now) ready.normal ready.window }
-        requires lawful { IsLawfulNormal ready.normal }
-        requires planned { ArePlansFor J.definitions ready.normal.branches ready.plans.items }
-        requires placeless { SuitsSeveral ready.normal.several ready.window }
+        requires ready { IsReady J.definitions (is_some self.old.seen.transaction) (search_parts search.now) ready.now.normal
+            ready.now.window }
+        requires lawful { IsLawfulNormal ready.now.normal }
+        requires planned { ArePlansFor J.definitions ready.now.normal.branches ready.now.plans.items }
+        requires placeless { SuitsSeveral ready.now.normal.several ready.now.window }
         requires room { keep + length (reply_text (no_memory_reply self.old.client number)) ≤ self.old.room }
         ensures replied { (call : Call) → IsSearchOf call search.now
             → HasReplied J.definitions store.now.shards (Some J.window) self.old self.new number (request_of self.old.client call) keep }
@@ -203,7 +201,6 @@ impl<J: Names> State<J> {
     {
         if self.transaction.make_room().is_err() {
             drop(group);
-            drop(ready);
             return self.say_no_memory(number, keep);
         }
         let at = touch_place(rt, store, &mut self.pass, &self.transaction, &group);
@@ -213,17 +210,16 @@ impl<J: Names> State<J> {
             &ready.normal,
             &ready.window,
             ready.plans.as_slice(),
+            shard,
             at,
             steps,
         );
         match asked {
             Ok(answer) => {
                 let Ok(read) = place_body(self.alloc, search, &ready.normal, answer) else {
-                    drop(ready);
                     drop(group);
                     return self.say_no_memory(number, keep);
                 };
-                drop(ready);
                 let ReadAt {
                     body,
                     place,
@@ -237,7 +233,6 @@ impl<J: Names> State<J> {
                 self.seen.see_entries(shard as usize, entries);
             }
             Err(refused) => {
-                drop(ready);
                 drop(group);
                 match refused {
                     GetRefused::Expired(expired) => {
@@ -250,8 +245,8 @@ impl<J: Names> State<J> {
     }
 }
 
-/// What a query finds over all shards. Where they are asked at once, in threads as far as there are any, no steps are counted. A refusal is
-/// lack of memory.
+/// What a query without an ancestor finds over all shards. Where they are asked at once, in threads as far as there are any, no steps are
+/// counted. A refusal is lack of memory.
 fn query<J: Names, R: Threads + Sync, H: Wait + Drop, L: Ledger>(
     rt: &R,
     store: &Store<J, H>,
@@ -265,6 +260,8 @@ fn query<J: Names, R: Threads + Sync, H: Wait + Drop, L: Ledger>(
     requires lawful { IsLawfulNormal normal.now }
     requires placeless { SuitsSeveral normal.now.several window.now }
     requires planned { ArePlansFor J.definitions normal.now.branches plans.now }
+    requires wide { IsTrue wide → GoesWide window.now store.now.shards pass.old }
+    requires everywhere { ancestor_of normal.now.branches ≡ None }
     ensures counted { IfOk result (λ a. HasCounted pass.old pass.new a.seen a.beside) }
     ensures found { IfOk result (λ a. FindsGlobally pass.new.lists normal.now window.now a.results a.next) }
     ensures steps_bounded { IfOk result (λ a. All (λ q. steps.new ≤ (steps.old
@@ -293,6 +290,7 @@ fn counted_body(
     normal: &Normal,
     answer: Answer,
 ) -> Result<Counted, NoMemory>
+    requires { IsTrue (tells_counts answer.seen) }
     ensures counts { IfOk result (λ c. answer.seen ≡ Seen.Counts c.counts) }
     ensures commit { IfOk result (λ c. c.commit ≡ answer.beside) }
     ensures body { IfOk result (λ c. c.body ≡ found search.now.statement search.now.query.select answer.results answer.seen
@@ -327,6 +325,7 @@ fn place_body(
     normal: &Normal,
     answer: Answer,
 ) -> Result<ReadAt, NoMemory>
+    requires { IsTrue (tells_place answer.seen) }
     ensures place { IfOk result (λ r. answer.seen ≡ Seen.Place r.place) }
     ensures entries { IfOk result (λ r. r.entries ≡ answer.beside) }
     ensures body { IfOk result (λ r. r.body ≡ found search.now.statement search.now.query.select answer.results answer.seen
@@ -338,7 +337,7 @@ fn place_body(
         seen,
         beside,
     } = answer;
-    let place = place_in(&seen)?;
+    let place = place_in(&seen);
     let body = found_body(alloc, search, normal, results, next.as_ref(), seen)?;
     Ok(ReadAt {
         body,

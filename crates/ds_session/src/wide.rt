@@ -1,22 +1,18 @@
 //! Which searches go over all shards at once.
 ghost use Rattle.std.specs.Prelude.{◌<◌, ◌↔◌, IsTrue};
-ghost use Rattle.ds_protocol.specs.Searches.{search_parts};
 ghost use Rattle.ds_session.specs.Wide.{GoesWide, entries_seen, most_scanned_by_one};
 
-use ds_protocol::Search;
+use ds_query::Window;
 use ds_store::{Names, Pass};
 
 /// One thread scans so many entries before others have started.
 const MOST_SCANNED_BY_ONE: u64 = 16_384;
 
-/// Whether a search is to go over all shards at once, each in a thread of its own.
-pub(crate) fn goes_wide<J: Names>(search: &Search, pass: &Pass<J>) -> bool
-    ensures { IsTrue result ↔ GoesWide (search_parts search.now) pass.now }
+/// Whether a search without an ancestor is to go over all shards at once, each in a thread of its own.
+pub(crate) fn goes_wide<J: Names>(window: &Window, shards: u32, pass: &Pass<J>) -> bool
+    ensures { IsTrue result ↔ GoesWide window.now shards pass.now }
 {
-    pass.shards() > 1
-        && search.query.ancestor.is_none()
-        && search.limit.is_none()
-        && has_many_entries(pass)
+    shards > 1 && window.limit.is_none() && has_many_entries(pass)
 }
 
 /// Whether a pass has seen more entries applied than one thread is to scan.

@@ -2,6 +2,7 @@
 ghost use Rattle.std.specs.Prelude.{◌≡◌, ◌+◌, ◌≤◌, ℕ, None, Some, Result, true, length, IfOk, IsTrue};
 ghost use Rattle.ds_base.specs.Keys.{ends_in_id, renumbered};
 ghost use Rattle.ds_log.specs.declared.Write.TheVariants as write;
+ghost use Rattle.ds_log.specs.Logs.{key_of};
 ghost use Rattle.ds_model.specs.Refusals.{refusal_of};
 ghost use Rattle.ds_model.specs.Sessions.{saw_next};
 ghost use Rattle.ds_protocol.specs.Saying.{no_memory_reply};
@@ -12,7 +13,7 @@ ghost use Rattle.ds_request.specs.declared.call.Call.{Call};
 ghost use Rattle.ds_request.specs.declared.call.Request.{Request};
 ghost use Rattle.ds_session.specs.Answering.{HasSaid};
 ghost use Rattle.ds_session.specs.Replying.{HasReplied, own_commit, request_of, write_call};
-ghost use Rattle.ds_output.specs.Writes.{written_body};
+ghost use Rattle.ds_output.specs.Writes.{body_with, written_body};
 ghost use Rattle.ds_session.specs.Sessions.{IsWithin};
 ghost use Rattle.ds_store.specs.Answered.{WhereExhausted};
 ghost use Rattle.ds_store.specs.Passes.{HasRead, PassParts};
@@ -23,19 +24,20 @@ use ds_base::{Buffer, Key, NoMemory, TryCopy};
 use ds_entity::Entity;
 use ds_journal::Draft;
 use ds_log::Write;
-use ds_output::{body_of, make_room_for_write, placed, prepare_key, tell_last};
+use ds_output::{body_with, make_room_for_write, prepare_key, tell_last};
 use ds_protocol::{draft_of_write, next_above};
 use ds_reply::{Body, WriteAt};
 use ds_store::{Names, NewCause, NewRefused, Store};
 use std::alloc::{AllocError, Global};
 use std::sync::Wait;
 
-/// A write outside a transaction that nothing but the store refuses: the commit that is asked for, and what its reply says, at a commit
-/// that isn't known yet. There is room for the reply.
+/// A write outside a transaction that nothing but the store refuses: the commit that is asked for, and what its reply tells beside the
+/// commit's number. There is room for the reply.
 #[derive(Drop)]
 struct Prepared {
     draft: Draft,
-    body: Body,
+    key: Key,
+    deletes: bool,
 }
 
 /// The same of a put whose last id isn't known yet either: the key that its reply tells.
@@ -54,16 +56,40 @@ fn prepare_commit(
     text: &mut Buffer,
 ) -> Result<Prepared, NoMemory>
     ensures draft { IfOk result (λ p. p.draft ≡ own_commit client write) }
-    ensures body { IfOk result (λ p. (at : WriteAt) × (p.body ≡ written_body write at)) }
+    ensures body { IfOk result (λ p. (at : WriteAt) → body_with p.deletes p.key at ≡ written_body write at) }
     ensures same { text.new.bytes ≡ text.old.bytes }
     ensures kept { text.old.spare ≤ text.new.spare }
 {
-    let body = body_of(alloc, &write, WriteAt::Commit(u64::MAX))?;
-    if !make_room_for_write(write.key(), keep, text) {
+    let room = make_room_for_write(write.key(), keep, text);
+    let deletes = is_delete(&write);
+    let copied = key_if(room, alloc, write.key());
+    let draft = draft_of_write(alloc, client, write)?;
+    let key = copied?;
+    Ok(Prepared {
+        draft,
+        key,
+        deletes,
+    })
+}
+
+/// Whether a write deletes.
+fn is_delete(write: &Write) -> bool
+    ensures { (at : WriteAt) → body_with result (key_of write.now) at ≡ written_body write.now at }
+{
+    match write {
+        Write::Put(_) => false,
+        Write::Delete(_) => true,
+    }
+}
+
+/// A copy of a key, where there is room for the reply that tells it. A refusal means out of memory.
+fn key_if(room: bool, alloc: Global, key: &Key) -> Result<Key, NoMemory>
+    ensures { IfOk result (λ copy. copy ≡ key.now) }
+{
+    if !room {
         return Err(AllocError);
     }
-    let draft = draft_of_write(alloc, client, write)?;
-    Ok(Prepared { draft, body })
+    key.copy(alloc)
 }
 
 /// The commit of a put with a new id, and the key that its reply tells, for which there is then room. A refusal means out of memory.
@@ -157,19 +183,26 @@ impl<J: Names> State<J> {
             return self.say_unissued(number, id, keep);
         }
         let prepared = prepare_commit(self.alloc, self.client, write, keep, &mut self.text);
-        let Ok(Prepared { draft, body }) = prepared else {
+        let Ok(
+            Prepared {
+                draft,
+                key,
+                deletes,
+            },
+        ) = prepared
+        else {
             return self.say_no_memory(number, keep);
         };
         match store.commit(rt, &mut self.pass, draft) {
             Ok(commit) => {
                 self.seen.see_place(commit);
                 self.seen.see_next(next);
-                let body = placed(body, WriteAt::Commit(commit));
+                let body = body_with(key, deletes, WriteAt::Commit(commit));
                 tell_last(rt, self.client, number, body, keep, &mut self.text);
             }
             Err(refused) => {
                 drop(refused);
-                drop(body);
+                drop(key);
                 self.say_no_memory(number, keep);
             }
         }

@@ -13,7 +13,7 @@ ghost use Rattle.ds_session.specs.Replying.{HasReplied, request_of, write_call};
 ghost use Rattle.ds_session.specs.Sessions.{IsWithin};
 
 use crate::drawing::unissued;
-use crate::reads::touch_place;
+use crate::reads::{touch_place, touched};
 use crate::state::State;
 use ds_base::{Buffer, Key, NoMemory};
 use ds_entity::Entity;
@@ -71,11 +71,7 @@ impl<J: Names> State<J> {
             return self.say_no_memory(number, keep);
         };
         let at = touch_place(rt, store, &mut self.pass, &self.transaction, &group);
-        let Some(place) = at else {
-            drop(group);
-            drop(write);
-            return self.say_no_memory(number, keep);
-        };
+        let place = touched(at);
         let Ok(body) = body_of(self.alloc, &write, WriteAt::Place(place)) else {
             drop(group);
             drop(write);

@@ -3,6 +3,7 @@ pub use Rattle.ds_store_passes.specs.Answered
 pub use Rattle.ds_store_passes.specs.Ending
 pub use Rattle.ds_store_passes.specs.Loads
 pub use Rattle.ds_store_reads.specs.Searched
-pub mod Strong
-pub mod Lower
-pub mod Tailing
+pub use Rattle.ds_store_running.specs.Strong
+pub use Rattle.ds_store_running.specs.Lower
+pub use Rattle.ds_store_running.specs.Tailing
+pub use Rattle.ds_store_running.specs.Wide

@@ -11,10 +11,10 @@
 //! which the types are generic (`ds_store_hubs`). `open` makes all hubs and words; a function that is generic in `Names` makes the
 //! store of them by `make`, runs it, and closes it; its caller picks the names, at `Brand`.
 //!
-//! Queries (`searching` for those of all shards, `strong` for those of one group) are answered by `ds_engine`, which knows no lock: a pass
-//! enters its shards, which waits for nobody, and leaves them (`ds_store_reads`). This crate takes the locks, and puts the parts together.
+//! What callers call of a store stands in `ds_store_running`; this crate makes a store of what was opened (`making`), or loads one first
+//! (`loading`), and hands all on.
 //!
-//! Begin with `ds_store_passes/specs/Passes.antt`, what contracts see of a pass and of the store, and with `store`.
+//! Begin with `ds_store_passes/specs/Passes.antt`, what contracts see of a pass and of the store, and with `ds_store_running/src/store`.
 //!
 //! A caller that runs a store, generic in its names `J`:
 //!
@@ -28,29 +28,15 @@
 //!     let Closed { journal, next } = store.close(rt, passes);                // needs all passes
 #![tactic(auto)]
 
-mod applying;
-mod closing;
-mod committing;
-mod drawing;
 mod loading;
 mod making;
-mod meeting;
-mod reading;
-mod refused;
-mod searching;
-mod standing;
-mod store;
-mod strong;
-mod tailing;
+mod parts;
 
-pub use closing::Closed;
-pub use ds_engine::Answer;
 pub use ds_store_hubs::{JournalState, Names, Opened, open};
 pub use ds_store_passes::{
     Applied, Expired, GetRefused, Got, NewCause, NewCommit, NewRefused, Pass, Passes, Settled,
     Shown, Since,
 };
+pub use ds_store_running::{Answer, Closed, Store, StrongRefused, Tail};
 pub use loading::Loading;
-pub use making::{Made, Tail, make};
-pub use refused::StrongRefused;
-pub use store::Store;
+pub use making::{Made, make};

@@ -1,6 +1,5 @@
 //! A store that is loaded before it is shared.
-ghost use Rattle.std.specs.Prelude.{◌≡◌, ◌+◌, ◌-◌, ◌<◌, ◌≤◌, ◌++◌, ◌∷◌, [], IfOk, OnErr, OnOk, length, replicate};
-ghost use Rattle.std.specs.Vec.{vec_capacity};
+ghost use Rattle.std.specs.Prelude.{◌≡◌, ◌-◌, ◌≤◌, ◌++◌, ◌∷◌, [], IfOk, OnErr, OnOk, length, replicate};
 ghost use Rattle.ds_base.specs.Limits.{first_drawn_id, greatest_id};
 ghost use Rattle.ds_log.specs.Conflicts.{IsCommitted};
 ghost use Rattle.ds_log.specs.Ids.{AreIssued};
@@ -8,19 +7,20 @@ ghost use Rattle.ds_store_hubs.specs.Opening.{AreNamesOf, AreBegun};
 ghost use Rattle.ds_store_passes.specs.Loads.{loaded};
 ghost use Rattle.ds_store_passes.specs.Passes.{nothing_seen};
 
-use crate::making::{Made, Tail};
-use crate::store::Store;
+use crate::making::Made;
+use crate::parts::{Parts, first_desk, make_parts};
 use ds_base::NoMemory;
 use ds_draw::Drawn;
 use ds_indexdef::Defs;
-use ds_journal::{Book, Draft};
+use ds_journal::Draft;
 use ds_store_hubs::{Names, Opened, SeatRoom};
 use ds_store_journal::{JournalDesk, Words};
-use ds_store_passes::{Pass, Passes, a_seat, all_passes};
-use ds_store_shards::{ShardDesk, shard_desks};
+use ds_store_passes::{Pass, Passes};
+use ds_store_running::{Store, Unshared};
+use ds_store_shards::ShardDesk;
 use std::alloc::{AllocError, Global};
 use std::marker::{Model, PhantomData};
-use std::sync::{Condvar, Mutex, Wait};
+use std::sync::{Mutex, Wait};
 
 /// A store that nobody shares yet, so that what it holds is known exactly: the commits of a journal, with the numbers 1, 2, .., and ids
 /// that are drawn up to a counter. Once it is shared, any thread may commit at any time.
@@ -77,10 +77,11 @@ impl<J: Names, H: Wait + Drop> Loading<J, H> {
           next = first_drawn_id;
         }) }
     {
+        let seats = SeatRoom::for_passes(alloc, opened.passes)?;
         let Opened {
             journal,
-            mut readers,
-            mut shards,
+            readers,
+            shards,
             commits,
             ids,
             definitions,
@@ -89,32 +90,21 @@ impl<J: Names, H: Wait + Drop> Loading<J, H> {
         } = opened;
         let Drawn {
             word: commit_word,
-            seats: mut commit_seats,
+            seats: commit_seats,
         } = commits;
         let Drawn {
             word: id_word,
-            seats: mut id_seats,
+            seats: id_seats,
         } = ids;
-        let list = all_passes(
-            alloc,
-            &mut readers,
-            &mut shards,
-            &mut commit_seats,
-            &mut id_seats,
-            passes,
-        )?;
-        let (pass, others) = last_apart(list)?;
-        let commit_keeper = a_seat(&mut commit_seats)?;
-        let id_keeper = a_seat(&mut id_seats)?;
-        let shards = shard_desks(alloc, shards, &mut readers)?;
-        let seats = SeatRoom::for_passes(alloc, passes)?;
-        let desk = JournalDesk {
-            book: Book::make(alloc),
-            writer: journal,
-            commits: commit_keeper,
-            ids: id_keeper,
-            of: PhantomData,
-        };
+        let parts = make_parts(alloc, readers, shards, commit_seats, id_seats, passes)?;
+        let Parts {
+            pass,
+            others,
+            shards,
+            commits,
+            ids,
+        } = parts;
+        let desk = first_desk(alloc, journal, commits, ids);
         Ok(Loading {
             desk,
             pass,
@@ -198,35 +188,20 @@ impl<J: Names, H: Wait + Drop> Loading<J, H> {
             alloc,
         } = self;
         others.push_reserved(pass);
-        let store = Store {
-            journal: Mutex::new(desk),
+        let (store, tail) = Store::share(Unshared {
+            desk,
             shards,
             words,
             definitions,
             window,
             passes,
-            seats: Mutex::new(seats),
-            changed: Condvar::new(),
+            seats,
             alloc,
-        };
+        });
         Made {
             store,
-            tail: Tail { of: PhantomData },
+            tail,
             passes: Passes::from(others),
         }
     }
-}
-
-/// The last of these passes, and the others with room for it. A refusal means out of memory.
-fn last_apart<J: Names>(passes: Passes<J>) -> Result<(Pass<J>, Vec<Pass<J>>), NoMemory>
-    ensures apart { IfOk result (λ parts. passes ≡ parts.1.items ++ parts.0 ∷ []) }
-    ensures room { IfOk result (λ parts. length parts.1.items < vec_capacity parts.1) }
-{
-    let mut others = passes.into_vec();
-    if others.is_empty() {
-        return Err(AllocError);
-    }
-    let pass = others.take_last();
-    others.reserve(1)?;
-    Ok((pass, others))
 }

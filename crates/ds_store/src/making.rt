@@ -4,19 +4,12 @@ ghost use Rattle.ds_store_hubs.specs.Opening.{AreNamesOf, AreBegun};
 ghost use Rattle.ds_store_passes.specs.Passes.{nothing_seen};
 
 use crate::loading::Loading;
-use crate::store::Store;
 use ds_base::NoMemory;
 use ds_store_hubs::{Names, Opened};
 use ds_store_passes::Passes;
+use ds_store_running::{Store, Tail};
 use std::alloc::Global;
-use std::marker::PhantomData;
 use std::sync::Wait;
-
-/// Leave to be handed the commits of a running store. It has no calls.
-#[derive(Drop)]
-pub struct Tail<J: Names> {
-    pub(crate) of: PhantomData<J>,
-}
 
 /// A store, with all that belongs to it.
 #[derive(Drop)]

@@ -1,4 +1,4 @@
-use Rattle.std.proofs.Common.{◌≡◌, ◌≤◌, ◌-◌, ◌∙◌, ◌++◌, ◌∷◌, [], ap, arith, length, replicate}
+use Rattle.std.proofs.Common.{◌≤◌, ◌-◌, ◌∙◌, ◌++◌, ◌∷◌, [], ap, arith, length, replicate}
 use Rattle.ds_store_passes.specs.Loads.{LoadingParts, loaded}
 use Rattle.ds_store_passes.specs.Passes.{PassParts, nothing_seen}
 use Rattle.ds_store.proofs.Loads.{alike_again, nothing_loaded}

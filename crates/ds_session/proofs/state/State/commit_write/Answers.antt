@@ -53,7 +53,7 @@ returns-in-Ok-commit g c =
     c.as_slice-path.ensures ∙ c.elems.ensures.value ∙ ap (λ (k : KeyParts). k.elems) c.key.ensures in
     let issued = ap (first_unissued c.unissued.new.pass.next) (sym path) ∙ sym c.unissued.ensures.first ∙ c.in_default.is in
     let n = c.in-Ok-commit.commit in
-    let told = c.placed-body.ensures c.args.write c.in-Ok.ensures.body.0 c.in-Ok.ensures.body.1 in
+    let told = c.body_with-body.ensures ∙ c.in-Ok.ensures.body (at.Commit n) in
     rw (← c.self.view_is)
     (wrote_replied g.J.Names.definitions c.args.store.now.shards (Some g.J.Names.window) _ _ c.unissued.new.pass c.args.number c.args.keep
     (within_parts _ _ c.self.view_is c.requires.within)

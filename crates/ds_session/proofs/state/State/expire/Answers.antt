@@ -23,7 +23,7 @@ returns-clause-says g c =
       client = c.self.inside.client;
       line = c.args.number;
       body = body.Expired c.args.expired.applied n c.args.expired.snapshot;
-    })) (same_place c.args.at c.in-Some.place m c.in-Some.is is) (c.tell.ensures.told c.if-not-tell.false)))
+    })) (same_place c.args.at c.touched-place.result m c.touched-place.ensures is) (c.tell.ensures.told c.if-not-tell.false)))
 
 pub returns-clause-pass : goal.returns-clause-pass
 returns-clause-pass g c = rw (← c.self.view_is) (λ m is. refl)

@@ -1,13 +1,23 @@
-use Rattle.std.proofs.Common.{◌++◌, refl, ap, sym, ◌∙◌, subst}
+use Rattle.std.proofs.Common.{◌++◌, refl, ap, sym, ◌∙◌, subst, arith}
 use Rattle.std.specs.Prelude.{is_some}
 use Rattle.ds_reply.specs.Replies.{reply_text}
 use Rattle.ds_protocol.specs.Preparing.{IsReady}
 use Rattle.ds_protocol.specs.Searches.{search_parts}
+use Rattle.ds_output.specs.Looking.{tells_counts}
 use Rattle.ds_session.specs.Sessions.{SessionParts}
 use Rattle.ds_session.specs.Steps.{shards_read}
-use Rattle.ds_session.proofs.FoundLaws.{counted_said, counts_told, found_steps_from}
+use Rattle.ds_session.proofs.FoundLaws.{ancestor_is, counted_said, counts_told, found_steps_from}
 use Rattle.ds_session.proofs.StateLaws.{later_from, none_from, told_from, within_parts, within_read}
 use Rattle.ds_session.proofs.state.State.find_in_all.Goals as goal
+
+pub query-asked-requires-clause-wide : goal.query-asked-requires-clause-wide
+query-asked-requires-clause-wide g c κs within = λ is.
+    let goes = c.goes_wide-wide.ensures.0 is in
+    (omega (arith, goes.0, c.shards.ensures.value), goes.1, goes.2)
+
+pub query-asked-requires-clause-everywhere : goal.query-asked-requires-clause-everywhere
+query-asked-requires-clause-everywhere g c κs within =
+    ancestor_is c.args.search.now c.args.ready.now.normal c.requires.ready.normal_is c.requires.lawful ∙ c.requires.everywhere
 
 pub say_no_memory-requires-clause-within : goal.say_no_memory-requires-clause-within
 say_no_memory-requires-clause-within g c = within_read _ _ _ c.self.view_is c.requires.within c.in_default.ensures.read
@@ -15,6 +25,9 @@ say_no_memory-requires-clause-within g c = within_read _ _ _ c.self.view_is c.re
 pub returns-in_default-clause-replied : goal.returns-in_default-clause-replied
 returns-in_default-clause-replied g c = λ call is.
     later_from _ _ _ _ _ _ c.self.view_is _ _ _ _ refl refl refl c.in_default.ensures.read (c.say_no_memory.ensures.replied _ _)
+
+pub counted_body-requires : goal.counted_body-requires
+counted_body-requires g c = ap tells_counts c.in-Ok.ensures.counted.counted.counts
 
 pub say_no_memory-requires-in_default-counted_body-clause-within : goal.say_no_memory-requires-in_default-counted_body-clause-within
 say_no_memory-requires-in_default-counted_body-clause-within g c =
@@ -35,10 +48,10 @@ returns-clause-replied g c = λ call is.
     let answer = c.in-Ok.answer in
     let counts = c.in-Ok-counted_body.counted.counts in
     let ready = subst (λ (v : SessionParts). IsReady g.J.Names.definitions (is_some v.seen.transaction) (search_parts c.args.search.now)
-    c.args.ready.normal c.args.ready.window) (sym c.self.view_is) c.requires.ready in
+    c.args.ready.now.normal c.args.ready.now.window) (sym c.self.view_is) c.requires.ready in
     told_from _ _ _ _ _ _ c.self.view_is _ _ _ _ _
     (counted_said g.J.Names.definitions c.args.store.now.shards g.J.Names.window c.args.number
-    (record { client = c.args.self.now.client; call = call }) c.args.search.now is _ c.args.ready.normal c.args.ready.window ready
+    (record { client = c.args.self.now.client; call = call }) c.args.search.now is _ c.args.ready.now.normal c.args.ready.now.window ready
     c.requires.lawful c.self.inside.pass c.query-asked.new.pass answer.results answer.next answer.seen answer.beside counts
     (within_parts _ _ c.self.view_is c.requires.within) c.requires.everywhere c.in-Ok.ensures.counted c.in-Ok-counted_body.ensures.counts
     c.in-Ok.ensures.found)
@@ -56,8 +69,8 @@ pub returns-clause-steps : goal.returns-clause-steps
 returns-clause-steps g c = λ call is.
     let answer = c.in-Ok.answer in
     found_steps_from g.J.Names.definitions c.args.store.now.shards g.J.Names.window c.args.number
-    (record { client = c.args.self.now.client; call = call }) c.args.search.now is c.args.self.now.seen c.args.ready.normal
-    c.args.ready.window c.requires.ready c.requires.lawful _ _ _ c.self.view_is _ _ answer.results answer.seen _ _
+    (record { client = c.args.self.now.client; call = call }) c.args.search.now is c.args.self.now.seen c.args.ready.now.normal
+    c.args.ready.now.window c.requires.ready c.requires.lawful _ _ _ c.self.view_is _ _ answer.results answer.seen _ _
     (ap (λ o. shards_read g.J.Names.definitions g.J.Names.window c.args.store.now.shards c.query-asked.new.pass o answer.seen)
     c.requires.everywhere)
     (c.tell.ensures.told c.if-not-tell.false ∙ ap (λ b. c.self.inside.text.bytes ++ reply_text (record {

@@ -1,4 +1,4 @@
-use Rattle.std.proofs.Common.{◌≡◌, refl, ap, sym, ◌∙◌, subst, Some, None}
+use Rattle.std.proofs.Common.{◌≡◌, ◌<◌, refl, ap, sym, ◌∙◌, subst, Some, None}
 use Rattle.std.specs.Prelude.{is_some}
 use Rattle.std.specs.Option.{option_map}
 use Rattle.ds_base.specs.Keys.{root_of}
@@ -33,7 +33,10 @@ returns-in-Some-clause-replied g c = λ call is.
     (subst (λ o. IsRefusal (group_refusal had (Some c.in-Ok.group)) o) c.in-Some.is c.group_refusal.ensures.told) in
     c.refuse.ensures _ c.args.store.now.shards
     (group_refused g.J.Names.definitions c.args.store.now.shards (record { client = c.args.self.now.client; call = call })
-    c.args.self.now.seen c.args.search.now body is (is_some c.args.self.now.seen.transaction) c.args.ancestor.now c.args.ready.normal
-    c.args.ready.window refl c.requires.under c.requires.ready
+    c.args.self.now.seen c.args.search.now body is (is_some c.args.self.now.seen.transaction) c.args.ancestor.now c.args.ready.now.normal
+    c.args.ready.now.window refl c.requires.under c.requires.ready
     (subst (λ (v : SessionParts). IsRefusal (group_refusal v.seen.transaction (Some (root_of c.args.ancestor.now))) (Some body))
     c.self.view_is told))
+
+pub find_there-requires-clause-below : goal.find_there-requires-clause-below
+find_there-requires-clause-below g c = subst (λ n. c.in-Ok.shard < n) c.shards.ensures.value c.in-Ok.ensures.below

@@ -1,4 +1,4 @@
-use Rattle.std.proofs.Common.{◌≡◌, ◌+◌, ◌≤◌, Option, [], ◌∷◌, ◌++◌, refl, ap, sym, ◌∙◌, subst, Some, None}
+use Rattle.std.proofs.Common.{◌≡◌, ℕ, ◌+◌, ◌≤◌, Option, [], ◌∷◌, ◌++◌, refl, ap, sym, ◌∙◌, subst, Some, None}
 use Rattle.std.specs.Prelude.{is_some}
 use Rattle.ds_base.specs.Keys.{root_of}
 use Rattle.ds_log.specs.Shards.{shard_of}
@@ -11,6 +11,7 @@ use Rattle.ds_engine.specs.Plans as states
 use Rattle.ds_engine.specs.Searches.{most_of, search_bound}
 use Rattle.ds_engine.specs.Snapshots.{snapshot_of}
 use Rattle.ds_store.specs.Answered.{IsExpired, WhereExpired}
+use Rattle.ds_output.specs.Looking.{tells_place}
 use Rattle.ds_session.specs.Sessions.{SessionParts}
 use Rattle.ds_session.proofs.FoundLaws.{ancestor_is, ancestor_under, found_steps_from, gone_steps_from, gone_told, group_said, group_shards}
 use Rattle.ds_session.proofs.FoundLaws.{plans_kept, read_seen}
@@ -20,15 +21,28 @@ use Rattle.ds_session.proofs.StandingLaws.{asked_at, expired_commit, within_same
 use Rattle.ds_session.proofs.StateLaws.{later_from, none_from, told_from, within_parts}
 use Rattle.ds_session.proofs.state.State.find_there.Goals as goal
 
+pub strong_query_planned-asked-requires-clause-shard : goal.strong_query_planned-asked-requires-clause-shard
+strong_query_planned-asked-requires-clause-shard g c = λ ancestor is.
+    let of = ancestor_under c.args.search.now.query.ancestor c.args.group c.requires.under in
+    let under = ancestor_is c.args.search.now c.args.ready.now.normal c.requires.ready.normal_is c.requires.lawful ∙ of.1 in
+    let same : of.0 ≡ ancestor = cc (under, is) in
+    c.requires.shard ∙ ap (λ k. shard_of k c.args.store.now.shards) (of.2 ∙ ap root_of same)
+
+pub place_body-requires : goal.place_body-requires
+place_body-requires g c =
+    let of = ancestor_under c.args.search.now.query.ancestor c.args.group c.requires.under in
+    let under = ancestor_is c.args.search.now c.args.ready.now.normal c.requires.ready.normal_is c.requires.lawful ∙ of.1 in
+    ap tells_place (c.in-Ok.ensures.found of.0 under).told
+
 pub strong_query_planned-asked-requires-clause-plans : goal.strong_query_planned-asked-requires-clause-plans
 strong_query_planned-asked-requires-clause-plans g c =
-    subst (states.ArePlansFor g.J.Names.definitions c.args.ready.normal.branches) (sym c.as_slice.ensures.value)
-    (plans_kept g.J.Names.definitions c.args.ready.normal.branches c.args.ready.plans.items c.requires.planned)
+    subst (states.ArePlansFor g.J.Names.definitions c.args.ready.now.normal.branches) (sym c.as_slice.ensures.value)
+    (plans_kept g.J.Names.definitions c.args.ready.now.normal.branches c.args.ready.now.plans.items c.requires.planned)
 
 pub say_no_memory-requires-in_default-clause-within : goal.say_no_memory-requires-in_default-clause-within
 say_no_memory-requires-in_default-clause-within g c =
     let of = ancestor_under c.args.search.now.query.ancestor c.args.group c.requires.under in
-    let under = ancestor_is c.args.search.now c.args.ready.normal c.requires.ready.normal_is c.requires.lawful ∙ of.1 in
+    let under = ancestor_is c.args.search.now c.args.ready.now.normal c.requires.ready.normal_is c.requires.lawful ∙ of.1 in
     let h = read_through c.self.inside.pass c.touch_place-at.new.pass c.strong_query_planned-asked.new.pass c.touch_place-at.ensures.read
     (c.in-Ok.ensures.found of.0 under).read.read in
     within_same c.self.inside.transaction.transaction c.make_room.new.self.transaction c.self.inside.seen c.self.inside.pass
@@ -37,7 +51,7 @@ say_no_memory-requires-in_default-clause-within g c =
 pub returns-in_default-clause-replied : goal.returns-in_default-clause-replied
 returns-in_default-clause-replied g c = λ call is.
     let of = ancestor_under c.args.search.now.query.ancestor c.args.group c.requires.under in
-    let under = ancestor_is c.args.search.now c.args.ready.normal c.requires.ready.normal_is c.requires.lawful ∙ of.1 in
+    let under = ancestor_is c.args.search.now c.args.ready.now.normal c.requires.ready.normal_is c.requires.lawful ∙ of.1 in
     let h = read_through c.self.inside.pass c.touch_place-at.new.pass c.strong_query_planned-asked.new.pass c.touch_place-at.ensures.read
     (c.in-Ok.ensures.found of.0 under).read.read in
     later_from _ _ _ _ _ _ c.self.view_is _ _ _ _ refl
@@ -47,7 +61,7 @@ returns-in_default-clause-replied g c = λ call is.
 pub returns-then-not-tell-clause-replied : goal.returns-then-not-tell-clause-replied
 returns-then-not-tell-clause-replied g c = λ call is.
     let of = ancestor_under c.args.search.now.query.ancestor c.args.group c.requires.under in
-    let under = ancestor_is c.args.search.now c.args.ready.normal c.requires.ready.normal_is c.requires.lawful ∙ of.1 in
+    let under = ancestor_is c.args.search.now c.args.ready.now.normal c.requires.ready.normal_is c.requires.lawful ∙ of.1 in
     let h = read_through c.self.inside.pass c.touch_place-at.new.pass c.strong_query_planned-asked.new.pass c.touch_place-at.ensures.read
     (c.in-Ok.ensures.found of.0 under).read.read in
     none_from _ _ _ _ _ _ c.self.view_is _ _ _ c.requires.within refl
@@ -56,7 +70,7 @@ returns-then-not-tell-clause-replied g c = λ call is.
 
 pub returns-else-not-tell-clause-replied : goal.returns-else-not-tell-clause-replied
 returns-else-not-tell-clause-replied g c = λ call is.
-    let n = c.args.ready.normal in
+    let n = c.args.ready.now.normal in
     let of = ancestor_under c.args.search.now.query.ancestor c.args.group c.requires.under in
     let ancestor = of.0 in
     let search = c.args.search.now in
@@ -67,7 +81,7 @@ returns-else-not-tell-clause-replied g c = λ call is.
     let q = c.strong_query_planned-asked.new.pass in
     let within = within_parts _ _ c.self.view_is c.requires.within in
     let ready = subst (λ (v : SessionParts). IsReady g.J.Names.definitions (is_some v.seen.transaction) (search_parts search) n
-    c.args.ready.window) (sym c.self.view_is) c.requires.ready in
+    c.args.ready.now.window) (sym c.self.view_is) c.requires.ready in
     let allowed = subst (λ k. group_refusal had (Some k) ≡ None) of.2
     (subst (λ (v : SessionParts). group_refusal v.seen.transaction (Some c.args.group) ≡ None) (sym c.self.view_is)
     c.requires.allowed) in
@@ -78,7 +92,7 @@ returns-else-not-tell-clause-replied g c = λ call is.
     told_from _ _ _ _ _ _ c.self.view_is _ _ _ _ _
     (said_after g.J.Names.definitions c.args.store.now.shards _ c.self.inside.pass p q _ _ _ _ c.touch_place-at.ensures.read
     (group_said g.J.Names.definitions c.args.store.now.shards g.J.Names.window c.args.number
-    (record { client = c.args.self.now.client; call = call }) search is (with_transaction had c.self.inside.seen) n c.args.ready.window
+    (record { client = c.args.self.now.client; call = call }) search is (with_transaction had c.self.inside.seen) n c.args.ready.now.window
     ready c.requires.lawful p q ancestor c.touch_place-at.result later of.1 allowed asked c.in-Ok.answer.results
     c.in-Ok.answer.next c.in-Ok.answer.seen c.in-Ok.answer.beside c.in-Ok-place_body.read.place
     c.in-Ok-place_body.ensures.place found))
@@ -95,7 +109,7 @@ returns-else-not-tell-clause-replied g c = λ call is.
 
 pub returns-else-not-tell-clause-steps : goal.returns-else-not-tell-clause-steps
 returns-else-not-tell-clause-steps g c = λ call is.
-    let n = c.args.ready.normal in
+    let n = c.args.ready.now.normal in
     let of = ancestor_under c.args.search.now.query.ancestor c.args.group c.requires.under in
     let ancestor = of.0 in
     let search = c.args.search.now in
@@ -103,16 +117,26 @@ returns-else-not-tell-clause-steps g c = λ call is.
     let found = c.in-Ok.ensures.found ancestor under in
     let answer = c.in-Ok.answer in
     found_steps_from g.J.Names.definitions c.args.store.now.shards g.J.Names.window c.args.number
-    (record { client = c.args.self.now.client; call = call }) search is c.args.self.now.seen n c.args.ready.window c.requires.ready
+    (record { client = c.args.self.now.client; call = call }) search is c.args.self.now.seen n c.args.ready.now.window c.requires.ready
     c.requires.lawful _ _ _ c.self.view_is _ _ answer.results answer.seen _ _
     (group_shards g.J.Names.definitions g.J.Names.window c.args.store.now.shards c.touch_place-at.new.pass
-    c.strong_query_planned-asked.new.pass search.query.ancestor ancestor c.touch_place-at.result n c.args.ready.window answer.results
+    c.strong_query_planned-asked.new.pass search.query.ancestor ancestor c.touch_place-at.result n c.args.ready.now.window answer.results
     answer.next answer.seen answer.beside of.1 found)
     (c.tell.ensures.told c.if-not-tell.false ∙ ap (λ b. c.self.inside.text.bytes ++ reply_text (record {
       client = c.self.inside.client;
       line = c.args.number;
       body = b;
     })) c.in-Ok-place_body.ensures.body) (c.in-Ok.ensures.steps_bounded ancestor under)
+
+pub expire-requires-clause-inside : goal.expire-requires-clause-inside
+expire-requires-clause-inside g c =
+    let of = ancestor_under c.args.search.now.query.ancestor c.args.group c.requires.under in
+    let ancestor = of.0 in
+    let under = ancestor_is c.args.search.now c.args.ready.now.normal c.requires.ready.normal_is c.requires.lawful ∙ of.1 in
+    let gone = subst (λ e. WhereExpired (λ x. IsExpired c.args.store.now.shards g.J.Names.window c.touch_place-at.new.pass
+    c.strong_query_planned-asked.new.pass (root_of ancestor) c.touch_place-at.result x.snapshot x.applied x.commit) e)
+    c.in-Expired.is (c.in-Err.ensures.expired ancestor under) in
+    ap (λ (o : Option ℕ). is_some o) gone.inside
 
 pub expire-requires-clause-within : goal.expire-requires-clause-within
 expire-requires-clause-within g c =
@@ -138,7 +162,7 @@ returns-in-NoMemory-clause-replied g c = λ call is.
 
 pub returns-in-Expired-clause-replied : goal.returns-in-Expired-clause-replied
 returns-in-Expired-clause-replied g c = λ call is.
-    let n = c.args.ready.normal in
+    let n = c.args.ready.now.normal in
     let of = ancestor_under c.args.search.now.query.ancestor c.args.group c.requires.under in
     let ancestor = of.0 in
     let search = c.args.search.now in
@@ -152,7 +176,7 @@ returns-in-Expired-clause-replied g c = λ call is.
     let expired = c.in-Expired.expired in
     let within = within_parts _ _ c.self.view_is c.requires.within in
     let ready = subst (λ (v : SessionParts). IsReady g.J.Names.definitions (is_some v.seen.transaction) (search_parts search) n
-    c.args.ready.window) (sym c.self.view_is) c.requires.ready in
+    c.args.ready.now.window) (sym c.self.view_is) c.requires.ready in
     let allowed = subst (λ k. group_refusal had (Some k) ≡ None) of.2
     (subst (λ (v : SessionParts). group_refusal v.seen.transaction (Some c.args.group) ≡ None) (sym c.self.view_is)
     c.requires.allowed) in
@@ -172,13 +196,13 @@ returns-in-Expired-clause-replied g c = λ call is.
     (expired_commit g.J.Names.definitions shards g.J.Names.window (with_transaction had c.self.inside.seen) c.self.inside.pass p q
     (root_of ancestor) at expired.snapshot expired.applied expired.commit c.args.shard numbered gone)
     (gone_told g.J.Names.definitions shards g.J.Names.window c.args.number (record { client = c.args.self.now.client; call = call }) search
-    is (with_transaction had c.self.inside.seen) n c.args.ready.window ready c.requires.lawful p q ancestor at later of.1
+    is (with_transaction had c.self.inside.seen) n c.args.ready.now.window ready c.requires.lawful p q ancestor at later of.1
     allowed asked c.self.inside.pass has c.self.inside.seen c.args.shard expired.snapshot expired.applied expired.commit
     c.touch_place-at.ensures.read same numbered inside gone))
 
 pub returns-in-Expired-clause-steps : goal.returns-in-Expired-clause-steps
 returns-in-Expired-clause-steps g c = λ call is.
-    let n = c.args.ready.normal in
+    let n = c.args.ready.now.normal in
     let of = ancestor_under c.args.search.now.query.ancestor c.args.group c.requires.under in
     let ancestor = of.0 in
     let search = c.args.search.now in
@@ -189,7 +213,7 @@ returns-in-Expired-clause-steps g c = λ call is.
     let at = c.touch_place-at.result in
     let expired = c.in-Expired.expired in
     let steps = c.strong_query_planned-asked.new.steps in
-    let w = c.args.ready.window in
+    let w = c.args.ready.now.window in
     let gone = subst (λ e. WhereExpired (λ x. IsExpired shards g.J.Names.window p q (root_of ancestor) at x.snapshot x.applied x.commit) e)
     c.in-Expired.is (c.in-Err.ensures.expired ancestor under) in
     let bound = subst (λ e. WhereExpired (λ x. steps ≤ c.args.steps.now + search_bound n w (most_of n w)

@@ -1,4 +1,5 @@
-use Rattle.std.proofs.Common.{◌≡◌, ◌<◌, refl, ap, subst, ◌∙◌, Some}
+use Rattle.std.proofs.Common.{◌≡◌, ◌<◌, ℕ, Option, refl, ap, subst, ◌∙◌, Some}
+use Rattle.std.specs.Prelude.{is_some}
 use Rattle.ds_base.specs.Keys.{root_of}
 use Rattle.ds_log.specs.Shards.{shard_of}
 use Rattle.ds_model.specs.Groups.{with_transaction}
@@ -25,6 +26,11 @@ returns-then-not-tell g c =
     none_from _ _ _ _ _ _ c.self.view_is _ _ _ c.requires.within refl
     (ap (λ o. with_transaction o c.self.inside.seen) c.make_room.ensures.same) h
     (c.tell.ensures.untold c.if-not-tell.true) c.tell.ensures.kept
+
+pub expire-requires-clause-inside : goal.expire-requires-clause-inside
+expire-requires-clause-inside g c =
+    let gone = rw c.in-Err-Expired.field-0-is at c.in-Err-Expired.ensures.expired in
+    ap (λ (o : Option ℕ). is_some o) gone.inside
 
 pub expire-requires-clause-within : goal.expire-requires-clause-within
 expire-requires-clause-within g c =

@@ -1,4 +1,4 @@
-use Rattle.std.proofs.Common.{◌≡◌, List, ◌++◌, refl, ap, sym, ◌∙◌, subst, None}
+use Rattle.std.proofs.Common.{◌≡◌, List, Option, ◌++◌, refl, ap, sym, ◌∙◌, subst, None}
 use Rattle.std.specs.Prelude.{IsTrue, is_some}
 use Rattle.ds_base.specs.declared.key.Elem.{Elem}
 use Rattle.ds_base.specs.Keys.{KeyParts, root_of}
@@ -7,7 +7,7 @@ use Rattle.ds_log.specs.Logs.{key_of}
 use Rattle.ds_reply.specs.declared.reply.WriteAt.TheVariants as at
 use Rattle.ds_reply.specs.Replies.{reply_text}
 use Rattle.ds_model.specs.Groups.{with_transaction}
-use Rattle.ds_model.specs.Sessions.{next_above}
+use Rattle.ds_model.specs.Sessions.{Transaction, next_above}
 use Rattle.ds_protocol.specs.Transactions.{MayWrite}
 use Rattle.ds_session.specs.Replying.{write_call}
 use Rattle.ds_output.specs.Writes.{written_body}
@@ -17,6 +17,11 @@ use Rattle.ds_session.proofs.InsideLaws.{may_write, stood, taken_seen, write_tak
 use Rattle.ds_session.proofs.StandingLaws.{within_same}
 use Rattle.ds_session.proofs.StateLaws.{later_from, none_from, told_from, unrefused_parts, within_parts}
 use Rattle.ds_session.proofs.state.State.take.Goals as goal
+
+pub touched-place-requires : goal.touched-place-requires
+touched-place-requires g c =
+    let inside = subst (λ (v : SessionParts). IsTrue (is_some v.seen.transaction)) (sym c.self.view_is) c.requires.inside in
+    c.touch_place-at.ensures.inside ∙ ap (λ (o : Option Transaction). is_some o) c.group_with_room.ensures.same ∙ inside
 
 pub say_no_memory-requires-in_default-body_of-clause-within : goal.say_no_memory-requires-in_default-body_of-clause-within
 say_no_memory-requires-in_default-body_of-clause-within g c =
@@ -58,15 +63,15 @@ returns g c =
     let asked = c.touch_place-at.ensures.stands c.self.inside.seen (within_same c.self.inside.transaction.transaction
     c.group_with_room.new.transaction.transaction c.self.inside.seen c.self.inside.pass c.self.inside.pass
     c.group_with_room.ensures.same (read_itself _) within) in
-    let may = stood c.touch_place-at.result c.in-Some.place c.self.inside.transaction.transaction
+    let may = stood c.touch_place-at.result c.touched-place.result c.self.inside.transaction.transaction
     c.group_with_room.new.transaction.transaction c.self.inside.seen c.touch_place-at.new.pass c.in-Ok.group
-    (root_of (key_of c.args.write)) c.in-Some.is c.group_with_room.ensures.same named asked in
+    (root_of (key_of c.args.write)) c.touched-place.ensures c.group_with_room.ensures.same named asked in
     let above = c.next_above-next.ensures ∙ ap (λ (es : List Elem). next_above es)
     (c.as_slice.ensures ∙ c.elems.ensures.value ∙ ap (λ (k : KeyParts). k.elems) c.key-2.ensures) in
-    told_from _ _ _ _ _ _ c.self.view_is _ _ _ (written_body c.args.write (at.Place c.in-Some.place)) _
+    told_from _ _ _ _ _ _ c.self.view_is _ _ _ (written_body c.args.write (at.Place c.touched-place.result)) _
     (write_taken g.J.Names.definitions c.args.store.now.shards _ _ seen c.self.inside.pass c.touch_place-at.new.pass c.args.write
-    c.in-Some.place inside within unrefused issued c.touch_place-at.ensures.read may)
-    (taken_seen c.args.write c.in-Ok.group c.in-Some.place c.next_above-next.result c.self.inside.seen c.see_place.new.self
+    c.touched-place.result inside within unrefused issued c.touch_place-at.ensures.read may)
+    (taken_seen c.args.write c.in-Ok.group c.touched-place.result c.next_above-next.result c.self.inside.seen c.see_place.new.self
     c.see_next.new.self c.self.inside.transaction.transaction c.group_with_room.new.transaction.transaction
     c.write.new.self.transaction named c.group_with_room.ensures.same c.write.ensures c.see_place.ensures above c.see_next.ensures)
     refl

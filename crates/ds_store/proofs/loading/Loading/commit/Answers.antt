@@ -1,4 +1,4 @@
-use Rattle.std.proofs.Common.{◌≡◌, ◌∙◌, ◌++◌, ◌∷◌, [], ap, arith, length}
+use Rattle.std.proofs.Common.{◌∙◌, ◌++◌, ◌∷◌, [], ap, arith, length}
 use Rattle.ds_store_passes.specs.Loads.{LoadingParts}
 use Rattle.ds_store_passes.specs.Passes.{PassParts}
 use Rattle.ds_store.proofs.Loads.{err_of, loaded_after, none_err, none_ok, ok_of}

@@ -1,0 +1,4 @@
+pub mod Strong
+pub mod Lower
+pub mod Tailing
+pub mod Wide
