@@ -111,13 +111,6 @@ module _ {A : Type 0} where
   each_map f (x ∷ xs) [] h = absurd h
   each_map f (x ∷ xs) (y ∷ ys) h = λ i. h.0 i ∷ each_map f xs ys h.1 i
 
--- what a call left at each place, of what was there
-pub each_changed : {A : Type 0} (Holds : A → A → Type 0) (xs ys : List A) → length ys ≡ length xs
-    → ((k : ℕ) (d : A) → k < length xs → (x : A) × (y : A) × (x ≡ get_or xs k d) × (y ≡ get_or ys k d) × Holds x y) → EachOf Holds xs ys
-each_changed Holds xs ys same left = each_of Holds xs ys same (λ k d below.
-    let at = left k d below in
-    subst (λ x. Holds x (get_or ys k d)) at.2 (subst (Holds at.0) at.3 at.4))
-
 -- ---- what stays the same
 
 -- a client has seen the same, and so has its pass

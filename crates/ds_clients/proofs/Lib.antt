@@ -2,6 +2,7 @@ pub mod ClientLaws
 pub mod ClosingLaws
 pub mod KeptLaws
 pub mod MeetingLaws
+pub mod MissedLaws
 pub mod MovingLaws
 pub mod OwnLaws
 pub mod RoundLaws

@@ -46,6 +46,10 @@ module _ (definitions : List IndexDef) (shards : ℕ) (window : Option ℕ) wher
         counts = refl;
       }))
 
+  -- a client without lines has answered them
+  pub idle_answered : (s : SessionParts) (own : List Asked) → own ≡ [] → HasAnsweredOwn definitions shards window s own s
+  idle_answered s own none = all_answered s s own own none (none_answered s own)
+
   one_more : (s t u : SessionParts) (a : Asked) (left : List Asked) → t.client ≡ s.client → length t.seen.counts ≡ length s.seen.counts
       → ((line : NumberedLine) → Asks shards line a → HasAnswered definitions shards window s t (line ∷ []))
       → HasAnsweredOwn definitions shards window t left u → HasAnsweredOwn definitions shards window s (a ∷ left) u

@@ -14,7 +14,7 @@ use Rattle.ds_protocol.proofs.Meetings.{greater-length}
 use Rattle.ds_store.specs.Passes.{PassParts}
 use Rattle.ds_asked.specs.declared.lines.Asked.{Asked}
 use Rattle.ds_asked.specs.AskedLines.{AreAskedBy, AreAskedFrom}
-use Rattle.ds_clients.specs.Clients.{AreAlike, EachOf, HasAnsweredOwn, IsReady, clients_of}
+use Rattle.ds_clients.specs.Clients.{AreAlike, AreReady, EachOf, HasAnsweredOwn, IsReady, StartsRound, clients_of}
 use Rattle.ds_session.specs.Room.{most_no_memory}
 use Rattle.ds_clients.specs.Runs.{AreWritten, HaveMet, HaveRun, passes_of, seen_of}
 use Rattle.ds_session.specs.Meeting.{HasTaken}
@@ -111,6 +111,9 @@ module _ {A : Type 0} (session : A → SessionParts) (own : A → List Asked) wh
       (omega (arith, first, same, h.0.2))
       (rooms-met g xs ys h.1 (All-tail (λ z. length (own z) * most_no_memory ≤ (session z).room) x xs all))
 
+  owned-met : (g : Session) (ready met : List A) → EachOf (Met g) ready met → map own met ≡ map own ready
+  owned-met g ready met h = each_map own ready met (each_weaker (Met g) (λ x y. own y ≡ own x) (λ x y m. m.1) ready met h)
+
   -- who has met may answer
   pub ready_met : (g : Session) (shards : ℕ) (round : List NumberedLine) (first ready met : List A) (lists : List (List Asked))
       → map (λ x. (session x).client) first ≡ range_with_len 0 (greatest_client + 1) → EachOf Roomed first ready
@@ -120,56 +123,88 @@ module _ {A : Type 0} (session : A → SessionParts) (own : A → List Asked) wh
   ready_met g shards round first ready met lists numbers roomed owned asked rooms h =
       all_ready session own shards round 0 (greatest_client + 1) met
       (clients_mapped met ∙ numbers-met g ready met h ∙ numbers_roomed first ready roomed ∙ numbers)
-      (subst (AreAskedFrom shards 0 round) (sym (owned_met ∙ owned)) asked.each)
-      (rooms-met g ready met h rooms) where
-        owned_met : map own met ≡ map own ready
-        owned_met = each_map own ready met (each_weaker (Met g) (λ x y. own y ≡ own x) (λ x y m. m.1) ready met h)
+      (subst (AreAskedFrom shards 0 round) (sym (owned-met g ready met h ∙ owned)) asked.each)
+      (rooms-met g ready met h rooms)
 
-  -- a round was run
-  pub have_run : (definitions : List IndexDef) (window : Option ℕ) (g : Session) (shards : ℕ) (round : List NumberedLine)
-      (first ready met last : List A) (lists : List (List Asked))
-      → map (λ x. (session x).client) first ≡ range_with_len 0 (greatest_client + 1) → EachOf Roomed first ready
-      → map own ready ≡ lists → AreAskedBy shards round lists → HaveCounts shards (seen_of (map session first))
-      → g ≡ greatest_of shards (seen_of (map session ready)) → EachOf (Met g) ready met
-      → EachOf (λ x y. HasAnsweredOwn definitions shards window (session x) (own x) (session y)) met last
-      → HaveRun definitions shards window round (map session first) (map session last)
-  have_run definitions window g shards round first ready met last lists numbers roomed owned asked counts greatest h answered = record {
-    between = map session met;
+  starting : (shards : ℕ) (xs : List A) → All (λ x. IsReady shards (session x) (own x)) xs → AreWritten (map session xs)
+      → HaveCounts shards (seen_of (map session xs)) → All (λ x. StartsRound shards (session x) (own x)) xs
+  starting shards [] ready written counts = All-nil (λ x. StartsRound shards (session x) (own x))
+  starting shards (x ∷ xs) ready written counts =
+      All-cons (λ x. StartsRound shards (session x) (own x)) x xs
+      (record {
+        ready = All-head (λ x. IsReady shards (session x) (own x)) x xs ready;
+        written = written.0;
+        counts = All-head (λ (s : Session). length s.counts ≡ shards) (session x).seen (seen_of (map session xs)) counts;
+      })
+      (starting shards xs (All-tail (λ x. IsReady shards (session x) (own x)) x xs ready) written.1
+      (All-tail (λ (s : Session). length s.counts ≡ shards) (session x).seen (seen_of (map session xs)) counts))
+
+  -- clients that have met start their round
+  pub all_start : (g : Session) (shards : ℕ) (ready met : List A) → EachOf (Met g) ready met
+      → All (λ x. IsReady shards (session x) (own x)) met → HaveCounts shards (seen_of (map session met))
+      → All (λ x. StartsRound shards (session x) (own x)) met
+  all_start g shards ready met h may counts =
+      starting shards met may
+      (are_written session ready met (each_weaker (Met g) (λ x y. (session y).text ≡ []) (λ x y m. m.0.text) ready met h)) counts
+
+  -- clients that have met have lists of what their lines ask
+  pub are_ready : (g : Session) (shards : ℕ) (round : List NumberedLine) (first ready met : List A) (lists : List (List Asked))
+      → EachOf Roomed first ready → map own ready ≡ lists → AreAskedBy shards round lists
+      → HaveCounts shards (seen_of (map session first)) → g ≡ greatest_of shards (seen_of (map session ready))
+      → EachOf (Met g) ready met → AreReady shards round (map session first) (map session met) (map own met)
+  are_ready g shards round first ready met lists roomed owned asked counts greatest h = record {
     met = subst (λ all. HaveMet all (map session first) (map session met)) (alike_roomed first ready roomed).seen
         (met_alike session (seen_of (map session ready)) first ready (map session met) (each-alike first ready roomed)
         (have_met shards (map session ready) (map session met) (counts_roomed shards first ready roomed counts)
         (have_taken session (greatest_of shards (seen_of (map session ready))) ready met
         (subst (λ s. EachOf (λ x y. HasTaken s (session x) (session y)) ready met) greatest
         (each_weaker (Met g) (λ x y. HasTaken g (session x) (session y)) (λ x y m. m.0) ready met h)))));
-    answered = have_answered session own shards round definitions window 0 (greatest_client + 1) met last
-        (clients_mapped met ∙ numbers-met g ready met h ∙ numbers_roomed first ready roomed ∙ numbers)
-        (subst (AreAskedFrom shards 0 round)
-        (sym (each_map own ready met (each_weaker (Met g) (λ x y. own y ≡ own x) (λ x y m. m.1) ready met h) ∙ owned)) asked.each)
-        answered;
+    asked = subst (AreAskedFrom shards 0 round) (sym (owned-met g ready met h ∙ owned)) asked.each;
   }
 
-  pub counts_run : (definitions : List IndexDef) (window : Option ℕ) (g : Session) (shards : ℕ) (first ready met last : List A)
-      → EachOf Roomed first ready → HaveCounts shards (seen_of (map session first)) → EachOf (Met g) ready met
+  pub counts_met : (g : Session) (shards : ℕ) (first ready met : List A) → EachOf Roomed first ready
+      → HaveCounts shards (seen_of (map session first)) → EachOf (Met g) ready met → HaveCounts shards (seen_of (map session met))
+  counts_met g shards first ready met roomed counts h =
+      counts_kept session shards ready met
+      (each_weaker (Met g) (λ x y. length (session y).seen.counts ≡ length (session x).seen.counts) (λ x y m. m.3) ready met h)
+      (counts_roomed shards first ready roomed counts)
+
+  pub numbers_met : (g : Session) (first ready met : List A)
+      → map (λ x. (session x).client) first ≡ range_with_len 0 (greatest_client + 1) → EachOf Roomed first ready
+      → EachOf (Met g) ready met → map (λ x. (session x).client) met ≡ range_with_len 0 (greatest_client + 1)
+  numbers_met g first ready met numbers roomed h = numbers-met g ready met h ∙ numbers_roomed first ready roomed ∙ numbers
+
+  -- a round was run
+  pub have_run : (definitions : List IndexDef) (window : Option ℕ) (shards : ℕ) (round : List NumberedLine) (first : List SessionParts)
+      (met last : List A) → map (λ x. (session x).client) met ≡ range_with_len 0 (greatest_client + 1)
+      → AreReady shards round first (map session met) (map own met)
+      → EachOf (λ x y. HasAnsweredOwn definitions shards window (session x) (own x) (session y)) met last
+      → HaveRun definitions shards window round first (map session last)
+  have_run definitions window shards round first met last numbers ready answered = record {
+    between = map session met;
+    met = ready.met;
+    answered = have_answered session own shards round definitions window 0 (greatest_client + 1) met last
+        (clients_mapped met ∙ numbers) ready.asked answered;
+  }
+
+  pub counts_run : (definitions : List IndexDef) (window : Option ℕ) (shards : ℕ) (met last : List A)
+      → HaveCounts shards (seen_of (map session met))
       → EachOf (λ x y. HasAnsweredOwn definitions shards window (session x) (own x) (session y)) met last
       → HaveCounts shards (seen_of (map session last))
-  counts_run definitions window g shards first ready met last roomed counts h answered =
+  counts_run definitions window shards met last counts answered =
       counts_kept session shards met last
       (each_weaker (λ x y. HasAnsweredOwn definitions shards window (session x) (own x) (session y))
-      (λ x y. length (session y).seen.counts ≡ length (session x).seen.counts) (λ x y a. a.counts) met last answered)
-      (counts_kept session shards ready met
-      (each_weaker (Met g) (λ x y. length (session y).seen.counts ≡ length (session x).seen.counts) (λ x y m. m.3) ready met h)
-      (counts_roomed shards first ready roomed counts))
+      (λ x y. length (session y).seen.counts ≡ length (session x).seen.counts) (λ x y a. a.counts) met last answered) counts
 
-  pub numbers_run : (definitions : List IndexDef) (shards : ℕ) (window : Option ℕ) (g : Session) (first ready met last : List A)
-      → map (λ x. (session x).client) first ≡ range_with_len 0 (greatest_client + 1) → EachOf Roomed first ready
-      → EachOf (Met g) ready met
+  pub numbers_run : (definitions : List IndexDef) (window : Option ℕ) (shards : ℕ) (met last : List A)
+      → map (λ x. (session x).client) met ≡ range_with_len 0 (greatest_client + 1)
       → EachOf (λ x y. HasAnsweredOwn definitions shards window (session x) (own x) (session y)) met last
       → map (λ x. (session x).client) last ≡ range_with_len 0 (greatest_client + 1)
-  numbers_run definitions shards window g first ready met last numbers roomed h answered =
+  numbers_run definitions window shards met last numbers answered =
       each_map (λ x. (session x).client) met last
       (each_weaker (λ x y. HasAnsweredOwn definitions shards window (session x) (own x) (session y))
       (λ x y. (session y).client ≡ (session x).client) (λ x y a. a.client) met last answered)
-      ∙ numbers-met g ready met h ∙ numbers_roomed first ready roomed ∙ numbers
+      ∙ numbers
 
   pub texts_met : (xs : List A) → AreWritten (map session xs) → All (λ x. (session x).text ≡ []) xs
   texts_met = written_each session

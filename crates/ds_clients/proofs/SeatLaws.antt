@@ -7,6 +7,7 @@ use Rattle.std.proofs.lemmas.List.{length-replicate}
 use Rattle.std.proofs.lemmas.List.Elements.{All-nil, All-cons, All-head, All-tail}
 use Rattle.ds_base.specs.Limits.{greatest_client}
 use Rattle.ds_model.specs.Sessions.{Session, first_session}
+use Rattle.ds_protocol.specs.Watermarks.{nothing_seen as no_counts}
 use Rattle.ds_store.specs.Passes.{nothing_seen}
 use Rattle.ds_store.specs.Passes.{PassParts}
 use Rattle.ds_clients.specs.Clients.{AreSeated, clients_of}
@@ -95,6 +96,16 @@ pub passes_new : (shards : ℕ) (passes others : List PassParts) (p : PassParts)
     → All (λ q. q ≡ nothing_seen shards) passes → All (λ q. q ≡ nothing_seen shards) others
 passes_new shards passes others p is all =
     front-is (λ (q : PassParts). q ≡ nothing_seen shards) others p (subst (All (λ (q : PassParts). q ≡ nothing_seen shards)) is all)
+
+pub last_none : (shards : ℕ) (missed others : List Session) (m : Session) → missed ≡ others ++ m ∷ []
+    → All (λ k. k ≡ no_counts shards) missed → m ≡ no_counts shards
+last_none shards missed others m is all =
+    last-is (λ (k : Session). k ≡ no_counts shards) others m (subst (All (λ (k : Session). k ≡ no_counts shards)) is all)
+
+pub front_none : (shards : ℕ) (missed others : List Session) (m : Session) → missed ≡ others ++ m ∷ []
+    → All (λ k. k ≡ no_counts shards) missed → All (λ k. k ≡ no_counts shards) others
+front_none shards missed others m is all =
+    front-is (λ (k : Session). k ≡ no_counts shards) others m (subst (All (λ (k : Session). k ≡ no_counts shards)) is all)
 
 taken-front : {A : Type 0} (all others : List A) (x : A) (n : ℕ) → take (suc n) all ≡ others ++ x ∷ [] → suc n ≤ length all
     → others ≡ take n all

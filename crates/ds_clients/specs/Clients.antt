@@ -1,16 +1,18 @@
 -- All clients' sessions: as they begin, what stays of them where no line is answered, and how their texts are written.
-use Rattle.std.specs.Prelude.{◌≡◌, ℕ, ◌+◌, ◌*◌, ◌≤◌, List, [], ◌∷◌, ◌++◌, Option, Some, All, length, map, replicate, slice_get, take, ⊤}
+use Rattle.std.specs.Prelude.{◌≡◌, ℕ, ◌+◌, ◌*◌, ◌≤◌, List, [], ◌++◌, Option, Some, All, length, map, replicate, slice_get, take}
 use Rattle.std.specs.List.{range_with_len}
 use Rattle.std.specs.Io.KnownBytes.{Appends}
 use Rattle.ds_base.specs.Limits.{greatest_client}
 use Rattle.ds_indexdef.specs.declared.IndexDef.{IndexDef}
 use Rattle.ds_rounds.specs.Rounds.{NumberedLine}
-use Rattle.ds_model.specs.Sessions.{first_sessions}
+use Rattle.ds_model.specs.Sessions.{Session, first_sessions}
+use Rattle.ds_protocol.specs.Watermarks.{raised_by}
 use Rattle.ds_store.specs.Passes.{nothing_seen}
 use Rattle.ds_session.specs.Answering.{HasAnswered}
-use Rattle.ds_asked.specs.AskedLines.{AreAsked, MayBeAnswered}
+use Rattle.ds_asked.specs.AskedLines.{AreAsked, AreAskedFrom, MayBeAnswered}
 use Rattle.ds_session.specs.Room.{most_no_memory}
-use Rattle.ds_clients.specs.Runs.{AreWritten, passes_of, seen_of, texts_of}
+use Rattle.ds_clients.specs.Runs.{AreWritten, HaveMet, passes_of, seen_of, texts_of}
+pub use Rattle.ds_workers.specs.Each.{EachOf}
 use Rattle.ds_session.specs.Sessions.{SessionParts}
 use Rattle.ds_asked.specs.declared.lines.Asked.{Asked}
 use Rattle.ds_clients.specs.declared.output.Cut.{Cut}
@@ -50,12 +52,6 @@ pub record IsCutAt (held_first held : Option (List ℕ)) (sessions : List Sessio
 
 -- ---- client by client
 
--- this holds of each element of a list and of the one at its place in another list, which is as long
-abbrev pub EachOf : {A : Type 0} → (A → A → Type 0) → List A → List A → Type 0
-EachOf Holds [] [] = ⊤
-EachOf Holds (x ∷ xs) (y ∷ ys) = Holds x y × EachOf Holds xs ys
-EachOf Holds _ _ = ⊥
-
 -- new sessions of all clients, numbered from 0 on
 pub record AreSeated (shards : ℕ) (sessions : List SessionParts) : Type 0 where
   pub new : AreNew shards sessions
@@ -66,6 +62,26 @@ pub record IsReady (shards : ℕ) (s : SessionParts) (own : List Asked) : Type 0
   pub answerable : All (MayBeAnswered shards) own
   pub own_lines : All (λ a. a.client ≡ s.client) own
   pub room : length own * most_no_memory ≤ s.room
+
+-- a client's session once it has taken this
+abbrev pub taking : Session → SessionParts → SessionParts
+taking missed s = record s { seen = raised_by missed s.seen }
+
+-- what contracts see of a client: its session, and what its lines of a round ask
+pub record ClientParts : Type 0 where
+  pub session : SessionParts
+  pub own : List Asked
+
+-- a client that is ready, with no reply left from an earlier round, and with a count of each shard
+pub record StartsRound (shards : ℕ) (s : SessionParts) (own : List Asked) : Type 0 where
+  pub ready : IsReady shards s own
+  pub written : s.text ≡ []
+  pub counts : length s.seen.counts ≡ shards
+
+-- The sessions have met, and so these lists are what the clients' lines of the round ask.
+pub record AreReady (shards : ℕ) (round : List NumberedLine) (before after : List SessionParts) (own : List (List Asked)) : Type 0 where
+  pub met : HaveMet (seen_of before) before after
+  pub asked : AreAskedFrom shards 0 round own
 
 -- whatever lines ask this of the client, they were answered; and as many counts are seen
 pub record HasAnsweredOwn (definitions : List IndexDef) (shards : ℕ) (window : Option ℕ) (before : SessionParts) (own : List Asked)

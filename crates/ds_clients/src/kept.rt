@@ -6,21 +6,21 @@ ghost use Rattle.ds_clients.specs.Clients.{AreAlike, AreNew};
 ghost use Rattle.ds_clients.specs.Runs.{AreWritten, IsIdle, seen_of, texts_of};
 ghost use Rattle.ds_clients.specs.Showing.{next_shown, place_shown};
 
-use crate::clients::{Client, Greatest, meet_all};
+use crate::client::Client;
+use crate::clients::meet_all;
 use crate::output::Cut;
 use crate::rounds::Sessions;
-use ds_base::{Counts, NoMemory};
+use ds_base::NoMemory;
 use ds_output::Unsent;
 use ds_protocol::Watermark;
 use ds_store::{Names, Shown, Store};
 use std::sync::Wait;
 
 impl<J: Names> Sessions<J> {
-    /// New sessions begin behind a place and an id counter: each client has seen both, and of each shard nothing that it counts, and so has
-    /// its pass. A refusal means out of memory, and leaves the sessions as they were.
-    pub fn begin_behind<R: Wait, H: Wait + Drop>(
+    /// New sessions begin behind a place and an id counter: each client has seen both, and of each shard nothing that it counts. A refusal
+    /// means out of memory, and leaves the sessions as they were.
+    pub fn begin_behind<H: Wait + Drop>(
         &mut self,
-        rt: &R,
         store: &Store<J, H>,
         place: u64,
         next: u64,
@@ -38,10 +38,9 @@ impl<J: Names> Sessions<J> {
         ensures err { OnErr result (self.new ≡ self.old) }
     {
         let mut seen = Watermark::first(self.alloc, store.shards())?;
-        let counts = Counts::from(Vec::from_slice(self.alloc, seen.counts())?);
         seen.see_place(place);
         seen.see_next(next);
-        meet_all(rt, store, &mut self.clients, &Greatest { seen, counts });
+        meet_all(&mut self.clients, &seen);
         Ok(())
     }
 
@@ -80,7 +79,7 @@ fn shown_by<J: Names>(clients: &[Client<J>]) -> Shown
 {
     let mut greatest = Shown { place: 0, next: 0 };
     for client in clients {
-        let shown = client.session.pass().shown();
+        let shown = client.pass().shown();
         greatest.place = greatest.place.max(shown.place);
         greatest.next = greatest.next.max(shown.next);
     }

@@ -7,7 +7,8 @@ ghost use Rattle.ds_clients.specs.Runs.{IsIdle, passes_of};
 ghost use Rattle.ds_store.specs.Lower.{IsNoLower};
 ghost use Rattle.ds_store.specs.Passes.{HasRead};
 
-use crate::clients::{CLIENTS, Client};
+use crate::client::Client;
+use crate::clients::CLIENTS;
 use crate::rounds::Sessions;
 use ds_store::{Names, Pass, Store};
 use std::sync::Wait;
@@ -72,9 +73,8 @@ fn moved_clients<J: Names, K: Names>(
 {
     let mut moved = room;
     for client in clients {
-        let Client { session, own } = client;
-        let (session, pass) = session.moved(passes.take_last());
-        moved.push_reserved(Client { session, own });
+        let (client, pass) = client.moved(passes.take_last());
+        moved.push_reserved(client);
         old.push_reserved(pass);
     }
     moved
@@ -91,7 +91,7 @@ fn met_by_each<J: Names, R: Wait, H: Wait + Drop>(
     ensures met { HaveBeenMet pass.new (map (λ c. c.session) clients.now) }
 {
     for client in clients {
-        let own = client.session.pass();
+        let own = client.pass();
         // For the proof alone: what the pass did is behind what it shows.
         let _shown = own.shown();
         store.meet_pass(rt, pass, own);

@@ -5,7 +5,7 @@ ghost use Rattle.ds_io.specs.Faults.{next_count};
 ghost use Rattle.ds_clients.specs.Clients.{AreAlike, IsCutAt, WrotePart};
 ghost use Rattle.ds_clients.specs.Runs.{AreWritten, texts_of};
 
-use crate::clients::Client;
+use crate::client::Client;
 use crate::rounds::Sessions;
 use ds_io::Sink;
 use ds_output::{Unsent, write_all};
@@ -52,7 +52,7 @@ fn write_texts<J: Names, O: Sink>(clients: &[Client<J>], output: &mut O) -> Resu
     ensures no_fault { OnOk result (O.faults output.new ≡ O.faults output.old) }
 {
     for (client, it) in clients.iter().enumerate() {
-        match write_all(output, it.session.text()) {
+        match write_all(output, it.text()) {
             Ok(()) => {}
             Err(taken) => return Err(Cut { client, taken }),
         }

@@ -9,8 +9,11 @@ ghost use Rattle.ds_clients.specs.Clients.{AreAlike, AreNew, IsCut};
 ghost use Rattle.ds_clients.specs.Runs.{AreWritten, HaveRun, passes_of, seen_of, texts_of};
 ghost use Rattle.ds_store.specs.Passes.{nothing_seen};
 
-use crate::clients::{CLIENTS, Client, clear_texts, first_marks, run_clients, seated, take_texts};
+use crate::answering::{LineHandler, run_clients};
+use crate::client::Client;
+use crate::clients::{CLIENTS, clear_texts, first_marks, none_missed, seated, take_texts};
 use crate::output::Cut;
+use crate::workers::{RunNames, Workers};
 use ds_base::NoMemory;
 use ds_indexdef::Defs;
 use ds_io::Gate;
@@ -58,9 +61,10 @@ impl<J: Names> Sessions<J> {
         ensures capacity { vec_capacity passes.new ≡ vec_capacity passes.old }
     {
         let seen = first_marks(alloc, shards)?;
+        let missed = none_missed(alloc, shards)?;
         let clients = Vec::with_capacity(alloc, CLIENTS)?;
         Ok(Sessions {
-            clients: seated(alloc, shards, clients, seen, passes),
+            clients: seated(alloc, shards, clients, seen, missed, passes),
             alloc,
         })
     }
@@ -74,24 +78,25 @@ impl<J: Names> Sessions<J> {
     {
         let Sessions { clients, alloc: _ } = self;
         for client in clients {
-            let Client { session, own: _own } = client;
-            passes.push_reserved(session.end());
+            passes.push_reserved(client.end());
         }
     }
 }
 
 /// Runs a round: the sessions meet, so that each client has seen all that any reply of an earlier round showed; then each client's lines
-/// are answered in their order, the clients at once, each in a thread of its own where two or more have lines. The gate is called around
+/// are answered in their order, the clients at once, each other one by a worker where two or more have lines. The gate is called around
 /// each answer. The store is that of the sessions' passes, the definitions are the store's, and no reply is left from an earlier round. A
 /// refusal means out of memory, and comes before any line is answered.
 pub fn run_round<
     J: Names + Send + Sync,
+    N: RunNames + Send + Sync,
     R: Threads + Wait + Sync,
     H: Wait + Drop + Send,
     G: Gate + Sync,
 >(
     rt: &R,
     store: &Store<J, H>,
+    workers: &Workers<J, N>,
     sessions: &mut Sessions<J>,
     defs: &Defs,
     round: Round,
@@ -99,20 +104,21 @@ pub fn run_round<
 ) -> Result<(), NoMemory>
     requires round { IsRound round }
     requires definitions { defs.now ≡ J.definitions }
+    requires shards { store.now.shards ≡ N.shards }
     requires counts { HaveCounts store.now.shards (seen_of sessions.old) }
     requires written { AreWritten sessions.old }
     ensures ok { OnOk result (HaveRun J.definitions store.now.shards (Some J.window) (lines_of_round round) sessions.old sessions.new) }
     ensures err { OnErr result (AreAlike sessions.old sessions.new × AreWritten sessions.new) }
     ensures counts { HaveCounts store.now.shards (seen_of sessions.new) }
 {
+    let handler = LineHandler::<J, N, H, G>::new(store, defs, gate);
     run_clients(
         rt,
         sessions.alloc,
-        store,
+        &handler,
+        workers,
         &mut sessions.clients,
-        defs,
         round,
-        gate,
     )
 }
 

@@ -12,11 +12,13 @@ ghost use Rattle.ds_store.specs.Passes.{HasRead};
 
 use crate::serving::{Running, serve_rounds};
 use crate::stopped::Stopped;
+use ds_clients::{NewWorkers, RunNames};
 use ds_disk::Disk;
 use ds_io::{Gate, Sink, Source};
 use ds_keep::Keeper;
-use ds_serving::Serving;
+use ds_serving::{Serving, ServingWithWorkers};
 use ds_store::{Names, Pass};
+use std::marker::Brand;
 use std::sync::Wait;
 use std::thread::Threads;
 
@@ -32,6 +34,97 @@ pub fn serve_beside<
     G: Gate + Sync,
 >(
     serving: &Serving<'_, J, Rt, H, G>,
+    appliers: &mut [Pass<J>],
+    running: &mut Running<J>,
+    keeper: Keeper,
+    disk: &mut D,
+    input: &mut I,
+    output: &mut O,
+) -> Stopped
+    requires reader { running.old.rounds ≡ first_reader }
+    requires going { IsGoing serving.now.shards keeper running.old.sessions running.old.follower.pass running.old.follower.counts }
+    requires settled { IsTrue (D.is_honest disk.old)
+        → IsSettled D.is_honest D.contents D.images keeper (kept_at running.old.follower.pass keeper.next) disk.old }
+    requires idle { All IsIdle appliers.old }
+    ensures ended { HasEndedKept serving.now keeper (I.left input.old) (I.left input.new) (O.held output.old) (O.held output.new)
+        (I.faults input.old) (I.faults input.new) (O.faults output.old) (O.faults output.new) running.old.sessions running.new.sessions
+        (D.is_honest disk.old) (D.images disk.new) (D.faults disk.old) (D.faults disk.new) result }
+    ensures read { HasRead running.old.follower.pass running.new.follower.pass }
+    ensures any_moment { IsTrue (D.is_honest disk.old) → LeavesOnly D.moment D.left_since disk.old disk.new
+        (IsBetween (kept_at running.old.follower.pass keeper.next) running.new.follower.pass.journal) }
+    ensures honest { D.is_honest disk.new ≡ D.is_honest disk.old }
+    ensures idle { All IsIdle appliers.new }
+    ensures many { length appliers.new ≡ length appliers.old }
+{
+    let start = Start {
+        keeper,
+        workers: NewWorkers::new(running.alloc),
+    };
+    serve_with::<J, Brand, Rt, H, D, I, O, G>(
+        serving, appliers, running, start, disk, input, output,
+    )
+}
+
+/// The keeper of a run's journal, and what its workers are made of.
+#[derive(Drop)]
+struct Start<J: Names> {
+    keeper: Keeper,
+    workers: NewWorkers<J>,
+}
+
+/// The same with workers of this history for the clients of each round.
+fn serve_with<
+    J: Names + Send + Sync,
+    N: RunNames + Send + Sync,
+    Rt: Threads + Wait + Sync,
+    H: Wait + Drop + Send,
+    D: Disk,
+    I: Source,
+    O: Sink,
+    G: Gate + Sync,
+>(
+    serving: &Serving<'_, J, Rt, H, G>,
+    appliers: &mut [Pass<J>],
+    running: &mut Running<J>,
+    start: Start<J>,
+    disk: &mut D,
+    input: &mut I,
+    output: &mut O,
+) -> Stopped
+    requires history { start.workers ≡ N.history }
+    requires shards { serving.now.shards ≡ N.shards }
+    requires reader { running.old.rounds ≡ first_reader }
+    requires going { IsGoing serving.now.shards start.keeper running.old.sessions running.old.follower.pass running.old.follower.counts }
+    requires settled { IsTrue (D.is_honest disk.old)
+        → IsSettled D.is_honest D.contents D.images start.keeper (kept_at running.old.follower.pass start.keeper.next) disk.old }
+    requires idle { All IsIdle appliers.old }
+    ensures ended { HasEndedKept serving.now start.keeper (I.left input.old) (I.left input.new) (O.held output.old) (O.held output.new)
+        (I.faults input.old) (I.faults input.new) (O.faults output.old) (O.faults output.new) running.old.sessions running.new.sessions
+        (D.is_honest disk.old) (D.images disk.new) (D.faults disk.old) (D.faults disk.new) result }
+    ensures read { HasRead running.old.follower.pass running.new.follower.pass }
+    ensures any_moment { IsTrue (D.is_honest disk.old) → LeavesOnly D.moment D.left_since disk.old disk.new
+        (IsBetween (kept_at running.old.follower.pass start.keeper.next) running.new.follower.pass.journal) }
+    ensures honest { D.is_honest disk.new ≡ D.is_honest disk.old }
+    ensures idle { All IsIdle appliers.new }
+    ensures many { length appliers.new ≡ length appliers.old }
+{
+    let Start { keeper, workers } = start;
+    let serving = ServingWithWorkers::<J, N, Rt, H, G>::new(serving, workers);
+    serve_working(&serving, appliers, running, keeper, disk, input, output)
+}
+
+/// The same with these workers.
+fn serve_working<
+    J: Names + Send + Sync,
+    N: RunNames + Send + Sync,
+    Rt: Threads + Wait + Sync,
+    H: Wait + Drop + Send,
+    D: Disk,
+    I: Source,
+    O: Sink,
+    G: Gate + Sync,
+>(
+    serving: &ServingWithWorkers<'_, J, N, Rt, H, G>,
     appliers: &mut [Pass<J>],
     running: &mut Running<J>,
     keeper: Keeper,

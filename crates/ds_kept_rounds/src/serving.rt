@@ -18,12 +18,12 @@ ghost use Rattle.ds_store.specs.Passes.{HasRead};
 
 use crate::status::KeptStatus;
 use crate::stopped::{RoundOutcome, Stopped, stop_with};
-use ds_clients::{Rounds, Sessions};
+use ds_clients::{Rounds, RunNames, Sessions};
 use ds_disk::Disk;
 use ds_io::{Gate, Sink, Source};
 use ds_keep::Keeper;
 use ds_keeping::{Follower, Unkept, keep_round, send};
-use ds_serving::{NextRound, Serving};
+use ds_serving::{NextRound, ServingWithWorkers};
 use ds_store::Names;
 use ds_words::Status;
 use std::alloc::Global;
@@ -44,6 +44,7 @@ pub struct Running<J: Names> {
 /// Serves the rounds of an input, from the first one on.
 pub(crate) fn serve_rounds<
     J: Names + Send + Sync,
+    N: RunNames + Send + Sync,
     Rt: Threads + Wait + Sync,
     H: Wait + Drop + Send,
     D: Disk,
@@ -51,7 +52,7 @@ pub(crate) fn serve_rounds<
     O: Sink,
     G: Gate + Sync,
 >(
-    serving: &Serving<'_, J, Rt, H, G>,
+    serving: &ServingWithWorkers<'_, J, N, Rt, H, G>,
     running: &mut Running<J>,
     keeper: Keeper,
     disk: &mut D,
@@ -82,6 +83,7 @@ pub(crate) fn serve_rounds<
 /// Reads the next round, runs it, keeps what it committed and drew, and writes its replies.
 fn serve_round<
     J: Names + Send + Sync,
+    N: RunNames + Send + Sync,
     Rt: Threads + Wait + Sync,
     H: Wait + Drop + Send,
     D: Disk,
@@ -89,7 +91,7 @@ fn serve_round<
     O: Sink,
     G: Gate + Sync,
 >(
-    serving: &Serving<'_, J, Rt, H, G>,
+    serving: &ServingWithWorkers<'_, J, N, Rt, H, G>,
     running: &mut Running<J>,
     keeper: Keeper,
     disk: &mut D,

@@ -14,14 +14,15 @@ ghost use Rattle.ds_store.specs.Passes.{nothing_seen};
 use crate::outcome::{Run, nothing_run};
 use crate::serving::serve_rounds;
 use crate::stopped::Stopped;
-use ds_clients::Sessions;
+use ds_clients::{NewWorkers, RunNames, Sessions};
 use ds_indexdef::Defs;
 use ds_io::{Gate, Sink, Source};
 use ds_rounds::Rounds;
-use ds_serving::{Begun, Serving, begin};
+use ds_serving::{Begun, Serving, ServingWithWorkers, begin};
 use ds_store::{Closed, Made, Names, Opened, Pass, Passes, Store, make};
 use ds_words::Status;
 use std::alloc::Global;
+use std::marker::Brand;
 use std::sync::Wait;
 use std::thread::Threads;
 
@@ -156,6 +157,73 @@ pub fn serve_beside<
     G: Gate + Sync,
 >(
     serving: &Serving<'_, J, Rt, H, G>,
+    alloc: Global,
+    rounds: &mut Rounds,
+    sessions: &mut Sessions<J>,
+    appliers: &mut [Pass<J>],
+    input: &mut I,
+    output: &mut O,
+) -> Stopped
+    requires reader { rounds.old.number ≤ most_input_bytes + 1 }
+    requires counts { HaveCounts serving.now.shards (seen_of sessions.old) }
+    requires written { AreWritten sessions.old }
+    requires idle { All IsIdle appliers.old }
+    ensures ended { HasEnded serving.now rounds.old (I.left input.old) (I.left input.new) (O.held output.old) (O.held output.new)
+        (I.faults input.old) (I.faults input.new) (O.faults output.old) (O.faults output.new) sessions.old sessions.new result }
+    ensures idle { All IsIdle appliers.new }
+    ensures many { length appliers.new ≡ length appliers.old }
+{
+    let workers = NewWorkers::new(alloc);
+    serve_with::<J, Brand, Rt, H, I, O, G>(
+        serving, workers, rounds, sessions, appliers, input, output,
+    )
+}
+
+/// The same with workers of this history for the clients of each round.
+fn serve_with<
+    J: Names + Send + Sync,
+    N: RunNames + Send + Sync,
+    Rt: Threads + Wait + Sync,
+    H: Wait + Drop + Send,
+    I: Source,
+    O: Sink,
+    G: Gate + Sync,
+>(
+    serving: &Serving<'_, J, Rt, H, G>,
+    workers: NewWorkers<J>,
+    rounds: &mut Rounds,
+    sessions: &mut Sessions<J>,
+    appliers: &mut [Pass<J>],
+    input: &mut I,
+    output: &mut O,
+) -> Stopped
+    requires history { workers ≡ N.history }
+    requires shards { serving.now.shards ≡ N.shards }
+    requires reader { rounds.old.number ≤ most_input_bytes + 1 }
+    requires counts { HaveCounts serving.now.shards (seen_of sessions.old) }
+    requires written { AreWritten sessions.old }
+    requires idle { All IsIdle appliers.old }
+    ensures ended { HasEnded serving.now rounds.old (I.left input.old) (I.left input.new) (O.held output.old) (O.held output.new)
+        (I.faults input.old) (I.faults input.new) (O.faults output.old) (O.faults output.new) sessions.old sessions.new result }
+    ensures idle { All IsIdle appliers.new }
+    ensures many { length appliers.new ≡ length appliers.old }
+{
+    let alloc = workers.alloc();
+    let serving = ServingWithWorkers::<J, N, Rt, H, G>::new(serving, workers);
+    serve_working(&serving, alloc, rounds, sessions, appliers, input, output)
+}
+
+/// The same with these workers.
+fn serve_working<
+    J: Names + Send + Sync,
+    N: RunNames + Send + Sync,
+    Rt: Threads + Wait + Sync,
+    H: Wait + Drop + Send,
+    I: Source,
+    O: Sink,
+    G: Gate + Sync,
+>(
+    serving: &ServingWithWorkers<'_, J, N, Rt, H, G>,
     alloc: Global,
     rounds: &mut Rounds,
     sessions: &mut Sessions<J>,

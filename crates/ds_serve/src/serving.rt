@@ -11,10 +11,10 @@ ghost use Rattle.ds_serve.specs.RunSteps.{Counted, Exactly, HasEnded, Leaves, Le
 ghost use Rattle.ds_serve.specs.RunSteps.{round_read_faults, round_write_faults};
 
 use crate::stopped::{RoundOutcome, Stopped, stop_with};
-use ds_clients::{Sessions, write_round};
+use ds_clients::{RunNames, Sessions, write_round};
 use ds_io::{Gate, Sink, Source};
 use ds_rounds::Rounds;
-use ds_serving::{NextRound, Serving};
+use ds_serving::{NextRound, ServingWithWorkers};
 use ds_store::Names;
 use ds_words::Status;
 use std::alloc::Global;
@@ -24,13 +24,14 @@ use std::thread::Threads;
 /// Serves the rounds of an input that are left, until the run stops.
 pub fn serve_rounds<
     J: Names + Send + Sync,
+    N: RunNames + Send + Sync,
     Rt: Threads + Wait + Sync,
     H: Wait + Drop + Send,
     I: Source,
     O: Sink,
     G: Gate + Sync,
 >(
-    serving: &Serving<'_, J, Rt, H, G>,
+    serving: &ServingWithWorkers<'_, J, N, Rt, H, G>,
     alloc: Global,
     rounds: &mut Rounds,
     sessions: &mut Sessions<J>,
@@ -54,13 +55,14 @@ pub fn serve_rounds<
 /// Reads the next round, runs it, and writes its replies.
 fn serve_round<
     J: Names + Send + Sync,
+    N: RunNames + Send + Sync,
     Rt: Threads + Wait + Sync,
     H: Wait + Drop + Send,
     I: Source,
     O: Sink,
     G: Gate + Sync,
 >(
-    serving: &Serving<'_, J, Rt, H, G>,
+    serving: &ServingWithWorkers<'_, J, N, Rt, H, G>,
     alloc: Global,
     rounds: &mut Rounds,
     sessions: &mut Sessions<J>,
@@ -97,13 +99,14 @@ fn serve_round<
 /// Serves so many rounds of an input, or fewer where the run stops at one of them.
 pub fn serve_some<
     J: Names + Send + Sync,
+    N: RunNames + Send + Sync,
     Rt: Threads + Wait + Sync,
     H: Wait + Drop + Send,
     I: Source,
     O: Sink,
     G: Gate + Sync,
 >(
-    serving: &Serving<'_, J, Rt, H, G>,
+    serving: &ServingWithWorkers<'_, J, N, Rt, H, G>,
     alloc: Global,
     many: u32,
     rounds: &mut Rounds,

@@ -6,5 +6,5 @@ use Rattle.ds_clients.proofs.clients.make_rooms.Given as goal
 
 abbrev pub invariant-loop-client : goal.invariant-loop-client
 invariant-loop-client g l =
-    DoneBelow (λ c d. (d.session ≡ record c.session { room = d.session.room }) × (d.own.items ≡ c.own.items)
-    × (length d.own.items * most_no_memory ≤ d.session.room)) l.client-index l.fn.clients l.client-items
+    DoneBelow (λ c d. (d.session ≡ record c.session { room = d.session.room }) × (d.own ≡ c.own)
+    × (length d.own * most_no_memory ≤ d.session.room)) l.client-index l.fn.clients l.client-items

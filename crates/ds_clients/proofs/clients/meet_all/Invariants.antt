@@ -6,5 +6,5 @@ use Rattle.ds_clients.proofs.clients.meet_all.Given as goal
 
 abbrev pub invariant-loop-client : goal.invariant-loop-client
 invariant-loop-client g l =
-    DoneBelow (λ c d. HasTaken l.greatest.seen c.session d.session × (d.own.items ≡ c.own.items) × (d.session.room ≡ c.session.room)
+    DoneBelow (λ c d. HasTaken l.greatest c.session d.session × (d.own ≡ c.own) × (d.session.room ≡ c.session.room)
     × (length d.session.seen.counts ≡ length c.session.seen.counts)) l.client-index l.fn.clients l.client-items

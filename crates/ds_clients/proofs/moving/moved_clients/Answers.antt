@@ -12,19 +12,27 @@ loop-client-init g c =
     let rest = c.into_iter-client-iterator.ensures.into_iter_gives.0 in
     let many = ap (λ (xs : List _). length xs) rest in
     record {
-      moved = subst (λ (xs : List _). MovedSoFar all passes passes old old (map (λ x. x.session) xs) (map (λ x. x.session) c.args.room.items))
+      moved = subst (λ (xs : List _). MovedSoFar all passes passes old old (map (λ x. x.session) xs)
+          (map (λ x. x.session) c.args.room.items))
           (sym rest)
           (subst (λ (xs : List _). MovedSoFar all passes passes old old all (map (λ x. x.session) xs)) (sym c.requires.room.0)
           (none_moved all passes old c.requires.no_lower c.requires.idle));
       many = omega (arith, many, c.requires.many, c.args.clients.ok.0);
-      room = omega (arith, many, c.requires.room.1, c.args.clients.ok.0, ap (λ (xs : List _). length xs) c.requires.room.0, c.args.room.ok.0);
+      room = omega (
+        arith,
+        many,
+        c.requires.room.1,
+        c.args.clients.ok.0,
+        ap (λ (xs : List _). length xs) c.requires.room.0,
+        c.args.room.ok.0,
+      );
       space = omega (arith, many, c.requires.space, c.args.clients.ok.0);
       capacity = refl;
       same_space = refl;
     }
 
-pub moved-session-requires : goal.moved-session-requires
-moved-session-requires g c =
+pub moved-client-requires : goal.moved-client-requires
+moved-client-requires g c =
     next_lower (λ x. x.session) c.in-Some.client c.loop-client.client-iterator.rest.items c.next.new.self.rest.items
     c.loop-client.passes.items c.take_last.new.self.items c.take_last.result c.in-Some.ensures.steps.0 c.take_last.ensures.items
     c.loop-client.invariant.moved.no_lower
@@ -36,9 +44,10 @@ loop-client-preserved g c =
     record {
       moved = one_moved (λ x. x.session) (λ x. x.session) (map (λ x. x.session) c.args.clients.items) c.args.passes.now.items
           c.args.old.now.items c.loop-client.client-iterator.rest.items c.next.new.self.rest.items c.in-Some.client
-          c.loop-client.passes.items c.take_last.new.self.items c.take_last.result c.loop-client.moved.items c.push_reserved.new.self.items _
+          c.loop-client.passes.items c.take_last.new.self.items c.take_last.result c.loop-client.moved.items
+          c.push_reserved.new.self.items _
           c.loop-client.old.items given.new.self.items _ c.in-Some.ensures.steps.0 c.take_last.ensures.items
-          c.push_reserved.ensures.items c.moved-session.ensures.session given.ensures.items c.moved-session.ensures.old
+          c.push_reserved.ensures.items c.moved-client.ensures.session given.ensures.items c.moved-client.ensures.old
           c.loop-client.invariant.moved;
       many = omega (arith, fewer, c.take_last.ensures.len, c.loop-client.invariant.many);
       room = omega (arith, fewer, c.push_reserved.ensures.len, c.push_reserved.ensures.capacity, c.loop-client.invariant.room);

@@ -8,8 +8,8 @@ use Rattle.ds_clients.proofs.ClientLaws.{each_length, each_weaker, written_each}
 use Rattle.ds_clients.proofs.KeptLaws.{all_behind, numbered_behind}
 use Rattle.ds_clients.proofs.rounds.Sessions.begin_behind.Goals as goal
 
-pub meet_all-requires-clause-written : goal.meet_all-requires-clause-written
-meet_all-requires-clause-written g c =
+pub meet_all-requires : goal.meet_all-requires
+meet_all-requires g c =
     subst (All (λ x. x.session.text ≡ [])) (sym c.deref_mut.ensures.value)
     (written_each (λ x. x.session) c.self.inside.clients.items (subst AreWritten (sym c.self.view_is) c.requires.new.written))
 

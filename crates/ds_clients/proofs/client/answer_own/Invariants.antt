@@ -2,7 +2,7 @@
 use Rattle.std.proofs.Common.{Some}
 use Rattle.ds_clients.specs.Clients.{IsReady}
 use Rattle.ds_clients.proofs.OwnLaws.{AnsweredSoFar}
-use Rattle.ds_clients.proofs.clients.answer_own.Given as goal
+use Rattle.ds_clients.proofs.client.answer_own.Given as goal
 
 abbrev pub invariant-loop-asked : goal.invariant-loop-asked
 invariant-loop-asked g l = record {

@@ -1,7 +1,7 @@
 use Rattle.std.proofs.Common.{◌≡◌, Some, length, arith, rules}
 use Rattle.std.proofs.lemmas.List.{nil_from_length}
 use Rattle.ds_clients.proofs.OwnLaws.{all_answered, begun_with, one_answered, ready_first, ready_later}
-use Rattle.ds_clients.proofs.clients.answer_own.Goals as goal
+use Rattle.ds_clients.proofs.client.answer_own.Goals as goal
 
 pub loop-asked-init : goal.loop-asked-init
 loop-asked-init g c =
