@@ -1,5 +1,6 @@
 -- Clients go over to the second store, which has all that the pass of the first has seen that fed it.
-use Rattle.std.proofs.Common.{◌≡◌, ℕ, ◌+◌, ◌-◌, ◌<◌, ◌≤◌, List, [], ◌∷◌, ◌++◌, length, reverse, take, ap, sym, ◌∙◌, subst, arith, Option, length-append}
+use Rattle.std.proofs.Common.{◌≡◌, ℕ, ◌+◌, ◌-◌, ◌<◌, ◌≤◌, List, [], ◌∷◌, ◌++◌}
+use Rattle.std.proofs.Common.{length, reverse, take, ap, sym, ◌∙◌, subst, arith, Option, length-append}
 use Rattle.std.specs.Prelude.{All}
 use Rattle.std.proofs.lemmas.List.{length-map, length-reverse, length-take, same_from_push}
 use Rattle.std.proofs.lemmas.List.Elements.{All-append, All-cons, All-nil, All-weaker}
@@ -43,10 +44,12 @@ module _ (second : List IndexDef) (shards passes place : ℕ) (feeder : PassPart
   pub front_lower : (sessions : List SessionParts) → HaveBeenMet feeder sessions → All (λ p. All (λ s. IsNoLower s.pass p) sessions) front
   front_lower sessions met =
       front_of (λ p. All (λ s. IsNoLower s.pass p) sessions) front (loader ∷ [])
-      (subst (All (λ p. All (λ s. IsNoLower s.pass p) sessions)) parts (none_lower second shards passes feeder store new place cut sessions met))
+      (subst (All (λ p. All (λ s. IsNoLower s.pass p) sessions)) parts
+      (none_lower second shards passes feeder store new place cut sessions met))
 
   last_read : HasRead (loaded shards feeder.journal feeder.next) loader
-  last_read = subst (HasRead (loaded shards feeder.journal feeder.next)) ends.1 (loader_read second shards passes feeder store new place cut)
+  last_read = subst (HasRead (loaded shards feeder.journal feeder.next)) ends.1
+      (loader_read second shards passes feeder store new place cut)
 
 -- as many sessions go over as there are clients: so many of these passes, in front of which the others are left
 pub as_many : (all left : List PassParts) (before after : List SessionParts) (n : ℕ) → all ≡ left ++ reverse (passes_of after)
@@ -78,8 +81,8 @@ met_by feeder s =
 
 -- The rounds before the cut were served, and the sessions go on over the second store: the whole run is a legal one.
 pub crossed : {left mid rest old held out : Option (List ℕ)} {reader : ReaderParts} {now after : List SessionParts} (setting : Setting)
-    (second : List IndexDef) (n passes place : ℕ) (feeder : PassParts) (store : StoreParts) (new front : List PassParts) (loader : PassParts)
-    (run : CutRun) (others : List PassParts) (before : List Commit) (next : ℕ)
+    (second : List IndexDef) (n passes place : ℕ) (feeder : PassParts) (store : StoreParts) (new front : List PassParts)
+    (loader : PassParts) (run : CutRun) (others : List PassParts) (before : List Commit) (next : ℕ)
     → IsCutTo second setting.shards passes feeder store new place → new ≡ front ++ loader ∷ [] → HaveBeenMet feeder now → IsIdle feeder
     → All IsIdle others → HaveEnded setting.shards ((others ++ feeder ∷ []) ++ passes_of now) before next → AreMoved now after
     → HasServed (Counted (Exactly n) (RanFirst setting)) left mid old held reader now

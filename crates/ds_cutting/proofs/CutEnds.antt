@@ -1,6 +1,6 @@
 -- How a run ends whose index definitions change: each end is a legal run of the rounds that were run.
-use Rattle.std.proofs.Common.{◌≡◌, ◌⊎◌, inl, inr, ℕ, Bool, ◌+◌, ◌<◌, ◌≤◌, List, [], ◌∷◌, ◌++◌, length, Option, Some, None, refl, ap, sym, ◌∙◌, subst, arith}
-use Rattle.std.proofs.Common.{length-append}
+use Rattle.std.proofs.Common.{◌≡◌, inl, inr, ℕ, Bool, ◌+◌, ◌<◌, ◌≤◌, List, [], ◌∷◌}
+use Rattle.std.proofs.Common.{◌++◌, length, Option, Some, None, refl, ap, sym, ◌∙◌, subst, arith}
 use Rattle.std.specs.Prelude.{All, IfSome}
 use Rattle.ds_base.specs.Limits.{first_drawn_id}
 use Rattle.ds_indexdef.specs.declared.IndexDef.{IndexDef}
@@ -9,16 +9,16 @@ use Rattle.ds_model.specs.Legal.{Legal}
 use Rattle.ds_model.specs.Sessions.{first_sessions}
 use Rattle.ds_reply.specs.Replies.{replies_text}
 use Rattle.ds_rounds.specs.Reading.{ReaderParts}
-use Rattle.ds_rounds.specs.Rounds.{NumberedLine, rounds_in}
+use Rattle.ds_rounds.specs.Rounds.{NumberedLine}
 use Rattle.ds_clients.specs.Runs.{HasRun, IsIdle, passes_of, seen_of}
 use Rattle.ds_clients.proofs.ClosingLaws.{legal_run}
 use Rattle.ds_session.specs.Sessions.{SessionParts}
 use Rattle.ds_session.proofs.LineLaws.{texts-append}
-use Rattle.ds_serving.specs.Rounds.{HasServed, HasStopped, RanFrom}
-use Rattle.ds_serving.specs.Runs.{AreFirst, WasSetUp, WereRun, Wrote}
+use Rattle.ds_serving.specs.Rounds.{HasServed, HasStopped}
+use Rattle.ds_serving.specs.Runs.{Wrote}
 use Rattle.ds_serving.specs.declared.settings.Setting.{Setting}
 use Rattle.ds_serving.proofs.RoundLaws.{all_wrote, given, was_set_up}
-use Rattle.ds_serve.specs.RunSteps.{Counted, Exactly, RanBehind, StoppedPast, StoppedWithin}
+use Rattle.ds_serve.specs.RunSteps.{Counted, Exactly, StoppedPast, StoppedWithin}
 use Rattle.ds_serve.proofs.Behind.{of_behind_nothing}
 use Rattle.ds_serve.proofs.Ends.{ended_turned}
 use Rattle.std.proofs.lemmas.List.Elements.{All-head}
@@ -27,14 +27,14 @@ use Rattle.ds_store.specs.Loads.{loaded}
 use Rattle.ds_store.specs.Passes.{HasRead, PassParts}
 use Rattle.ds_words.specs.declared.status.Status.{Status}
 use Rattle.ds_words.specs.declared.status.Status.TheVariants as status
-use Rattle.ds_cutting.specs.CutRuns.{AreSettings, IsCut, IsLegalCutRun, IsUncut, WasSetUpCut, WereFirst, WereRunCut}
+use Rattle.ds_cutting.specs.CutRuns.{AreSettings, IsLegalCutRun, IsUncut, WasSetUpCut, WereFirst, WereRunCut}
 use Rattle.ds_cutting.specs.CutSteps.{EndsLater, EndsUncut, IsLegalOf, IsRefused, RanFirst, asked_of, of_refused}
 use Rattle.ds_cutting.specs.declared.outcome.CutRun.{CutRun}
 use Rattle.ds_cutting.specs.declared.outcome.CutStatus.{CutStatus}
 use Rattle.ds_cutting.specs.declared.outcome.CutStatus.TheVariants as cut
 use Rattle.ds_cutting.proofs.CutLaws.{back_of, cut_legal, front_of, legal_uncut}
 use Rattle.ds_cutting.proofs.RowLaws.{refused_many}
-use Rattle.ds_feeding.specs.ManyRows.{HaveFewRows}
+use Rattle.ds_row_limit.specs.ManyRows.{HaveFewRows}
 use Rattle.ds_feeding.specs.declared.refused.ReindexRefused.{ReindexRefused}
 use Rattle.ds_feeding.specs.declared.refused.ReindexRefused.TheVariants as refused
 
@@ -89,10 +89,12 @@ module _ (setting : Setting) (second : List IndexDef) (n : ℕ) where
       (first_legal stopped.rounds now stopped.text idle ends.journal ends.next ran all ends.ended) in
       told (λ journal. IsLegalCutRun words file n content run.status run.cut left rest journal old new run.unsent) ends.journal run.journal
       ends.journal_is
-      (subst (λ (s : CutStatus). IsLegalCutRun words file n content s run.cut left rest ends.journal old new run.unsent) (sym ends.status_is)
+      (subst (λ (s : CutStatus). IsLegalCutRun words file n content s run.cut left rest ends.journal old new run.unsent)
+      (sym ends.status_is)
       (subst (λ (o : Option ℕ). IsLegalCutRun words file n content (cut.Served how) o left rest ends.journal old new run.unsent)
       (sym ends.cut_is)
-      (subst (λ (u : List ℕ). IsLegalCutRun words file n content (cut.Served how) None left rest ends.journal old new u) (sym ends.unsent_is)
+      (subst (λ (u : List ℕ). IsLegalCutRun words file n content (cut.Served how) None left rest ends.journal old new u)
+      (sym ends.unsent_is)
       (record {
         read = stopped.read;
         told = stopped.told;
@@ -138,7 +140,8 @@ module _ (setting : Setting) (second : List IndexDef) (n : ℕ) where
       (omega (arith, served.has_run.1)) (first_legal served.rounds now served.text idle ends.journal ends.next ran all ends.ended) in
       told (λ journal. IsLegalCutRun words file n content run.status run.cut left rest journal old new run.unsent) ends.journal run.journal
       ends.journal_is
-      (subst (λ (s : CutStatus). IsLegalCutRun words file n content s run.cut left rest ends.journal old new run.unsent) (sym ends.status_is)
+      (subst (λ (s : CutStatus). IsLegalCutRun words file n content s run.cut left rest ends.journal old new run.unsent)
+      (sym ends.status_is)
       (subst (λ (o : Option ℕ). IsLegalCutRun words file n content (of_refused r) o left rest ends.journal old new run.unsent)
       (sym ends.cut_is)
       (subst (λ (u : List ℕ). IsLegalCutRun words file n content (of_refused r) None left rest ends.journal old new u) (sym ends.unsent_is)
@@ -173,8 +176,8 @@ module _ (setting : Setting) (second : List IndexDef) (n : ℕ) where
       → All (λ s. All (λ id. id < feeder.next) s.pass.draws) now → HaveFewRows second feeder.journal → place ≡ feeder.place
       → EndsLater (asked_of setting.shards setting.window second) place loader (seen_of now) served.rounds served.text left rest old new run
       → IsLegalOf setting second n left rest old new run
-  ends_later {left} {mid} {rest} {old} {held} {new} {reader} {now} run idle feeder loader before next place served all closed fed stands least
-      own_below drawn_below few place_is later = λ words file content set.
+  ends_later {left} {mid} {rest} {old} {held} {new} {reader} {now} run idle feeder loader before next place served all closed fed stands
+      least own_below drawn_below few place_is later = λ words file content set.
       let ran = of_behind_nothing setting (first_sessions setting.shards) served.rounds now served.text served.has_run.0 in
       let behind = later.stopped.has_run.0 in
       let law = cut_legal setting.defs second setting.shards (Some setting.window) served.rounds behind.later now later.now served.text

@@ -1,6 +1,7 @@
 -- The run that is legal over which the definitions change, once both stores have ended.
-use Rattle.std.proofs.Common.{◌≡◌, ℕ, zero, suc, ◌+◌, ◌-◌, ◌<◌, ◌≤◌, List, [], ◌∷◌, ◌++◌, length, map, take, drop, Option, refl, ap, sym, ◌∙◌}
-use Rattle.std.proofs.Common.{subst, arith, append_assoc, length-append}
+use Rattle.std.proofs.Common.{◌≡◌, ℕ, zero, suc, ◌+◌, ◌-◌, ◌<◌, ◌≤◌, List, [], ◌∷◌}
+use Rattle.std.proofs.Common.{◌++◌, length, map, take, drop, Option, refl, ap, sym, ◌∙◌}
+use Rattle.std.proofs.Common.{subst, arith}
 use Rattle.std.specs.Prelude.{All, IsPermutation, flat_map}
 use Rattle.std.specs.List.{range_with_len}
 use Rattle.std.proofs.Math.Seq.{take-append_seam, drop-append_seam}
@@ -8,7 +9,7 @@ use Rattle.std.proofs.lemmas.List.{append-nil, drop_all, take_all}
 use Rattle.std.proofs.lemmas.List.FromFn.{length-range_with_len}
 use Rattle.std.proofs.lemmas.Grind.{flat_map-append}
 use Rattle.std.proofs.lemmas.List.Elements.{All-append, All-cons, All-head, All-nil, All-tail, All-weaker}
-use Rattle.std.proofs.lemmas.List.Sorted.{All-permutation, IsPermutation-append, IsPermutation-append_comm, IsPermutation-append_left}
+use Rattle.std.proofs.lemmas.List.Sorted.{All-permutation, IsPermutation-append, IsPermutation-append_comm}
 use Rattle.std.proofs.lemmas.List.Sorted.{IsPermutation-sym, IsPermutation-trans, length_permutation}
 use mathlib.Core.List.{IsPrefix}
 use Rattle.ds_base.specs.Limits.{first_drawn_id}
@@ -20,7 +21,7 @@ use Rattle.ds_log.specs.Logs.{shard_list}
 use Rattle.ds_log.specs.ShardLaws.{later_entries, shard_list-append}
 use Rattle.ds_model.specs.Asked.{asked}
 use Rattle.ds_model.specs.Legal.{IdsDrawn, Legal, RoundsSteps, accepted, acknowledged, answered_lines, by_client, drawn_in, printed_next}
-use Rattle.ds_model.specs.Sessions.{Session, first_id, first_sessions}
+use Rattle.ds_model.specs.Sessions.{first_sessions}
 use Rattle.ds_model.specs.Worlds.{shard_lists, world_of}
 use Rattle.ds_reply.specs.declared.reply.Reply.{Reply}
 use Rattle.ds_rounds.specs.Rounds.{NumberedLine}
@@ -29,11 +30,11 @@ use Rattle.ds_session.specs.Sessions.{SessionParts}
 use Rattle.ds_session.proofs.GrowthLaws.{longer_through}
 use Rattle.ds_session.proofs.LineLaws.{drawn-append}
 use Rattle.ds_serving.proofs.Alike.{all_sessions}
-use Rattle.ds_store.specs.Ending.{Begins, HaveEnded, commits_of_all, draws_of_all}
+use Rattle.ds_store.specs.Ending.{Begins, HaveEnded}
 use Rattle.ds_store.specs.Loads.{loaded}
 use Rattle.ds_store.specs.Passes.{HasRead, PassParts}
 use Rattle.ds_store_passes.proofs.Growing.{begins_through, begins_whole}
-use Rattle.ds_feeding.specs.ManyRows.{HaveFewRows}
+use Rattle.ds_row_limit.specs.ManyRows.{HaveFewRows}
 use Rattle.ds_cutting.specs.LegalCut.{LegalCut}
 use Rattle.ds_cutting.proofs.RowLaws.{front_taken}
 
@@ -164,8 +165,8 @@ legal_uncut first second shards window n rounds journal replies few legal = reco
   between = legal.after;
   after = legal.after;
   before_cut = subst
-      (λ (rs : List (List NumberedLine)). RoundsSteps (asked shards) (world_of first shards window journal) rs (first_sessions shards) replies
-      legal.after) (sym (take_all n rounds few)) legal.steps;
+      (λ (rs : List (List NumberedLine)). RoundsSteps (asked shards) (world_of first shards window journal) rs (first_sessions shards)
+      replies legal.after) (sym (take_all n rounds few)) legal.steps;
   behind_cut = subst
       (λ (rs : List (List NumberedLine)). RoundsSteps (asked shards) (world_of second shards window journal) rs legal.after [] legal.after)
       (sym (drop_all n rounds few)) (refl, refl);
@@ -245,12 +246,14 @@ module _ (first second : List IndexDef) (shards : ℕ) (window : Option ℕ) (ro
       (subst (λ k. IsPermutation (range_with_len 1 k) own) counted own_once)
       (fed.commits ∙ ap (λ (js : List Commit). range_with_len 1 (length js)) seen_all)
       (subst (λ k. IsPermutation (range_with_len 1 k) (flat_map (λ s. s.pass.commits) after ++ loader.commits)) all_counted
-      (subst (IsPermutation (numbers 1 (length whole + 1))) (with_loader (λ p. p.commits) (λ p is. is.commits) others after loader others_idle)
+      (subst (IsPermutation (numbers 1 (length whole + 1))) (with_loader (λ p. p.commits) (λ p is. is.commits)
+      others after loader others_idle)
       ended.commits))
 
   draws_once : IsPermutation
       (drawn_in (asked shards) (answered_lines (asked shards) rounds) run.replies
-      ++ drawn_in (asked shards) (answered_lines (asked shards) later) behind.replies) (range_with_len first_drawn_id (last - first_drawn_id))
+      ++ drawn_in (asked shards) (answered_lines (asked shards) later) behind.replies)
+      (range_with_len first_drawn_id (last - first_drawn_id))
   draws_once =
       both (drawn_in (asked shards) (answered_lines (asked shards) rounds) run.replies)
       (drawn_in (asked shards) (answered_lines (asked shards) later) behind.replies) drawn (flat_map (λ s. s.pass.draws) after)

@@ -1,22 +1,19 @@
 -- From one step of a cut to the next: what the pass knows that feeds the second store, and what the sessions go on with.
-use Rattle.std.proofs.Common.{◌≡◌, ℕ, ◌+◌, ◌-◌, ◌<◌, ◌≤◌, List, [], ◌∷◌, ◌++◌, length, max, refl, ap, sym, ◌∙◌, subst, arith}
+use Rattle.std.proofs.Common.{◌≡◌, ℕ, ◌+◌, ◌-◌, ◌<◌, ◌≤◌, List, [], length, max, refl, ap, sym, ◌∙◌, subst, arith}
 use Rattle.std.proofs.Common.{Option, None, Some}
-use Rattle.std.specs.Prelude.{All, replicate}
+use Rattle.std.specs.Prelude.{All}
 use Rattle.std.proofs.Math.Nat.{max-eq_right}
 use Rattle.std.proofs.lemmas.List.{length-map}
-use Rattle.std.proofs.lemmas.List.Elements.{All-append, All-cons, All-head, All-nil, All-tail, All-weaker}
-use mathlib.Core.List.{IsPrefix}
+use Rattle.std.proofs.lemmas.List.Elements.{All-nil, All-weaker}
 use Rattle.ds_base.specs.Limits.{first_drawn_id, greatest_client}
-use Rattle.ds_feeding.specs.Feeding.{AreCaughtUp, HasCaughtUp, HasFed, HasTooManyLeft, IsCutOver, WhereTooMany}
-use Rattle.ds_feeding.specs.ManyRows.{HaveFewRows, too_many_rows}
+use Rattle.ds_feeding.specs.Feeding.{HasCaughtUp, HasFed, HasTooManyLeft, IsCutOver, WhereTooMany}
+use Rattle.ds_row_limit.specs.ManyRows.{HaveFewRows, first_too_many}
 use Rattle.ds_feeding.specs.declared.refused.ReindexRefused.{ReindexRefused}
-use Rattle.ds_feeding.specs.declared.refused.ReindexRefused.TheVariants as refused
 use Rattle.ds_indexdef.specs.declared.IndexDef.{IndexDef}
 use Rattle.ds_log.specs.declared.Commit.{Commit}
-use Rattle.ds_model.specs.Sessions.{Session, first_sessions}
+use Rattle.ds_model.specs.Sessions.{Session}
 use Rattle.ds_protocol.specs.Watermarks.{HaveCounts}
 use Rattle.ds_rounds.specs.Reading.{ReaderParts}
-use Rattle.ds_rounds.specs.Rounds.{NumberedLine}
 use Rattle.ds_clients.specs.Moving.{AreMoved, HaveBeenMet}
 use Rattle.ds_clients.specs.Runs.{HasRun, IsIdle, seen_of}
 use Rattle.ds_clients.proofs.RoundLaws.{run_nothing}
@@ -31,8 +28,8 @@ use Rattle.ds_store.specs.Loads.{LoadingParts, loaded}
 use Rattle.ds_store.specs.Lower.{IsNoLower}
 use Rattle.ds_store.specs.Passes.{HasRead, PassParts, StoreParts, counts_of, nothing_seen}
 use Rattle.ds_store_passes.proofs.Growing.{begins_through}
-use Rattle.ds_cutting.specs.CutSteps.{IsCutTo, IsFeeding, IsRefused, RanFirst, asked_of}
-use Rattle.ds_cutting.proofs.RowLaws.{few_both, few_fed}
+use Rattle.ds_cutting.specs.CutSteps.{IsCutTo, IsFeeding, IsRefused, RanFirst}
+use Rattle.ds_cutting.proofs.RowLaws.{few_fed}
 
 -- ---- the pass that feeds
 
@@ -57,7 +54,7 @@ module _ (definitions : List IndexDef) (shards passes : ℕ) where
         place = omega arith;
         least = omega arith;
         next = least;
-        few = All-nil (λ (c : Commit). too_many_rows definitions c.writes ≡ None);
+        few = All-nil (λ (c : Commit). first_too_many definitions c.writes ≡ None);
       })
 
   -- more was fed
@@ -154,7 +151,8 @@ pub counts_moved : (shards : ℕ) (before after : List SessionParts) → AreMove
 counts_moved shards before after moved counts = subst (HaveCounts shards) (sym moved.seen) counts
 
 -- rounds were served, and the sessions go on from what their clients have seen
-pub going_on : (setting later : Setting) (n : ℕ) {left mid old held : Option (List ℕ)} {reader : ReaderParts} {now after : List SessionParts}
+pub going_on : (setting later : Setting) (n : ℕ) {left mid old held : Option (List ℕ)} {reader : ReaderParts}
+    {now after : List SessionParts}
     → (served : HasServed (Counted (Exactly n) (RanFirst setting)) left mid old held reader now) → AreMoved now after
     → HasServed (RanBehind later (seen_of now) served.rounds served.text) left mid old held reader after
 going_on setting later n {left} {mid} {old} {held} {reader} {now} {after} served moved = record {

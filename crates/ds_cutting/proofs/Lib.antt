@@ -1,9 +1,6 @@
-pub mod Beginning
 pub mod Crossing
 pub mod CutEnds
 pub mod CutLaws
-pub mod Finished
 pub mod Going
-pub mod NoneRun
+pub mod Outcomes
 pub mod RowLaws
-pub mod SettingLaws

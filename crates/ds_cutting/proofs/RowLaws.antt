@@ -1,11 +1,11 @@
 -- Commits with too many index rows, told of the journal that goes on from what was fed.
-use Rattle.std.proofs.Common.{◌≡◌, ℕ, ◌+◌, List, [], ◌∷◌, ◌++◌, length, take, Option, refl, ap, sym, ◌∙◌, subst, append_assoc}
-use Rattle.std.specs.Prelude.{All, None, Some, slice_get}
+use Rattle.std.proofs.Common.{◌≡◌, ℕ, ◌+◌, List, [], ◌∷◌, ◌++◌, length, take, ap, sym, ◌∙◌, subst, append_assoc}
+use Rattle.std.specs.Prelude.{None, Some, slice_get}
 use Rattle.std.proofs.Math.Seq.{take-append_seam}
 use Rattle.std.proofs.lemmas.List.Elements.{All-append}
 use mathlib.Core.List.{IsPrefix}
 use Rattle.ds_feeding.specs.Feeding.{HasTooManyLeft}
-use Rattle.ds_feeding.specs.ManyRows.{HaveFewRows, too_many_rows}
+use Rattle.ds_row_limit.specs.ManyRows.{HaveFewRows, first_too_many}
 use Rattle.ds_feeding.specs.declared.refused.ReindexRefused.{ReindexRefused}
 use Rattle.ds_feeding.specs.declared.refused.ReindexRefused.TheVariants as refused
 use Rattle.ds_indexdef.specs.declared.IndexDef.{IndexDef}
@@ -29,7 +29,7 @@ next_there (f ∷ front) rest c is = next_there front rest c is
 module _ (definitions : List IndexDef) where
   pub few_both : (fed behind : List Commit) → HaveFewRows definitions fed → HaveFewRows definitions behind
       → HaveFewRows definitions (fed ++ behind)
-  few_both fed behind few more = All-append (λ (c : Commit). too_many_rows definitions c.writes ≡ None) fed behind few more
+  few_both fed behind few more = All-append (λ (c : Commit). first_too_many definitions c.writes ≡ None) fed behind few more
 
   -- all that a pass has seen was fed, and none of it has too many
   pub few_fed : (fed behind seen : List Commit) → HaveFewRows definitions fed → HaveFewRows definitions behind → seen ≡ fed ++ behind

@@ -1,7 +1,8 @@
 -- What a run is whose index definitions change behind a round, and how it ends.
-use Rattle.std.specs.Prelude.{◌≡◌, ℕ, ◌+◌, ◌<◌, ◌≤◌, ◌⊎◌, List, [], ◌∷◌, ◌++◌, Bool, true, Option, Some, None, IfSome, flat_map, length, take, ⊤}
+use Rattle.std.specs.Prelude.{◌≡◌, ℕ, ◌+◌, ◌≤◌, ◌⊎◌, List, [], ◌∷◌, ◌++◌}
+use Rattle.std.specs.Prelude.{Bool, true, Option, Some, None, IfSome, flat_map, length, take, ⊤}
 use Rattle.std.specs.Io.KnownBytes.{Consumes}
-use Rattle.ds_feeding.specs.ManyRows.{HaveFewRows, too_many_rows}
+use Rattle.ds_row_limit.specs.ManyRows.{HaveFewRows, first_too_many}
 use Rattle.ds_indexdef.specs.declared.IndexDef.{IndexDef}
 use Rattle.ds_log.specs.declared.Commit.{Commit}
 use Rattle.ds_reply.specs.declared.reply.Reply.{Reply}
@@ -14,7 +15,6 @@ use Rattle.ds_serving.specs.Runs.{AreFirst, WasSetUp, WereRun, Wrote}
 use Rattle.ds_serving.specs.Settings.{AreRead, IsSetting}
 use Rattle.ds_serving.specs.declared.settings.Setting.{Setting}
 use Rattle.ds_words.specs.Exits.{exit_of}
-use Rattle.ds_words.specs.declared.status.Status.{Status}
 use Rattle.ds_words.specs.declared.status.Status.TheVariants as status
 use Rattle.ds_cutting.specs.LegalCut.{LegalCut}
 use Rattle.ds_cutting.specs.declared.outcome.CutStatus.{CutStatus}
@@ -66,7 +66,7 @@ pub record IsFirstTooMany (definitions : List IndexDef) (journal : List Commit) 
   pub all : journal ≡ before ++ next ∷ behind
   pub number : commit ≡ length before + 1
   pub few : HaveFewRows definitions before
-  pub many : too_many_rows definitions next.writes ≡ Some count
+  pub many : first_too_many definitions next.writes ≡ Some count
 
 -- the cause of a run that ends for too many rows
 abbrev pub AreTooMany : CutStatus → List IndexDef → List Commit → Type 0
@@ -92,8 +92,8 @@ WasSetUpCut (cut.TooManyRows commit count) rounds set_up = set_up
 -- second file. The bytes that were read are those that the source had in front of what it has left, and all that it had where its end was
 -- met. Where there was a cut, it tells how many commits the first n rounds made, and none of these has too many rows under the second
 -- definitions.
-pub record IsLegalCutRun (words : List (List ℕ)) (file : List ℕ) (n : ℕ) (content : List ℕ → Option (List ℕ)) (how : CutStatus) (cut_at : Option ℕ)
-    (left rest : Option (List ℕ)) (journal : List Commit) (old new : Option (List ℕ)) (unsent : List ℕ) : Type 0 where
+pub record IsLegalCutRun (words : List (List ℕ)) (file : List ℕ) (n : ℕ) (content : List ℕ → Option (List ℕ)) (how : CutStatus)
+    (cut_at : Option ℕ) (left rest : Option (List ℕ)) (journal : List Commit) (old new : Option (List ℕ)) (unsent : List ℕ) : Type 0 where
   pub read : List ℕ
   pub told : Consumes left rest read
   pub ended : Bool

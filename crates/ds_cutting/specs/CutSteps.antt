@@ -4,7 +4,7 @@ use Rattle.std.specs.Prelude.{◌≡◌, ◌⊎◌, ℕ, ◌+◌, ◌≤◌, Lis
 use mathlib.Core.List.{IsPrefix}
 use Rattle.ds_base.specs.Limits.{first_drawn_id, most_input_bytes}
 use Rattle.ds_feeding.specs.Feeding.{HasTooManyLeft, IsCutOver, WhereTooMany}
-use Rattle.ds_feeding.specs.ManyRows.{HaveFewRows}
+use Rattle.ds_row_limit.specs.ManyRows.{HaveFewRows}
 use Rattle.ds_feeding.specs.declared.refused.ReindexRefused.{ReindexRefused}
 use Rattle.ds_feeding.specs.declared.refused.ReindexRefused.TheVariants as refused
 use Rattle.ds_indexdef.specs.declared.IndexDef.{IndexDef}
@@ -106,8 +106,8 @@ pub record EndsLater (setting : Setting) (place : ℕ) (loader : PassParts) (fir
   pub status_is : run.status ≡ cut.Served how
   pub cut_is : run.cut ≡ Some place
   pub now : List SessionParts
-  pub stopped : HasStopped (Counted (StoppedPast how (length earlier)) (RanBehind setting first earlier said)) how left rest old new run.unsent
-      now
+  pub stopped : HasStopped (Counted (StoppedPast how (length earlier)) (RanBehind setting first earlier said)) how left rest old new
+      run.unsent now
   pub idle : List PassParts
   pub idle_all : All IsIdle idle
   pub journal : List Commit

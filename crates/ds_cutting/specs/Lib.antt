@@ -1,5 +1,3 @@
-pub mod LegalCut
-pub mod CutWords
 pub mod CutRuns
-pub mod CutSettings
 pub mod CutSteps
+pub mod LegalCut

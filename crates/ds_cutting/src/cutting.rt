@@ -11,7 +11,7 @@ ghost use Rattle.ds_cutting.specs.CutSteps.{EndsBegun, EndsUncut, IsCutTo, IsFee
 
 use crate::later::{Later, run_later};
 use crate::outcome::{CutRun, CutStatus};
-use crate::running::{Host, Plan};
+use crate::plan::{Host, Plan};
 use ds_clients::{Sessions, Unsent};
 use ds_feeding::{Cut, Reindex, ReindexRefused};
 use ds_io::{Gate, Sink, Source};
@@ -24,20 +24,25 @@ use std::thread::Threads;
 
 /// What a run is made of where the rounds before the cut were served. No thread uses it.
 #[derive(Drop)]
-pub(crate) struct AtCut<J: Names, K: Names, H: Wait + Drop> {
-    pub(crate) store: Store<J, H>,
-    pub(crate) tail: Tail<J>,
+pub struct AtCut<J: Names, K: Names, H: Wait + Drop> {
+    /// The first store.
+    pub store: Store<J, H>,
+    /// Leave to be handed its commits.
+    pub tail: Tail<J>,
     /// The pass that feeds the second store.
-    pub(crate) feeder: Pass<J>,
+    pub feeder: Pass<J>,
     /// The passes of the appliers, with room for all others.
-    pub(crate) passes: Vec<Pass<J>>,
-    pub(crate) sessions: Sessions<J>,
-    pub(crate) rounds: Rounds,
-    pub(crate) reindex: Reindex<K, H>,
+    pub passes: Vec<Pass<J>>,
+    /// The sessions of all clients.
+    pub sessions: Sessions<J>,
+    /// The reader of the input.
+    pub rounds: Rounds,
+    /// The second store.
+    pub reindex: Reindex<K, H>,
 }
 
-/// Ends a run that has stopped before the cut.
-pub(crate) fn end_uncut<J: Names, K: Names, Rt: Wait, H: Wait + Drop, G>(
+/// Ends a run that has stopped before the cut: there is none, and the journal is the first store's.
+pub fn end_uncut<J: Names, K: Names, Rt: Wait, H: Wait + Drop, G>(
     host: &Host<'_, Rt, H, G>,
     at: AtCut<J, K, H>,
     stopped: Stopped,
@@ -107,8 +112,10 @@ fn end_with<J: Names, Rt: Wait, H: Wait + Drop>(
     }
 }
 
-/// Goes over to the second store, and serves the later rounds of an input.
-pub(crate) fn cut_over<
+/// Goes over to the second store, and serves the later rounds of an input: what is left is fed to the second store, each session goes on
+/// with a pass of it that has seen no less, and the first store is closed. Where a put of the earlier rounds has too many index rows under
+/// the second definitions, or when out of memory, the run ends there, and no later round is run.
+pub fn cut_over<
     J: Names + Send + Sync,
     K: Names + Send + Sync,
     Rt: Threads + Wait + Sync,

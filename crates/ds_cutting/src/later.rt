@@ -11,7 +11,7 @@ ghost use Rattle.ds_serve.specs.RunSteps.{RanBehind};
 ghost use Rattle.ds_cutting.specs.CutSteps.{EndsBegun, EndsLater, asked_of};
 
 use crate::outcome::{CutRun, CutStatus};
-use crate::running::{Host, Plan};
+use crate::plan::{Host, Plan};
 use ds_clients::Sessions;
 use ds_io::{Gate, Sink, Source};
 use ds_rounds::Rounds;

@@ -1,20 +1,18 @@
-//! A server whose index definitions change while clients run: rounds 1 to N are served by a first index file, and later ones by a second.
+//! The cut of a run whose index definitions change while clients run: the clients go from a first store to a second one, which was fed with
+//! the commits of the first (`ds_feeding`), and later rounds are served by it.
 //!
-//! Begin with `top`: `serve_cut` reads the words and both index files, opens two stores, and picks their names. `running` serves the rounds
-//! before the cut; `cutting` brings clients from the first store to the second one, which was fed with the commits of the first
-//! (`ds_feeding`); `later` serves the rounds behind the cut. `words` reads the words, `outcome` holds what a run gives.
+//! Begin with `cutting`: `cut_over` brings clients over, once the rounds before the cut were served; `end_uncut` ends a run that has
+//! stopped before that. `later` serves the rounds behind the cut, `plan` holds what a run is asked for, and `outcome` what it gives.
+//! `ds_serve_cut` stands on them, with the words and the rounds before the cut.
 //!
-//! In `specs/`, `LegalCut` says what a legal run is over which the definitions change, `CutRuns` what a run of this server is, and
-//! `CutWords` what its words are.
+//! In `specs/`, `LegalCut` says what a legal run is over which the definitions change, and `CutRuns` what a run of such a server is.
 #![tactic(auto)]
 
-mod cutting;
+pub mod cutting;
 mod later;
 pub mod outcome;
-mod running;
-mod setting;
-pub mod top;
-pub mod words;
+pub mod plan;
 
-pub use outcome::{CutRun, CutStatus};
-pub use top::serve_cut;
+pub use cutting::{AtCut, cut_over, end_uncut};
+pub use outcome::{CutRun, CutStatus, nothing_run};
+pub use plan::{Host, Plan};

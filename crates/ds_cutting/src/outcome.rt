@@ -46,7 +46,7 @@ pub struct CutRun {
 }
 
 /// The end of a run that ran no round.
-pub(crate) fn nothing_run(alloc: Global, status: CutStatus) -> CutRun
+pub fn nothing_run(alloc: Global, status: CutStatus) -> CutRun
     ensures status { result.status ≡ status }
     ensures cut { result.cut ≡ None }
     ensures journal { result.journal ≡ Some [] }

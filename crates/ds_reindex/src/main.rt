@@ -1,12 +1,12 @@
-//! The program: the real input, output and files, and the top call of `ds_cutting`, where its theorem stands. It serves rounds 1 to N by
+//! The program: the real input, output and files, and the top call of `ds_serve_cut`, where its theorem stands. It serves rounds 1 to N by
 //! one index file, and later rounds by a second one.
 //!
 //! It passes on the words of the command line, and ends with the number of the run's status, which it also names on standard
 //! error.
 #![tactic(auto)]
 
-use ds_cutting::{CutStatus, serve_cut};
 use ds_io::{NoGate, StdFiles, StdSink, StdSource};
+use ds_serve_cut::{CutStatus, serve_cut};
 use ds_words::Status;
 use std::io::{ErrorKind, Write};
 use std::mem::forget;

@@ -1,12 +1,12 @@
-use Rattle.std.proofs.Common.{◌≡◌, ◌∙◌, All, List, [], ◌∷◌, ◌++◌, ℕ, ap, arith, refl, subst, sym}
+use Rattle.std.proofs.Common.{◌∙◌, List, [], ◌∷◌, ◌++◌, ℕ, ap, arith, subst, sym}
 use Rattle.std.proofs.lemmas.List.Elements.{All-append, All-cons, All-nil}
 use Rattle.ds_protocol.specs.Watermarks.{HaveCounts}
 use Rattle.ds_clients.specs.Runs.{IsIdle, passes_of, seen_of}
 use Rattle.ds_indexdef.specs.declared.IndexDef.{IndexDef}
-use Rattle.ds_store.specs.Passes.{PassParts, StoreParts}
+use Rattle.ds_store.specs.Passes.{StoreParts}
 use Rattle.ds_cutting.specs.CutSteps.{EndsUncut, IsCutTo, IsRefused, asked_of}
 use Rattle.ds_cutting.specs.declared.outcome.CutStatus.{CutStatus}
-use Rattle.ds_cutting.proofs.Beginning.{refused_ends}
+use Rattle.ds_cutting.proofs.Outcomes.{refused_ends}
 use Rattle.ds_cutting.proofs.CutEnds.{ends_at_cut}
 use Rattle.ds_cutting.proofs.Going.{cut_to, feeding_later, idle_later, met_later, refused_so}
 use Rattle.ds_cutting.proofs.cutting.cut_over.Goals as goal

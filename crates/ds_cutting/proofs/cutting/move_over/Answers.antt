@@ -1,4 +1,5 @@
-use Rattle.std.proofs.Common.{◌≡◌, ◌∙◌, ◌-◌, ◌≤◌, All, List, [], ◌∷◌, ◌++◌, None, Some, ℕ, ap, arith, length, length-append, refl, subst, sym}
+use Rattle.std.proofs.Common.{◌≡◌, ◌∙◌, ◌-◌, ◌≤◌, All, List, [], ◌∷◌, ◌++◌, None}
+use Rattle.std.proofs.Common.{Some, ℕ, ap, arith, length, length-append, refl, subst, sym}
 use Rattle.std.specs.Vec.{vec_items}
 use Rattle.std.proofs.lemmas.List.{length-take}
 use Rattle.std.proofs.lemmas.List.Elements.{All-append, All-cons, All-nil, All-take}
@@ -17,7 +18,7 @@ use Rattle.ds_feeding.specs.declared.refused.ReindexRefused.TheVariants as refus
 use Rattle.ds_words.specs.declared.status.Status.TheVariants as status
 use Rattle.ds_cutting.specs.declared.outcome.CutRun.{CutRun}
 use Rattle.ds_cutting.specs.declared.outcome.CutStatus.TheVariants as ending
-use Rattle.ds_cutting.proofs.Beginning.{refused_memory}
+use Rattle.ds_cutting.proofs.Outcomes.{refused_memory}
 use Rattle.ds_cutting.proofs.CutEnds.{ends_at_cut}
 use Rattle.ds_cutting.proofs.Crossing.{as_many, crossed, front_idle, front_lower, front_many}
 use Rattle.ds_cutting.proofs.Going.{counts_moved}

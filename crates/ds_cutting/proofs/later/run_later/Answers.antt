@@ -6,7 +6,7 @@ use Rattle.ds_serving.proofs.Alike.{all_drop}
 use Rattle.ds_serve.specs.RunSteps.{HasEnded}
 use Rattle.ds_store.specs.Passes.{PassParts}
 use Rattle.ds_cutting.specs.CutSteps.{asked_of}
-use Rattle.ds_cutting.proofs.Beginning.{went_on}
+use Rattle.ds_cutting.proofs.Outcomes.{went_on}
 use Rattle.ds_cutting.proofs.later.run_later.Goals as goal
 
 pub returns-clause-later : goal.returns-clause-later

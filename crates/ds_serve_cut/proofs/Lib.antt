@@ -1,0 +1,4 @@
+pub mod Beginning
+pub mod Finished
+pub mod NoneRun
+pub mod SettingLaws

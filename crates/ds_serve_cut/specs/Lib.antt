@@ -1,0 +1,2 @@
+pub mod CutSettings
+pub mod CutWords
