@@ -1,10 +1,10 @@
 -- Why no verdict is found, told of the files as they were before all loads.
-use Rattle.std.proofs.Common.{◌≡◌, ℕ, ◌≤◌, inl, inr, List, subst, arith, Option, Some, None}
+use Rattle.std.proofs.Common.{◌≡◌, ◌∙◌, ℕ, ◌≤◌, inl, inr, List, subst, arith, Option, Some, None}
 use Rattle.ds_indexdef.specs.declared.IndexDef.{IndexDef}
 use Rattle.ds_io.specs.Faults.{Rose}
 use Rattle.ds_journal_text.specs.Texts.{IsJournalOf}
 use Rattle.ds_log.specs.declared.Commit.{Commit}
-use Rattle.ds_audit.specs.Audits.{AreGiven, AreLoaded, Asked, IsNoJournal, IsOwn, IsUndecided, IsUnread, asked_by}
+use Rattle.ds_audit.specs.Audits.{AreGiven, AreLoaded, AreSame, Asked, IfUnfaulted, IsNoJournal, IsOwn, IsUndecided, IsUnread, asked_by}
 use Rattle.ds_audit.specs.declared.reading.Texts.{Texts}
 use Rattle.ds_audit.specs.declared.status.AuditStatus.{AuditStatus}
 use Rattle.ds_audit.specs.declared.status.AuditStatus.TheVariants as status
@@ -65,3 +65,19 @@ undecided_journal content before after words a t (status.IndexFile line) said lo
 undecided_journal content before after words a t status.FileFault said loaded wrong = absurd wrong
 undecided_journal content before after words a t status.WriteFault said loaded wrong = absurd wrong
 undecided_journal content before after words a t status.NotLegal said loaded wrong = absurd wrong
+
+-- ---- counts of faults that stay
+
+pub same_then : (before middle after : List ℕ → ℕ) → AreSame before middle → AreSame middle after → AreSame before after
+same_then before middle after first second = λ name. second name ∙ first name
+
+pub same_unless : (s : AuditStatus) (before middle after : List ℕ → ℕ) → AreSame before middle → IfUnfaulted s (AreSame middle after)
+    → IfUnfaulted s (AreSame before after)
+same_unless status.Legal before middle after first second = same_then before middle after first second
+same_unless status.NotLegal before middle after first second = same_then before middle after first second
+same_unless status.Usage before middle after first second = same_then before middle after first second
+same_unless (status.IndexFile line) before middle after first second = same_then before middle after first second
+same_unless (status.Journal line) before middle after first second = same_then before middle after first second
+same_unless status.WriteFault before middle after first second = same_then before middle after first second
+same_unless status.FileFault before middle after first second = tt
+same_unless status.NoMemory before middle after first second = same_then before middle after first second

@@ -6,8 +6,9 @@ use Rattle.std.proofs.Math.Seq.{take-add}
 use Rattle.std.proofs.lemmas.List.{take_all}
 use Rattle.ds_check.specs.declared.checking.Verdict.{Verdict}
 use Rattle.ds_check.specs.declared.checking.Verdict.TheVariants as verdict
-use Rattle.ds_audit.specs.Audits.{IsPrinted, status_of, verdict_text}
+use Rattle.ds_audit.specs.Audits.{IfUnfaulted, IfUnwritten, IsPrinted, status_of, verdict_text}
 use Rattle.ds_audit.specs.declared.status.AuditStatus.{AuditStatus}
+use Rattle.ds_audit.specs.declared.status.AuditStatus.TheVariants as status
 
 -- what is behind the first bytes, as a program takes it
 pub rest_from : {A : Type 0} (n : ℕ) (l : List A) → take (length l - n) (drop n l) ≡ drop n l
@@ -31,3 +32,35 @@ printed_as v held now before after s is wrote = subst (λ t. IsPrinted v held no
   by verdict.Count appends = (refl, appends)
   by verdict.Numbers appends = (refl, appends)
   by verdict.Ids appends = (refl, appends)
+
+-- a status of a verdict says that it was written
+pub written_as : (v : Verdict) (s : AuditStatus) (fact : Type 0) → s ≡ status_of v → IfUnwritten s fact
+written_as v s fact is = subst (λ t. IfUnwritten t fact) (sym is) (by v) where
+  by : (u : Verdict) → IfUnwritten (status_of u) fact
+  by verdict.Legal = tt
+  by (verdict.Reply line) = tt
+  by verdict.Count = tt
+  by verdict.Numbers = tt
+  by verdict.Ids = tt
+
+-- a fact holds wherever
+pub unfaulted : (s : AuditStatus) (fact : Type 0) → fact → IfUnfaulted s fact
+unfaulted status.Legal fact p = p
+unfaulted status.NotLegal fact p = p
+unfaulted status.Usage fact p = p
+unfaulted (status.IndexFile line) fact p = p
+unfaulted (status.Journal line) fact p = p
+unfaulted status.WriteFault fact p = p
+unfaulted status.FileFault fact p = tt
+unfaulted status.NoMemory fact p = p
+
+-- and where nothing was written
+pub unwritten : (s : AuditStatus) (fact : Type 0) → fact → IfUnwritten s fact
+unwritten status.Legal fact p = tt
+unwritten status.NotLegal fact p = tt
+unwritten status.Usage fact p = p
+unwritten (status.IndexFile line) fact p = p
+unwritten (status.Journal line) fact p = p
+unwritten status.WriteFault fact p = tt
+unwritten status.FileFault fact p = p
+unwritten status.NoMemory fact p = p

@@ -1,5 +1,5 @@
 -- How an audit ends, and why.
-use Rattle.std.specs.Prelude.{◌≡◌, ℕ, List, [], ◌∷◌, ◌++◌, ◌&&◌, ◌⊎◌, Option, Some, None, Ok, Err, true, cond, codes, decimal}
+use Rattle.std.specs.Prelude.{◌≡◌, ℕ, List, [], ◌∷◌, ◌++◌, ◌&&◌, ◌⊎◌, Option, Some, None, Result, Ok, Err, true, cond, codes, decimal}
 use Rattle.std.specs.Prelude.{option_map, IfSome, ⊤}
 use Rattle.std.specs.Io.KnownBytes.{Appends}
 use Rattle.ds_check.specs.Verdicts.{IsVerdict}
@@ -142,6 +142,27 @@ IsPrinted v held now before after status.NoMemory = ⊤
 IsPrinted v held now before after status = (status ≡ status_of v) × Appends held now (verdict_text v)
 
 -- ---- all of it
+
+-- this holds where no verdict was written, not even a part of one
+abbrev pub IfUnwritten : AuditStatus → Type 0 → Type 0
+IfUnwritten status.Legal fact = ⊤
+IfUnwritten status.NotLegal fact = ⊤
+IfUnwritten status.WriteFault fact = ⊤
+IfUnwritten _ fact = fact
+
+-- each name's count of faults is as it was
+abbrev pub AreSame : (List ℕ → ℕ) → (List ℕ → ℕ) → Type 0
+AreSame before after = (name : List ℕ) → after name ≡ before name
+
+-- this holds where the status doesn't say that a file failed
+abbrev pub IfUnfaulted : AuditStatus → Type 0 → Type 0
+IfUnfaulted status.FileFault fact = ⊤
+IfUnfaulted _ fact = fact
+
+-- what was wanted of files is had, and none failed; or the status tells why it isn't
+abbrev pub UnlessFaulted : {A : Type 0} → Result A AuditStatus → (List ℕ → ℕ) → (List ℕ → ℕ) → Type 0
+UnlessFaulted (Ok x) before after = AreSame before after
+UnlessFaulted (Err ended) before after = IfUnfaulted ended (AreSame before after)
 
 -- how the audit of these words, over these files and this output, ends
 pub record IsAudited (words : List (List ℕ)) (content : List ℕ → Option (List ℕ)) (before after : List ℕ → ℕ)

@@ -1,7 +1,8 @@
 //! The audit of a run: its three files and the words of its server, and the verdict that is printed.
 ghost use Rattle.std.specs.Prelude.{◌≡◌, ◌≤◌, ℕ, List, Some, map, IfErr, IfOk};
 ghost use Rattle.std.specs.String.{string_bytes};
-ghost use Rattle.ds_audit.specs.Audits.{IsAudited, IsDecided, IsUndecided, asked_by, names_asked};
+ghost use Rattle.ds_audit.specs.Audits.{AreSame, IfUnfaulted, IfUnwritten, IsAudited, IsDecided, IsUndecided, UnlessFaulted};
+ghost use Rattle.ds_audit.specs.Audits.{asked_by, names_asked};
 ghost use Rattle.ds_base.specs.Limits.{most_shards};
 
 use crate::printing::print;
@@ -19,14 +20,19 @@ use std::alloc::Global;
 /// file leaves its form. `Legal` and `NotLegal`: the verdict's line was written whole. `WriteFault`: only where the output's count of
 /// faults rose. `NoMemory`: lack of memory, where the words have their form. They are looked for in this order: words, files, text of the
 /// journal, index file, verdict.
+///
+/// With all other statuses nothing is written. No file is loaded but those that the words name: a failure of any file is told by
+/// `FileFault`, which one of theirs explains.
 pub fn audit<F: Files, O: Sink>(
     alloc: Global,
     words: &[String],
     files: &mut F,
     output: &mut O,
 ) -> AuditStatus
-    ensures { IsAudited (map string_bytes words.now) (F.content files.old) (F.faults files.old) (F.faults files.new)
+    ensures audited { IsAudited (map string_bytes words.now) (F.content files.old) (F.faults files.old) (F.faults files.new)
         (O.held output.old) (O.held output.new) (O.faults output.old) (O.faults output.new) result }
+    ensures unwritten { IfUnwritten result (output.new ≡ output.old) }
+    ensures unfaulted { IfUnfaulted result (AreSame (F.faults files.old) (F.faults files.new)) }
 {
     match verdict_of(alloc, words, files) {
         Ok(verdict) => print(alloc, verdict, output),
@@ -43,6 +49,7 @@ fn verdict_of<F: Files>(
     ensures decided { IfOk result (IsDecided (map string_bytes words.now) (F.content files.old)) }
     ensures undecided { IfErr result (IsUndecided (map string_bytes words.now) (F.content files.old) (F.faults files.old)
         (F.faults files.new)) }
+    ensures unfaulted { UnlessFaulted result (F.faults files.old) (F.faults files.new) }
 {
     match names_in(alloc, words) {
         Ok(names) => verdict_on(alloc, &names, files),
@@ -63,6 +70,7 @@ fn verdict_on<F: Files>(
         → IsDecided words (F.content files.old) v) }
     ensures undecided { IfErr result (λ status. (words : List (List ℕ)) → asked_by words ≡ Some (names_asked names.now)
         → IsUndecided words (F.content files.old) (F.faults files.old) (F.faults files.new) status) }
+    ensures unfaulted { UnlessFaulted result (F.faults files.old) (F.faults files.new) }
 {
     let texts = load_texts(alloc, names, files)?;
     let journal = match journal_of(alloc, texts.journal.bytes()) {

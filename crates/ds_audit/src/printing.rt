@@ -3,7 +3,7 @@ ghost use Rattle.std.specs.Prelude.{◌≡◌, IfOk, IfErr, IsTrue, IsFalse};
 ghost use Rattle.std.specs.Io.KnownBytes.{Appends};
 ghost use Rattle.std.specs.String.{string_bytes};
 ghost use Rattle.ds_io.specs.Faults.{Rose};
-ghost use Rattle.ds_audit.specs.Audits.{IsPrinted, status_of, verdict_text};
+ghost use Rattle.ds_audit.specs.Audits.{IfUnwritten, IsPrinted, status_of, verdict_text};
 
 use crate::status::AuditStatus;
 use ds_check::Verdict;
@@ -12,7 +12,8 @@ use std::alloc::{AllocError, Global};
 
 /// Prints the line of a verdict, and gives its status; or why it couldn't.
 pub(crate) fn print<O: Sink>(alloc: Global, verdict: Verdict, output: &mut O) -> AuditStatus
-    ensures { IsPrinted verdict (O.held output.old) (O.held output.new) (O.faults output.old) (O.faults output.new) result }
+    ensures printed { IsPrinted verdict (O.held output.old) (O.held output.new) (O.faults output.old) (O.faults output.new) result }
+    ensures unwritten { IfUnwritten result (output.new ≡ output.old) }
 {
     match text_of(alloc, verdict) {
         Ok(text) => print_text(verdict, text.as_str().as_bytes(), output),
@@ -23,7 +24,8 @@ pub(crate) fn print<O: Sink>(alloc: Global, verdict: Verdict, output: &mut O) ->
 /// Prints the line of a verdict, which is this text.
 fn print_text<O: Sink>(verdict: Verdict, text: &[u8], output: &mut O) -> AuditStatus
     requires { text.now ≡ verdict_text verdict }
-    ensures { IsPrinted verdict (O.held output.old) (O.held output.new) (O.faults output.old) (O.faults output.new) result }
+    ensures printed { IsPrinted verdict (O.held output.old) (O.held output.new) (O.faults output.old) (O.faults output.new) result }
+    ensures unwritten { IfUnwritten result (output.new ≡ output.old) }
 {
     if write_whole(output, text) {
         status_of(verdict)

@@ -4,7 +4,8 @@ ghost use Rattle.std.specs.String.{string_bytes};
 ghost use Rattle.ds_base.specs.Limits.{most_shards};
 ghost use Rattle.ds_journal_text.specs.Texts.{IsJournalOf};
 ghost use Rattle.ds_words.specs.Form.{is_value};
-ghost use Rattle.ds_audit.specs.Audits.{AreGiven, AreLoaded, AreUnloaded, IsNoJournal, IsOwn, IsUnloaded, IsUnread, asked_by, names_asked};
+ghost use Rattle.ds_audit.specs.Audits.{AreGiven, AreLoaded, AreUnloaded, IsNoJournal, IsOwn, IsUnloaded, IsUnread, UnlessFaulted};
+ghost use Rattle.ds_audit.specs.Audits.{asked_by, names_asked};
 
 use crate::status::AuditStatus;
 use ds_base::{ByteString, TextString};
@@ -83,6 +84,7 @@ pub(crate) fn load_texts<F: Files>(
     ensures refused { IfErr result (λ status. AreUnloaded (names_asked names.now) (F.faults files.old) (F.faults files.new) status) }
     ensures contents { (other : List ℕ) → F.content files.new other ≡ F.content files.old other }
     ensures counted { (other : List ℕ) → F.faults files.old other ≤ F.faults files.new other }
+    ensures unfaulted { UnlessFaulted result (F.faults files.old) (F.faults files.new) }
 {
     Ok(Texts {
         input: load(alloc, files, names.input)?,
@@ -97,6 +99,7 @@ fn load<F: Files>(alloc: Global, files: &mut F, name: &str) -> Result<ByteString
     ensures refused { IfErr result (IsUnloaded (F.faults files.old name.now) (F.faults files.new name.now)) }
     ensures contents { (other : List ℕ) → F.content files.new other ≡ F.content files.old other }
     ensures counted { (other : List ℕ) → F.faults files.old other ≤ F.faults files.new other }
+    ensures unfaulted { UnlessFaulted result (F.faults files.old) (F.faults files.new) }
 {
     match files.load(alloc, name) {
         Ok(text) => Ok(text),
@@ -125,6 +128,7 @@ pub(crate) fn definitions<F: Files>(
 ) -> Result<Defs, AuditStatus>
     ensures given { IfOk result (AreGiven (F.content files.old) indexes.now) }
     ensures refused { IfErr result (IsUnread indexes.now (F.content files.old) (F.faults files.old) (F.faults files.new)) }
+    ensures unfaulted { UnlessFaulted result (F.faults files.old) (F.faults files.new) }
 {
     match indexes {
         Some(name) => definitions_in(alloc, files, name),
@@ -139,6 +143,7 @@ fn definitions_in<F: Files>(
 ) -> Result<Defs, AuditStatus>
     ensures given { IfOk result (AreGiven (F.content files.old) (Some name.now)) }
     ensures refused { IfErr result (IsUnread (Some name.now) (F.content files.old) (F.faults files.old) (F.faults files.new)) }
+    ensures unfaulted { UnlessFaulted result (F.faults files.old) (F.faults files.new) }
 {
     let text = load(alloc, files, name.text())?;
     match read_yaml(alloc, text.bytes()) {

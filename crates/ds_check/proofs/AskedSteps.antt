@@ -1,9 +1,8 @@
 -- What the lines of rounds ask, as steps.
-use Rattle.std.proofs.Common.{◌≡◌, ℕ, ◌+◌, ◌==◌, List, [], ◌∷◌, ◌++◌, length, map, flat_map, filter, refl, ap, sym, ◌∙◌, subst, All}
+use Rattle.std.proofs.Common.{ℕ, ◌+◌, List, [], ◌∷◌, ◌++◌, length, map, flat_map, sym, subst, All}
 use Rattle.std.specs.List.{range_with_len}
 use Rattle.std.proofs.lemmas.List.{map-append}
 use Rattle.std.proofs.lemmas.List.Elements.{All-nil, All-cons, All-append}
-use Rattle.ds_base.specs.Limits.{greatest_client}
 use Rattle.ds_rounds.specs.Rounds.{NumberedLine}
 use Rattle.ds_model.specs.Asked.{asked, client_of}
 use Rattle.ds_model.specs.Legal.{by_client}
@@ -11,7 +10,6 @@ use Rattle.ds_asked.specs.declared.lines.Asked.{Asked}
 use Rattle.ds_asked.specs.AskedLines.{AreAsked, AreAskedBy, AreAskedFrom, AreAskedRounds, lines_of_client}
 use Rattle.ds_check.specs.Verdicts.{Turn, Meet, Answer, turns_of}
 use Rattle.ds_check.specs.Walks.{MayBeTaken, client_steps, round_steps, steps_of}
-use Rattle.ds_check.specs.declared.steps.Step.{Step}
 use Rattle.ds_check.proofs.Turns.{AreSteps, are-append}
 
 module _ (shards : ℕ) where

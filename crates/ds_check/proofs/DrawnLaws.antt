@@ -1,6 +1,6 @@
 -- The ids that an answer tells as drawn are below the greatest one.
-use Rattle.std.proofs.Common.{◌≡◌, ℕ, suc, zero, ◌+◌, ◌<◌, ◌≤◌, List, [], ◌∷◌, Bool, true, false, cond, Option, Some, None, refl, ap, sym}
-use Rattle.std.proofs.Common.{◌∙◌, subst, arith, All}
+use Rattle.std.proofs.Common.{◌≡◌, ℕ, suc, zero, ◌+◌, ◌<◌, ◌≤◌, List, [], ◌∷◌, Bool, true, false, cond, Option, Some, None, refl, sym}
+use Rattle.std.proofs.Common.{subst, arith, All}
 use Rattle.std.specs.Prelude.{Result, Ok, Err, ⊤}
 use Rattle.std.specs.List.{range_with_len, AllByRecursion}
 use Rattle.std.proofs.lemmas.List.Elements.{All-nil, All-cons}
@@ -17,7 +17,6 @@ use Rattle.ds_request.specs.declared.call.Call.TheVariants as call
 use Rattle.ds_request.specs.declared.call.Request.{Request}
 use Rattle.ds_reply.specs.declared.reply.Body.{Body}
 use Rattle.ds_reply.specs.declared.reply.Body.TheVariants as body
-use Rattle.ds_reply.specs.declared.reply.WriteAt.{WriteAt}
 use Rattle.ds_model.specs.Answers.{BodyAnswers, CallAnswers, UnlessRefused}
 use Rattle.ds_model.specs.Groups.{group_refusal, new_group_refusal, unless_touched, write_refusal}
 use Rattle.ds_model.specs.Legal.{drawn_by, last_id}

@@ -1,26 +1,26 @@
 -- The sessions of all clients, as they are kept.
 use Rattle.std.proofs.Common.{◌≡◌, ℕ, zero, suc, ◌+◌, ◌<◌, ◌≤◌, List, [], ◌∷◌, ◌++◌, length, map, get_or, ap, sym, ◌∙◌}
 use Rattle.std.proofs.Common.{subst, arith, Option, Some, None, All}
-use Rattle.std.specs.Prelude.{max, fold, replicate, slice_get, slice_set, Ok}
+use Rattle.std.specs.Prelude.{max, replicate, slice_get, slice_set, Ok}
 use Rattle.std.proofs.lemmas.List.{length-map, length-replicate}
 use Rattle.std.proofs.lemmas.List.Elements.{All-nil, All-cons, All-head, All-tail}
-use Rattle.ds_base.specs.Limits.{greatest_client, first_drawn_id}
+use Rattle.ds_base.specs.Limits.{greatest_client}
 use Rattle.ds_asked.specs.declared.lines.Asked.{Asked}
-use Rattle.ds_asked.specs.AskedLines.{MayBeAnswered, was_read}
+use Rattle.ds_asked.specs.AskedLines.{was_read}
 use Rattle.ds_model.specs.Answers.{BodyAnswers}
-use Rattle.ds_model.specs.Sessions.{Session, first_session, first_sessions, greater_counts, met}
+use Rattle.ds_model.specs.Sessions.{Session, first_session, first_sessions, met}
 use Rattle.ds_model.specs.Worlds.{World}
-use Rattle.ds_protocol.specs.Watermarks.{HaveCounts, greatest_of, raised_by}
+use Rattle.ds_protocol.specs.Watermarks.{greatest_of, raised_by}
 use Rattle.ds_protocol.proofs.Meetings.{all_met, greater-length}
 use Rattle.ds_reply.specs.declared.reply.Body.{Body}
 use Rattle.ds_model.specs.Legal.{acknowledged_in}
 use Rattle.ds_told.specs.Told.{ToldParts, above_in, draws_of, drawn_told, ids_of, printed_in}
 use Rattle.ds_told.specs.declared.draws.Draws.{Draws}
-use Rattle.ds_judging_reads.proofs.Raising.{got-mapped, length-slice, set-mapped}
+use Rattle.ds_judging_lines.proofs.Raising.{got-mapped, length-slice, set-mapped}
 use Rattle.ds_check.proofs.DrawnLaws.{noted_drawn}
-use Rattle.ds_judging_reads.specs.Deciding.{Decides, IsSessionIn, IsTheAnswer, NoAnswer, seen_by}
+use Rattle.ds_judging_lines.specs.Deciding.{Decides, IsSessionIn, IsTheAnswer, NoAnswer, seen_by}
 use Rattle.ds_check.specs.Walks.{AreSessions, IfAsk, IsNoted, IsRight, IsTaken, IsWrong}
-use Rattle.ds_judging_reads.specs.declared.sessions.Session as sessions
+use Rattle.ds_judging_lines.specs.declared.sessions.Session as sessions
 use Rattle.ds_check.specs.declared.steps.Step.{Step}
 use Rattle.ds_check.specs.declared.steps.Step.TheVariants.{Meet, Ask}
 

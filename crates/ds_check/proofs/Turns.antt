@@ -1,13 +1,13 @@
 -- The turns of a run, and the steps of what their lines ask: what answers the ones answers the others.
-use Rattle.std.proofs.Common.{◌≡◌, ℕ, zero, suc, ◌+◌, List, [], ◌∷◌, ◌++◌, length, map, take, flat_map, refl, ap, sym, ◌∙◌, subst, arith}
-use Rattle.std.proofs.Common.{Option, Some, None, append_assoc, append-nil, All}
+use Rattle.std.proofs.Common.{◌≡◌, ℕ, suc, ◌+◌, List, [], ◌∷◌, ◌++◌, length, map, take, refl, ap, sym, ◌∙◌, subst, arith}
+use Rattle.std.proofs.Common.{append-nil, All}
 use Rattle.std.specs.Prelude.{slice_get, slice_set, Result, ⊤}
 use Rattle.std.proofs.Math.Seq.{take-append_seam}
 use Rattle.std.proofs.lemmas.Option.{same_Some}
 use Rattle.std.proofs.lemmas.List.Elements.{All-head, All-tail, All-cons, All-nil}
 use Rattle.ds_asked.specs.declared.lines.Asked.{Asked}
 use Rattle.ds_asked.specs.AskedLines.{was_read}
-use Rattle.ds_model.specs.Answers.{Answers, BodyAnswers}
+use Rattle.ds_model.specs.Answers.{BodyAnswers}
 use Rattle.ds_model.specs.Asked.{Reading, client_of}
 use Rattle.ds_model.specs.Sessions.{Session, first_sessions, met}
 use Rattle.ds_model.specs.Worlds.{World}
@@ -16,10 +16,10 @@ use Rattle.ds_reply.specs.declared.reply.Reply.{Reply}
 use Rattle.ds_reply.specs.Replies.{reply_text}
 use Rattle.ds_request.specs.declared.call.Request.{Request}
 use Rattle.ds_rounds.specs.Rounds.{NumberedLine}
-use Rattle.ds_judging_reads.specs.Deciding.{HasCounter}
+use Rattle.ds_judging_lines.specs.Deciding.{HasCounter}
 use Rattle.ds_check.specs.declared.steps.Step.{Step}
 use Rattle.ds_check.specs.declared.steps.Step.TheVariants as step
-use Rattle.ds_check.specs.Walks.{AreReplies, IsFirstWrong, IsReply, Stands, Walk, asks, drawn_steps}
+use Rattle.ds_check.specs.Walks.{AreReplies, IsFirstWrong, Stands, Walk}
 use Rattle.ds_check.specs.Verdicts.{Course, Turn, Meet, Answer, Stand, IsFirstWrongReply}
 
 -- ---- turns and steps

@@ -1,7 +1,7 @@
 -- From the walk over a run to what a verdict says of it.
-use Rattle.std.proofs.Common.{◌≡◌, ℕ, zero, suc, ◌+◌, ◌-◌, ◌<◌, ◌≤◌, ◌^◌, List, [], ◌∷◌, ◌++◌, length, map, flat_map, get_or, refl, ap}
-use Rattle.std.proofs.Common.{sym, ◌∙◌, subst, arith, Option, Some, None, append_assoc, append-nil, All}
-use Rattle.std.specs.Prelude.{replicate, slice_set, ◌↔◌, IsPermutation, ⊤}
+use Rattle.std.proofs.Common.{◌≡◌, ℕ, zero, suc, ◌+◌, ◌-◌, ◌<◌, ◌≤◌, List, [], ◌∷◌, ◌++◌, length, map, flat_map, refl, ap}
+use Rattle.std.proofs.Common.{sym, ◌∙◌, subst, arith, Some, None, append-nil, All}
+use Rattle.std.specs.Prelude.{slice_set, ◌↔◌, IsPermutation}
 use Rattle.std.specs.List.{range_with_len}
 use Rattle.std.proofs.lemmas.List.{length-map, length-replicate}
 use Rattle.std.proofs.lemmas.List.Elements.{All-nil, All-cons, All-head, All-tail, All-append}
@@ -11,16 +11,14 @@ use Rattle.std.proofs.lemmas.Option.{same_Some}
 use Rattle.ds_base.specs.Limits.{greatest_client, greatest_id}
 use Rattle.ds_indexdef.specs.declared.IndexDef.{IndexDef}
 use Rattle.ds_log.specs.declared.Commit.{Commit}
-use Rattle.ds_request.specs.declared.call.Request.{Request}
 use Rattle.ds_reply.specs.declared.reply.Body.{Body}
 use Rattle.ds_reply.specs.declared.reply.Body.TheVariants as body
 use Rattle.ds_reply.specs.declared.reply.Reply.{Reply}
 use Rattle.ds_reply.specs.Replies.{reply_text, replies_text}
-use Rattle.ds_rounds.specs.Drafts.{IsUnbroken}
 use Rattle.ds_rounds.specs.Rounds.{NumberedLine}
 use Rattle.ds_model.specs.Answers.{BodyAnswers}
 use Rattle.ds_model.specs.Asked.{Reading, asked, client_of}
-use Rattle.ds_model.specs.Legal.{IdsDrawn, Legal, accepted, acknowledged, answered_lines, by_client, drawn_by, drawn_in, printed_next}
+use Rattle.ds_model.specs.Legal.{IdsDrawn, Legal, accepted, answered_lines, by_client, drawn_by, drawn_in, printed_next}
 use Rattle.ds_model.specs.Legal.{printed_next_in}
 use Rattle.ds_model.specs.Sessions.{Session, first_id, first_session, first_sessions, met}
 use Rattle.ds_model.specs.Worlds.{World, world_of}
@@ -30,12 +28,12 @@ use Rattle.ds_history.specs.Histories.{HistoryParts}
 use Rattle.ds_reply_lines.specs.ReplyLines.{IsWhole, reply_line, whole_lines}
 use Rattle.ds_reply_lines.proofs.RepliesBack.{replies_lines}
 use Rattle.ds_reply_lines.proofs.Splitting.{ended-whole, whole-ended}
-use Rattle.ds_told.specs.Told.{AreIssued, ToldParts, above_in, ids_of, printed_in}
+use Rattle.ds_told.specs.Told.{ToldParts}
 use Rattle.ds_told.proofs.Accepted.{All-first, All-second, accepted_above, accepted_below, printed_above, printed_within}
-use Rattle.ds_judging_reads.specs.Deciding.{HasCounter}
+use Rattle.ds_judging_lines.specs.Deciding.{HasCounter}
 use Rattle.ds_check.specs.Verdicts.{AcknowledgesAll, AllAnswer, Answer, Course, HasLines, IsLegalText, IsVerdict, Meet, Turn, ended_lines}
 use Rattle.ds_check.specs.Verdicts.{turns_of}
-use Rattle.ds_check.specs.Walks.{AllNoted, AreAllCommits, AreIssuedIn, AreReplies, IsFirstWrong, IsJudged, IsReply, IsWalked, Walk, asks}
+use Rattle.ds_check.specs.Walks.{AllNoted, AreAllCommits, AreIssuedIn, AreReplies, IsFirstWrong, IsJudged, IsWalked, Walk, asks}
 use Rattle.ds_check.specs.Walks.{drawn_steps, steps_of}
 use Rattle.ds_check.specs.declared.checking.Verdict.{Verdict}
 use Rattle.ds_check.specs.declared.checking.Verdict.TheVariants as verdict
@@ -44,7 +42,7 @@ use Rattle.ds_check.specs.declared.steps.Step.TheVariants as step
 use Rattle.ds_check.proofs.AskedSteps.{are_steps}
 use Rattle.ds_check.proofs.Courses.{rounds-course, rounds-steps}
 use Rattle.ds_check.proofs.DrawnLaws.{answer_drawn}
-use Rattle.ds_check.proofs.Turns.{AreSteps, course_walk, first_wrong, stands_course}
+use Rattle.ds_check.proofs.Turns.{AreSteps, course_walk, first_wrong, replies_stand, stands_course}
 
 -- ---- the lines of turns
 
@@ -307,6 +305,7 @@ module _ (definitions : List IndexDef) (shards window : ℕ) (rounds : List (Lis
       let course = course-of noted.told noted.walked in record {
         replies = noted.walked.replies;
         after = noted.walked.after;
+        counters = (replies_stand noted.walked.replies lines course.1).0;
         written = written-by noted.walked.replies course.1;
         course = course.0;
         of_numbers = holds;

@@ -1,15 +1,15 @@
 -- One step more of the walk over a run.
-use Rattle.std.proofs.Common.{◌≡◌, ℕ, zero, suc, ◌+◌, ◌<◌, ◌≤◌, List, [], ◌∷◌, ◌++◌, length, map, take, drop, get_or, refl, ap, sym, ◌∙◌}
-use Rattle.std.proofs.Common.{subst, arith, Option, Some, None, append_assoc, append-nil, All}
-use Rattle.std.specs.Prelude.{slice_get, slice_set, Result, Ok, Err}
+use Rattle.std.proofs.Common.{◌≡◌, ℕ, zero, suc, ◌+◌, ◌<◌, ◌≤◌, List, [], ◌∷◌, ◌++◌, length, take, drop, refl, ap, sym, ◌∙◌}
+use Rattle.std.proofs.Common.{subst, arith, Some, append_assoc, append-nil}
+use Rattle.std.specs.Prelude.{slice_get, Ok, Err}
 use Rattle.std.proofs.Common.{length-append}
 use Rattle.std.proofs.lemmas.List.{take_all}
 use Rattle.ds_asked.specs.declared.lines.Asked.{Asked}
-use Rattle.ds_model.specs.Sessions.{Session, met}
+use Rattle.ds_model.specs.Sessions.{Session}
 use Rattle.ds_model.specs.Worlds.{World}
 use Rattle.ds_reply.specs.declared.reply.Reply.{Reply}
 use Rattle.ds_told.specs.Told.{ToldParts}
-use Rattle.ds_check.specs.Walks.{IsFirstWrong, IsReplied, IsRight, IsTaken, IsTold, IsWalked, IsWrong, Stands, Walked, asks}
+use Rattle.ds_check.specs.Walks.{IsFirstWrong, IsReplied, IsTaken, IsTold, IsWalked, Stands, asks}
 use Rattle.ds_check.specs.declared.steps.Step.{Step}
 use Rattle.ds_check.specs.declared.steps.Step.TheVariants.{Meet, Ask}
 use Rattle.ds_check.proofs.Walking.{asks-append, stands_ask, stands_begun, stands_meet, told-ask, told-meet}

@@ -1,8 +1,8 @@
 -- One step after another.
-use Rattle.std.proofs.Common.{◌≡◌, ℕ, zero, suc, ◌+◌, ◌<◌, List, [], ◌∷◌, ◌++◌, length, flat_map, get_or, take, refl, ap, sym, ◌∙◌, subst}
-use Rattle.std.proofs.Common.{arith, Option, Some, None, append_assoc, append-nil}
+use Rattle.std.proofs.Common.{◌≡◌, ℕ, suc, ◌+◌, ◌<◌, List, [], ◌∷◌, ◌++◌, length, flat_map, get_or, take, refl, ap, sym, ◌∙◌, subst}
+use Rattle.std.proofs.Common.{arith, Some, append_assoc, append-nil}
 use Rattle.std.proofs.Common.{length-append}
-use Rattle.std.specs.Prelude.{fold, max, slice_get, slice_set}
+use Rattle.std.specs.Prelude.{max, slice_get, slice_set}
 use Rattle.std.proofs.Math.Seq.{take-suc}
 use Rattle.std.proofs.lemmas.Grind.{flat_map-append}
 use Rattle.std.proofs.lemmas.List.Sums.{fold-append}
@@ -15,11 +15,11 @@ use Rattle.ds_model.specs.Worlds.{World}
 use Rattle.ds_reply.specs.declared.reply.Body.{Body}
 use Rattle.ds_reply.specs.declared.reply.Reply.{Reply}
 use Rattle.ds_reply.specs.Replies.{reply_text}
-use Rattle.ds_told.specs.Told.{ToldParts, above_in, ids_of, printed_in}
-use Rattle.ds_judging_reads.specs.Deciding.{HasCounter, IsTheAnswer}
+use Rattle.ds_told.specs.Told.{ToldParts, above_in, printed_in}
+use Rattle.ds_judging_lines.specs.Deciding.{HasCounter, IsTheAnswer}
 use Rattle.ds_check.specs.declared.steps.Step.{Step}
 use Rattle.ds_check.specs.declared.steps.Step.TheVariants.{Meet, Ask}
-use Rattle.ds_check.specs.Walks.{AreReplies, IsFirstWrong, IsNoted, IsReply, IsRight, IsTold, IsWalked, IsWrong, Stands, Walk, asks}
+use Rattle.ds_check.specs.Walks.{AreReplies, IsNoted, IsTold, Stands, Walk, asks}
 use Rattle.ds_check.specs.Walks.{drawn_steps}
 
 some-same : (s t : Session) → Some s ≡ Some t → s ≡ t

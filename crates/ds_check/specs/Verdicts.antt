@@ -1,5 +1,5 @@
 -- What a verdict on the replies of a run says.
-use Rattle.std.specs.Prelude.{◌≡◌, ℕ, ◌+◌, List, [], ◌∷◌, ◌++◌, Option, Some, flat_map, length, map, slice_get, slice_set, take, All}
+use Rattle.std.specs.Prelude.{◌≡◌, ℕ, ◌+◌, List, [], ◌∷◌, ◌++◌, Some, flat_map, length, map, slice_get, slice_set, take, All}
 use Rattle.std.specs.Prelude.{IsPermutation}
 use Rattle.std.specs.List.{range_with_len}
 use Rattle.ds_indexdef.specs.declared.IndexDef.{IndexDef}
@@ -13,7 +13,7 @@ use Rattle.ds_reply.specs.declared.reply.Reply.{Reply}
 use Rattle.ds_reply.specs.Replies.{reply_text, replies_text}
 use Rattle.ds_rounds.specs.Drafts.{IsUnbroken}
 use Rattle.ds_rounds.specs.Rounds.{NumberedLine}
-use Rattle.ds_judging_reads.specs.Deciding.{HasCounter}
+use Rattle.ds_judging_lines.specs.Deciding.{HasCounter}
 use Rattle.ds_check.specs.declared.checking.Verdict.{Verdict}
 use Rattle.ds_check.specs.declared.checking.Verdict.TheVariants as verdict
 
@@ -85,6 +85,7 @@ pub record AllAnswer (reading : Reading) (w : World) (rounds : List (List Number
     : Type 0 where
   pub replies : List Reply
   pub after : List Session
+  pub counters : All (λ r. HasCounter r.body) replies
   pub written : text ≡ replies_text replies
   pub course : Course reading w (first_sessions w.shards) (turns_of reading rounds) replies after
   pub of_numbers : numbers replies

@@ -1,5 +1,5 @@
 -- Replies held against what lines ask, one step after another.
-use Rattle.std.specs.Prelude.{◌≡◌, ℕ, zero, suc, ◌+◌, ◌<◌, ◌≤◌, Bool, true, false, List, [], ◌∷◌, ◌++◌, Option, Some, None, Result, Ok, Err}
+use Rattle.std.specs.Prelude.{◌≡◌, ℕ, suc, ◌+◌, ◌<◌, ◌≤◌, Bool, true, false, List, [], ◌∷◌, ◌++◌, Option, Some, None, Result, Ok, Err}
 use Rattle.std.specs.Prelude.{flat_map, fold, length, map, max, slice_get, slice_set, All, IsPermutation, ⊤}
 use Rattle.std.specs.List.{range_with_len}
 use Rattle.ds_base.specs.Limits.{greatest_client}
@@ -15,7 +15,7 @@ use Rattle.ds_reply.specs.Replies.{reply_text}
 use Rattle.ds_told.specs.Told.{AreIssued, ToldParts, above_in, ids_of, printed_in}
 use Rattle.ds_told.specs.declared.told.Tally.{Tally}
 use Rattle.ds_told.specs.declared.told.Tally.TheVariants as tally
-use Rattle.ds_judging_reads.specs.Deciding.{HasCounter, IsTheAnswer, NoAnswer}
+use Rattle.ds_judging_lines.specs.Deciding.{HasCounter, IsTheAnswer, NoAnswer}
 use Rattle.ds_check.specs.declared.checking.Verdict.{Verdict}
 use Rattle.ds_check.specs.declared.checking.Verdict.TheVariants as verdict
 use Rattle.ds_check.specs.declared.steps.Step.{Step}

@@ -3,7 +3,7 @@ ghost use Rattle.std.specs.Prelude.{◌≡◌, ◌≤◌, ◌↔◌, All, IfOk, 
 ghost use Rattle.ds_base.specs.Limits.{most_shards};
 ghost use Rattle.ds_rounds.specs.Rounds.{rounds_of_input};
 ghost use Rattle.ds_model.specs.Sessions.{first_sessions};
-ghost use Rattle.ds_judging_reads.specs.Deciding.{IsHeld, world_run};
+ghost use Rattle.ds_judging_lines.specs.Deciding.{IsHeld, world_run};
 ghost use Rattle.ds_check.specs.Verdicts.{IsLegalText, IsVerdict};
 ghost use Rattle.ds_check.specs.Walks.{IsJudged, MayBeTaken, asks, of_tally};
 
@@ -13,7 +13,7 @@ use ds_asked::asked_of_input;
 use ds_base::NoMemory;
 use ds_history::History;
 use ds_indexdef::Defs;
-use ds_judging_reads::{Run, journal_is_held};
+use ds_judging_lines::{Run, journal_is_held};
 use ds_log::Journal;
 use ds_reply_lines::whole_lines;
 use ds_told::{Tally, Told};

@@ -2,14 +2,14 @@
 ghost use Rattle.std.specs.Prelude.{◌≡◌, ◌<◌, [], Some, map, length, slice_get, All, IfOk};
 ghost use Rattle.ds_asked.specs.AskedLines.{MayBeAnswered};
 ghost use Rattle.ds_model.specs.Sessions.{first_sessions};
-ghost use Rattle.ds_judging_reads.specs.Deciding.{IsHeld, seen_by, world_run};
+ghost use Rattle.ds_judging_lines.specs.Deciding.{IsHeld, seen_by, world_run};
 ghost use Rattle.ds_check.specs.Walks.{AreSessions, IfAsk, IsFound, IsReplied, IsTaken, MayBeTaken, Walked, asks};
 
 use crate::steps::Step;
 use ds_asked::Asked;
 use ds_base::NoMemory;
 use ds_judging::judge;
-use ds_judging_reads::{Run, Session, first_sessions, meet};
+use ds_judging_lines::{Run, Session, first_sessions, meet};
 use ds_told::{Draws, Told};
 use std::alloc::Global;
 

@@ -68,7 +68,7 @@ one_write k es (Delete l) = by (same_key l k) refl where
 
 -- ---- writes in turn
 
-found_writes : (k : KeyParts) (es : List EntityParts) (ws : List Write) → entity_of (fold apply_write es ws) k ≡ fold (left_at k) (entity_of es k) ws
+pub found_writes : (k : KeyParts) (es : List EntityParts) (ws : List Write) → entity_of (fold apply_write es ws) k ≡ fold (left_at k) (entity_of es k) ws
 found_writes k es [] = refl
 found_writes k es (w ∷ ws) = found_writes k (apply_write es w) ws ∙ ap (λ o. fold (left_at k) o ws) (one_write k es w)
 

@@ -1,2 +1,3 @@
 pub mod Histories
 pub mod Writers
+pub mod Versions

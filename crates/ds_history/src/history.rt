@@ -1,5 +1,5 @@
 //! A journal as replies are held against it.
-ghost use Rattle.std.specs.Prelude.{◌≡◌, ◌<◌, ◌≤◌, ◌^◌, List, [], None, fold, length, take, IfNone, IfOk, IfSome, OnOk};
+ghost use Rattle.std.specs.Prelude.{◌≡◌, ◌<◌, ◌≤◌, ◌^◌, List, [], None, Some, fold, map, length, take, IfNone, IfOk, IfSome, OnOk};
 ghost use Rattle.std.specs.Option.{option_copied};
 ghost use Rattle.ds_entity.specs.EntityOrder.{sorted_by_key};
 ghost use Rattle.ds_base.specs.Limits.{most_shards};
@@ -13,12 +13,15 @@ ghost use Rattle.ds_model.specs.Sessions.{counted_place, last_commit, list_of};
 ghost use Rattle.ds_model.specs.Views.{strong_view};
 ghost use Rattle.ds_model.specs.Worlds.{shard_lists};
 ghost use Rattle.ds_applied.specs.AppliedLists.{AreCounts, shard_views};
+ghost use Rattle.ds_history.specs.Versions.{of_kind};
 ghost use Rattle.ds_history.specs.Writers.{commits_at, if_there, last_of, left_at, nth_commit, writers_of, writing};
 
 use crate::reads::left_at;
+use crate::seeing::{no_entities, none_counted, seen_in};
+use crate::versions::{Kinds, versions_of};
 use crate::writers::{Writers, writers_of};
 use ds_applied::{AllVisible, Applied, EntityMap};
-use ds_base::{Key, NoMemory};
+use ds_base::{Key, NoMemory, TextString};
 use ds_entity::Entity;
 use ds_log::{Commit, Conflict, Journal, ShardCommits, Touch};
 use std::alloc::Global;
@@ -31,6 +34,7 @@ pub struct History<'a> {
     journal: &'a Journal,
     applied: Applied,
     writers: Writers,
+    kinds: Kinds,
 }
 
 impl<'a> Model for History<'a> {
@@ -40,7 +44,7 @@ impl<'a> Model for History<'a> {
 
     ghost view = { λ h. record { journal = h.journal.now; shards = h.applied.shards } };
 
-    ghost invariant = { λ h. IsHistory h.journal.now h.applied h.writers.entries };
+    ghost invariant = { λ h. IsHistory h.journal.now h.applied h.writers.entries h.kinds.entries };
 }
 
 impl<'a> History<'a> {
@@ -53,10 +57,12 @@ impl<'a> History<'a> {
         let mut applied = Applied::make(alloc, shards)?;
         applied.pull(alloc, journal.as_slice())?;
         let writers = writers_of(alloc, journal.as_slice())?;
+        let kinds = versions_of(alloc, journal, shards)?;
         Ok(History {
             journal,
             applied,
             writers,
+            kinds,
         })
     }
 
@@ -130,6 +136,26 @@ impl<'a> History<'a> {
         ensures { IfOk result (λ v. v ≡ shard_views (shard_lists self.now.shards self.now.journal) counts.now) }
     {
         self.applied.all_visible(alloc, counts)
+    }
+
+    /// The entities of a kind at a count of entries for each shard, shard 0 first, by key. It looks at the keys of this kind alone, of each
+    /// from the last version on, and at none where nothing is counted; it rebuilds nothing. A refusal means out of memory.
+    pub fn seen(
+        &self,
+        alloc: Global,
+        kind: &TextString,
+        counts: &[u64],
+    ) -> Result<Vec<&Entity>, NoMemory>
+        ensures { IfOk result (λ es. map (λ e. e.now) es.items
+            ≡ of_kind (Some kind.now) (sorted_by_key (shard_views (shard_lists self.now.shards self.now.journal) counts.now))) }
+    {
+        if none_counted(counts) {
+            return Ok(no_entities(alloc));
+        }
+        match self.kinds.get(kind) {
+            Some(keys) => seen_in(alloc, keys, kind, counts),
+            None => Ok(Vec::new(alloc)),
+        }
     }
 
     // ---- groups

@@ -21,12 +21,12 @@ use Rattle.ds_model.specs.Answers.{CallAnswers, TransactionAnswers, begun}
 use Rattle.ds_model.specs.Groups.{IsSeenPlace, with_transaction}
 use Rattle.ds_model.specs.Sessions.{Session, Transaction, saw_place}
 use Rattle.ds_model.specs.Worlds.{World}
-use Rattle.ds_judging.specs.Committing.{IsCommit, IsConflict, IsDraftOf}
-use Rattle.ds_judging_reads.specs.Deciding.{DecidesTurn, HasCounter, IsOnlyTold, IsTurn, NoAnswer, SaysThen, world_in}
-use Rattle.ds_judging_reads.specs.declared.turn.Turn.{Turn}
-use Rattle.ds_judging_reads.proofs.Decisions.{decides_as, decides_one, only_none}
-use Rattle.ds_judging.proofs.PutLaws.{number_small, numbered}
-use Rattle.ds_judging.proofs.WritesTold.{Error, Says, commit_tells, conflict_tells}
+use Rattle.ds_judging_writes.specs.Committing.{IsCommit, IsConflict, IsDraftOf}
+use Rattle.ds_judging_lines.specs.Deciding.{DecidesTurn, HasCounter, IsOnlyTold, IsTurn, NoAnswer, SaysThen, world_in}
+use Rattle.ds_judging_lines.specs.declared.turn.Turn.{Turn}
+use Rattle.ds_judging_lines.proofs.Decisions.{decides_as, decides_one, only_none}
+use Rattle.ds_judging_writes.proofs.PutLaws.{number_small, numbered}
+use Rattle.ds_judging_writes.proofs.WritesTold.{Error, Says, commit_tells, conflict_tells}
 
 -- ---- conflicts
 

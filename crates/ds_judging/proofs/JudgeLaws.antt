@@ -9,13 +9,13 @@ use Rattle.ds_model.specs.Asked.{search_of}
 use Rattle.ds_model.specs.Sessions.{Session}
 use Rattle.ds_model.specs.Worlds.{World}
 use Rattle.ds_protocol.specs.Quiet.{IsQuiet}
-use Rattle.ds_judging_reads.specs.Deciding.{DecidesTurn, HasCounter, SaidIs, world_in}
+use Rattle.ds_judging_lines.specs.Deciding.{DecidesTurn, HasCounter, SaidIs, world_in}
 use Rattle.ds_reply_lines.specs.ReplyLines.{IsSaid}
-use Rattle.ds_judging_reads.specs.declared.turn.Turn.{Turn}
-use Rattle.ds_judging_reads.proofs.Decisions.{decides_as}
+use Rattle.ds_judging_lines.specs.declared.turn.Turn.{Turn}
+use Rattle.ds_judging_lines.proofs.Decisions.{decides_as}
 use Rattle.ds_judging.proofs.MemoryReplies.{memory_alone}
 use Rattle.ds_judging.proofs.OperationLaws.{alone_decided}
-use Rattle.ds_judging_reads.proofs.Saying.{quiet_counter, says_same}
+use Rattle.ds_judging_lines.proofs.Saying.{quiet_counter, says_same}
 
 module _ (turn : Turn) (s : Session) where
   abbrev w : World

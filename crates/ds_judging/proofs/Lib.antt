@@ -1,9 +1,4 @@
-pub mod Allowed
 pub mod CommitLaws
-pub mod CommitLines
-pub mod IdLaws
 pub mod JudgeLaws
 pub mod MemoryReplies
 pub mod OperationLaws
-pub mod PutLaws
-pub mod WritesTold

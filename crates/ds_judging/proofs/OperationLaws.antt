@@ -20,11 +20,11 @@ use Rattle.ds_protocol.specs.declared.searching.Search.{Search}
 use Rattle.ds_protocol.specs.Operations.{IsAlwaysRefused, IsOperationOf, call_of}
 use Rattle.ds_protocol.specs.Refused.{IsRefusal, operation_body}
 use Rattle.ds_protocol.specs.Searches.{IsSearchOf, is_statement, search_parts}
-use Rattle.ds_judging_reads.specs.Deciding.{DecidesTurn, HasCounter, SaysThen, world_in}
+use Rattle.ds_judging_lines.specs.Deciding.{DecidesTurn, HasCounter, SaysThen, world_in}
 use Rattle.ds_judging.specs.Judging.{IsOperated}
 use Rattle.ds_judging_reads.specs.Reading.{FoundAs, IsSearched}
-use Rattle.ds_judging_reads.specs.declared.turn.Turn.{Turn}
-use Rattle.ds_judging_reads.proofs.Decisions.{decides_as, decides_one}
+use Rattle.ds_judging_lines.specs.declared.turn.Turn.{Turn}
+use Rattle.ds_judging_lines.proofs.Decisions.{decides_as, decides_one}
 
 -- what is told of a call that asks nothing tells of none
 pub operation_counter : (why : OperationRefused) → HasCounter (operation_body why)

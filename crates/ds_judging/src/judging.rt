@@ -6,14 +6,15 @@ ghost use Rattle.ds_model.specs.Answers.{AskedAnswers, BodyAnswers, RequestAnswe
 ghost use Rattle.ds_model.specs.Asked.{has_shard, search_of};
 ghost use Rattle.ds_model.specs.Refusals.{refusal_of};
 ghost use Rattle.ds_protocol.specs.Operations.{IsLawfulOperation, call_of};
-ghost use Rattle.ds_judging_reads.specs.Deciding.{Decides, DecidesTurn, IsHeld, IsSession, IsSessionIn, seen_by, world_in, world_run};
+ghost use Rattle.ds_judging_lines.specs.Deciding.{Decides, DecidesTurn, IsHeld, IsSession, IsSessionIn, seen_by, world_in, world_run};
 ghost use Rattle.ds_judging.specs.Judging.{IsOperated};
 
 use crate::transactions::{judge_begin, judge_commit, judge_rollback};
-use crate::writes::{judge_allocate, judge_delete, judge_put};
 use ds_asked::Asked;
 use ds_base::NoMemory;
-use ds_judging_reads::{Run, Session, Turn, judge_apply, judge_get, judge_search, judge_settle};
+use ds_judging_lines::{Run, Session, Turn, judge_apply, judge_settle};
+use ds_judging_reads::{judge_get, judge_search};
+use ds_judging_writes::{judge_allocate, judge_delete, judge_put};
 use ds_protocol::{Operation, operation_of, refusal_of};
 use ds_reply::Body;
 use ds_reply_lines::Members;

@@ -10,13 +10,13 @@ ghost use Rattle.ds_model.specs.Answers.{CallAnswers};
 ghost use Rattle.ds_model.specs.Groups.{with_transaction};
 ghost use Rattle.ds_model.specs.Refusals.{refusal_of};
 ghost use Rattle.ds_model.specs.Sessions.{saw_place};
-ghost use Rattle.ds_judging.specs.Committing.{IsCommit, IsConflict, IsDraft, IsDraftOf};
-ghost use Rattle.ds_judging_reads.specs.Deciding.{DecidesTurn, IsSession, SaysThen, seen_by, world_in};
+ghost use Rattle.ds_judging_writes.specs.Committing.{IsCommit, IsConflict, IsDraft, IsDraftOf};
+ghost use Rattle.ds_judging_lines.specs.Deciding.{DecidesTurn, IsSession, SaysThen, seen_by, world_in};
 
-use crate::commits::is_commit;
 use ds_base::{NoMemory, TryCopy};
 use ds_journal_text::commit_is_lawful;
-use ds_judging_reads::{Session, Turn, tells_error};
+use ds_judging_lines::{Session, Turn, tells_error};
+use ds_judging_writes::is_commit;
 use ds_log::{Commit, Conflict, Touch};
 use ds_reply::Body;
 use std::alloc::Global;

@@ -56,9 +56,10 @@ use Rattle.ds_reply_lines.specs.LawfulResults.{HasTexts, IsLawfulItem}
 use Rattle.ds_reply_lines.specs.ReplyLines.{number_at, numbers_at}
 use Rattle.ds_reply_lines.proofs.PlainReplies.{query_counts, query_counts_page, query_place, query_place_page}
 use Rattle.ds_reply_lines.proofs.PlainReplies.{gql_counts, gql_counts_page, gql_place, gql_place_page}
-use Rattle.ds_judging_reads.specs.Reading.{AsksLawful, FoundAs, told_over}
-use Rattle.ds_judging_reads.proofs.CountLaws.{naturals_told}
-use Rattle.ds_judging_reads.proofs.LawfulItems.{AskedLawful}
+use Rattle.ds_judging_lines.specs.Deciding.{AsksLawful}
+use Rattle.ds_judging_reads.specs.Reading.{FoundAs, told_over}
+use Rattle.ds_judging_lines.proofs.CountLaws.{naturals_told}
+use Rattle.ds_judging_lines.proofs.LawfulItems.{AskedLawful}
 
 -- ---- what is found, as it is told
 

@@ -22,12 +22,12 @@ use Rattle.ds_model.specs.Views.{strong_view}
 use Rattle.ds_model.specs.Worlds.{World, entries_up_to, shard_lists}
 use Rattle.ds_reply_lines.specs.ReplyLines.{IsSaid, number_at}
 use Rattle.ds_reply_lines.proofs.PlainReplies.{expired, get_none, get_some}
-use Rattle.ds_judging_reads.specs.Deciding.{DecidesTurn, IsOnlyTold, IsTurn, NoAnswer, SaysThen, told_in, world_in}
+use Rattle.ds_judging_lines.specs.Deciding.{DecidesTurn, IsOnlyTold, IsTurn, NoAnswer, SaysThen, told_in, world_in}
 use Rattle.ds_judging_reads.specs.Reading.{IsExpired}
-use Rattle.ds_judging_reads.specs.declared.turn.Turn.{Turn}
-use Rattle.ds_judging_reads.proofs.Decisions.{decides_as, decides_one, told_is}
-use Rattle.ds_judging_reads.proofs.LawfulItems.{found_lawful}
-use Rattle.ds_judging_reads.proofs.LawfulViews.{strong_lawful}
+use Rattle.ds_judging_lines.specs.declared.turn.Turn.{Turn}
+use Rattle.ds_judging_lines.proofs.Decisions.{decides_as, decides_one, told_is}
+use Rattle.ds_judging_lines.proofs.LawfulItems.{found_lawful}
+use Rattle.ds_judging_lines.proofs.LawfulViews.{strong_lawful}
 
 -- a place where a group stands lies in the journal
 pub stands_within : (journal : List Commit) (s : Session) (o : Option ℕ) (m : ℕ) → StandsAt journal s o m → m ≤ length journal

@@ -5,11 +5,11 @@ use Rattle.ds_base.specs.Keys.{KeyParts}
 use Rattle.ds_log.specs.Shards.{shard_of}
 use Rattle.ds_model.specs.Answers.{ExpiredAnswers}
 use Rattle.ds_model.specs.Groups.{StandsAt, place_in, with_transaction}
-use Rattle.ds_model.specs.Sessions.{Session, Transaction, count_of, list_of, saw_place, saw_shard_count}
+use Rattle.ds_model.specs.Sessions.{Session, Transaction, list_of, saw_place, saw_shard_count}
 use Rattle.ds_model.specs.Worlds.{entries_up_to, shard_lists}
-use Rattle.ds_judging_reads.specs.Deciding.{world_in}
-use Rattle.ds_judging_reads.specs.declared.turn.Turn.{Turn}
-use Rattle.ds_judging_reads.proofs.CountSteps.{seen_count}
+use Rattle.ds_judging_lines.specs.Deciding.{world_in}
+use Rattle.ds_judging_lines.specs.declared.turn.Turn.{Turn}
+use Rattle.ds_judging_lines.proofs.CountSteps.{seen_count}
 
 pub if_ok : {A E : Type 0} {P Q : A → Type 0} (r : Result A E) → ((x : A) → P x → Q x) → IfOk r P → IfOk r Q
 if_ok (Ok x) f h = f x h

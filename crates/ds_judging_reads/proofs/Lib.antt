@@ -1,14 +1,6 @@
-pub mod CountLaws
-pub mod CountSteps
-pub mod Decisions
 pub mod FoundLaws
+pub mod FrontLaws
 pub mod GetLaws
 pub mod GetSteps
-pub mod LawfulItems
-pub mod LawfulViews
-pub mod OnePlace
-pub mod Raising
-pub mod Saying
+pub mod KindLaws
 pub mod SearchLaws
-pub mod SeenLaws
-pub mod Telling

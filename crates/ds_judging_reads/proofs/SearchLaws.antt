@@ -39,15 +39,16 @@ use Rattle.ds_protocol.specs.Preparing.{IsReady, IsRefused}
 use Rattle.ds_protocol.specs.Searches.{search_parts}
 use Rattle.ds_reply_lines.specs.LawfulResults.{HasTexts}
 use Rattle.ds_reply_lines.specs.ReplyLines.{IsSaid, number_at, numbers_at}
-use Rattle.ds_judging_reads.specs.Deciding.{DecidesTurn, HasCounter, IsOnlyTold, IsTurn, NoAnswer, SaysThen, told_in, world_in}
-use Rattle.ds_judging_reads.specs.Reading.{AsksLawful, FoundAs, IsExpired, IsSearched, told_over}
-use Rattle.ds_judging_reads.specs.declared.turn.Turn.{Turn}
-use Rattle.ds_judging_reads.proofs.CountLaws.{counts_fit}
-use Rattle.ds_judging_reads.proofs.Decisions.{decides_as, decides_one, told_is}
+use Rattle.ds_judging_lines.specs.Deciding.{DecidesTurn, HasCounter, IsOnlyTold, IsTurn, NoAnswer, SaysThen, told_in, world_in}
+use Rattle.ds_judging_lines.specs.Deciding.{AsksLawful}
+use Rattle.ds_judging_reads.specs.Reading.{FoundAs, IsExpired, IsSearched, told_over}
+use Rattle.ds_judging_lines.specs.declared.turn.Turn.{Turn}
+use Rattle.ds_judging_lines.proofs.CountLaws.{counts_fit}
+use Rattle.ds_judging_lines.proofs.Decisions.{decides_as, decides_one, told_is}
 use Rattle.ds_judging_reads.proofs.GetLaws.{IsPlaceTold, expired_told, none_some, stands_within}
-use Rattle.ds_judging_reads.proofs.LawfulItems.{items_lawful}
-use Rattle.ds_judging_reads.proofs.LawfulViews.{global_lawful, strong_lawful}
-use Rattle.ds_judging_reads.proofs.OnePlace.{one_refusal, one_window}
+use Rattle.ds_judging_lines.proofs.LawfulItems.{items_lawful}
+use Rattle.ds_judging_lines.proofs.LawfulViews.{global_lawful, strong_lawful}
+use Rattle.ds_judging_lines.proofs.OnePlace.{one_refusal, one_window}
 use Rattle.ds_judging_reads.proofs.FoundLaws.{IsSmall, as_found, by_pairs, data_of, expired_as, finds_told, found_as, found_counts}
 use Rattle.ds_judging_reads.proofs.FoundLaws.{found_error, found_place, found_plain, same_told, told_found, unless}
 pub use Rattle.ds_judging_reads.proofs.FoundLaws.{HasAncestor, all_by_key, ancestor_of, by_key, refused_in, told_page, unrefused_in}

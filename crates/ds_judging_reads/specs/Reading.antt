@@ -1,12 +1,9 @@
 -- What is told of gets and searches, in the parts in which replies to them are judged.
-use Rattle.std.specs.Prelude.{All, Bool, true, false, List}
+use Rattle.std.specs.Prelude.{Bool, true, false, List}
 use Rattle.ds_base.specs.Keys.{KeyParts}
 use Rattle.ds_entity.specs.declared.results.Seen.{Seen}
 use Rattle.ds_entity.specs.Entities.{EntityParts}
-use Rattle.ds_bytes.specs.Lawful.{IsLawfulValue}
-use Rattle.ds_query.specs.declared.branch.Branch.{Branch}
 use Rattle.ds_query.specs.declared.branch.Normal.{Normal}
-use Rattle.ds_query.specs.declared.branch.Pair.{Pair}
 use Rattle.ds_query.specs.declared.branch.Window.{Window}
 use Rattle.ds_query.specs.Normals.{normal_form}
 use Rattle.ds_reply.specs.declared.reply.Body.{Body}
@@ -31,10 +28,6 @@ abbrev pub told_over : Search → Normal → Window → List EntityParts → See
 told_over r n w entities seen =
     found r.statement r.query.select (items_of n.merged r.query.select entities (result n w entities).rows) seen
     (cursor_of r.cursor n.branches (result n w entities).next)
-
--- the values that a branch asks are what the code's types keep
-abbrev pub AsksLawful : Branch → Type 0
-AsksLawful q = All (λ (p : Pair). IsLawfulValue p.value) q.equal
 
 -- what a search is told that nothing before refuses: as a statement's reply, or as a query's; or that the versions are gone
 abbrev pub FoundAs : World → Session → Bool → Asked.Search → Places → Body → Session → Type 0

@@ -1,20 +1,12 @@
-//! Whether a reply that tells what was read or applied is an answer, and what the judgement of every reply stands on.
+//! Whether a reply that tells what was read is an answer.
 //!
-//! It stands on the definitions (`ds_model`), on the protocol's two sides without any store (`ds_protocol`), on `ds_plain` for what a query
-//! finds, on `ds_history` for the journal that replies are held against, and on `ds_reply_lines` for the lines of replies. Of the
-//! definitions begin with `specs/Deciding` (when a reply is the answer, and no other one has its line). Of the code begin with `turn`, a
-//! line with its reply, and `sessions`, what each client has seen; then `reads` (gets, queries and statements) and `counts` (settle and
-//! apply). `lawful` has what the types of a search and of a journal keep. Writes and transactions are judged in `ds_judging`.
+//! It stands on `ds_judging_lines`, which has a line with its reply and what each client has seen; on the definitions (`ds_model`), on the
+//! protocol's two sides without any store (`ds_protocol`), on `ds_plain` for what a query finds, and on `ds_history` for the journal that
+//! replies are held against. Begin with `reads` (gets, queries and statements); `pages` has the page of a search by as few entities as fill
+//! it. In `specs/`, `Reading` has what is told of reads, and `Filling` which pages are filled so.
 #![tactic(auto)]
 
-pub mod counts;
-pub mod lawful;
+mod pages;
 pub mod reads;
-pub mod sessions;
-pub mod turn;
 
-pub use counts::{judge_apply, judge_settle};
-pub use lawful::journal_is_held;
 pub use reads::{judge_get, judge_search};
-pub use sessions::{Session, first_sessions, meet};
-pub use turn::{Run, Turn, tells_error};

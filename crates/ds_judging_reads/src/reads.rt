@@ -1,5 +1,5 @@
 //! Replies to gets, queries and statements.
-ghost use Rattle.std.specs.Prelude.{◌≡◌, ◌≤◌, ◌+◌, ◌↔◌, All, Some, None, codes, is_some, length, map, take, IfOk, IsTrue, OnOk};
+ghost use Rattle.std.specs.Prelude.{◌≡◌, ◌≤◌, ◌+◌, ◌↔◌, All, Some, None, codes, is_some, length, map, take, IfOk, IfSome, IsTrue, OnOk};
 ghost use Rattle.std.specs.Option.{option_map};
 ghost use Rattle.ds_base.specs.Keys.{root_of};
 ghost use Rattle.ds_entity.specs.EntityOrder.{sorted_by_key};
@@ -16,21 +16,23 @@ ghost use Rattle.ds_model.specs.Worlds.{shard_lists};
 ghost use Rattle.ds_protocol.specs.Finishing.{AreByKey};
 ghost use Rattle.ds_protocol.specs.Preparing.{IsReady};
 ghost use Rattle.ds_protocol.specs.Searches.{IsLawfulSearch, search_parts};
+ghost use Rattle.ds_history.specs.Versions.{HaveKind};
 ghost use Rattle.ds_history.specs.Writers.{writing};
 ghost use Rattle.ds_reply_lines.specs.LawfulResults.{HasTexts};
 ghost use Rattle.ds_reply_lines.specs.ReplyLines.{number_at};
-ghost use Rattle.ds_judging_reads.specs.Deciding.{DecidesTurn, IsOnlyTold, IsSession, SaidIs, seen_by, told_in, world_in};
-ghost use Rattle.ds_judging_reads.specs.Reading.{AsksLawful, IsExpired, IsSearched, told_over};
+ghost use Rattle.ds_judging_lines.specs.Deciding.{AsksLawful, DecidesTurn, IsOnlyTold, IsSession, SaidIs, seen_by, told_in, world_in};
+ghost use Rattle.ds_judging_reads.specs.Reading.{IsExpired, IsSearched, told_over};
 
-use crate::counts::{copy_counts, see_count, see_counts};
-use crate::lawful::{asks_are_lawful, select_is_lawful};
-use crate::sessions::Session;
-use crate::turn::{Turn, tells_error};
-use ds_base::{Key, NoMemory, copy_of};
+use crate::pages::page_of;
+use ds_base::{Key, NoMemory, TextString, copy_of};
 use ds_entity::{Entity, Seen};
 use ds_journal_text::key_is_lawful;
-use ds_plain::answer_of;
+use ds_judging_lines::{
+    Session, Turn, asks_are_lawful, copy_counts, see_count, see_counts, select_is_lawful,
+    tells_error,
+};
 use ds_protocol::{Ready, Search, finish, group_of, prepare};
+use ds_query::Branch;
 use ds_reply::Body;
 
 /// The error of a reply that says that the versions are gone.
@@ -280,6 +282,79 @@ fn finds_counted(
         (sorted_by_key (shard_views (shard_lists turn.now.run.now.history.shards turn.now.run.now.history.journal) counts.now))
         (Seen.Counts counts.now))) }
 {
+    match common_kind(ready.normal.branches.as_slice()) {
+        Some(kind) => finds_of_kind(turn, search, ready, kind, counts),
+        None => finds_of_all(turn, search, ready, counts),
+    }
+}
+
+/// The kind of all branches, where each has the same.
+fn common_kind(branches: &[Branch]) -> Option<&TextString>
+    ensures { IfSome result (λ kind. HaveKind kind.now branches.now) }
+{
+    let kind = branches.first()?.kind.as_ref()?;
+    if have_kind(branches, kind) {
+        Some(kind)
+    } else {
+        None
+    }
+}
+
+/// Whether each branch has this kind.
+fn have_kind(branches: &[Branch], kind: &TextString) -> bool
+    ensures { IsTrue result → HaveKind kind.now branches.now }
+{
+    branches.iter().all(|branch| has_kind(branch, kind))
+}
+
+/// Whether a branch has this kind.
+fn has_kind(branch: &Branch, kind: &TextString) -> bool
+    ensures { IsTrue result ↔ (branch.now.kind ≡ Some kind.now) }
+{
+    match &branch.kind {
+        Some(own) => own == kind,
+        None => false,
+    }
+}
+
+/// The body of what a search of one kind finds among the counted entries, where the reply tells it: the entities of this kind suffice.
+fn finds_of_kind(
+    turn: &Turn<'_>,
+    search: &Search,
+    ready: &Ready,
+    kind: &TextString,
+    counts: &[u64],
+) -> Result<Option<Body>, NoMemory>
+    requires lawful { IsLawfulNormal ready.now.normal }
+    requires kind { HaveKind kind.now ready.now.normal.branches }
+    ensures { IfOk result (SaidIs turn.now (told_over search.now ready.now.normal ready.now.window
+        (sorted_by_key (shard_views (shard_lists turn.now.run.now.history.shards turn.now.run.now.history.journal) counts.now))
+        (Seen.Counts counts.now))) }
+{
+    let entities = turn.run.history.seen(turn.alloc, kind, counts)?;
+    let applied = copy_counts(turn.alloc, counts)?;
+    finds(
+        turn,
+        search,
+        ready,
+        entities.as_slice(),
+        Seen::Counts(applied),
+    )
+}
+
+/// The body of what a search of any kind finds among the counted entries, where the reply tells it.
+fn finds_of_all(
+    turn: &Turn<'_>,
+    search: &Search,
+    ready: &Ready,
+    counts: &[u64],
+) -> Result<Option<Body>, NoMemory>
+    requires lawful { IsLawfulNormal ready.now.normal }
+    requires counts { AreCounts (shard_lists turn.now.run.now.history.shards turn.now.run.now.history.journal) counts.now }
+    ensures { IfOk result (SaidIs turn.now (told_over search.now ready.now.normal ready.now.window
+        (sorted_by_key (shard_views (shard_lists turn.now.run.now.history.shards turn.now.run.now.history.journal) counts.now))
+        (Seen.Counts counts.now))) }
+{
     let view = turn.run.history.counted(turn.alloc, counts)?;
     let entities = view.entities(turn.alloc)?;
     let applied = copy_counts(turn.alloc, counts)?;
@@ -304,7 +379,7 @@ fn finds(
     requires by_key { AreByKey (map (λ e. e.now) entities.now) }
     ensures { IfOk result (SaidIs turn.now (told_over search.now ready.now.normal ready.now.window (map (λ e. e.now) entities.now) seen)) }
 {
-    let page = answer_of(turn.alloc, entities, &ready.normal, &ready.window)?;
+    let page = page_of(turn.alloc, entities, &ready.normal, &ready.window)?;
     let body = finish(
         turn.alloc,
         search,

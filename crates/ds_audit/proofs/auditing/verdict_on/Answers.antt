@@ -3,7 +3,8 @@ use Rattle.ds_check.specs.Verdicts.{IsVerdict}
 use Rattle.ds_journal_text.specs.Texts.{IsJournalOf}
 use Rattle.ds_rounds.specs.Rounds.{rounds_of_input}
 use Rattle.ds_audit.specs.Audits.{IsNoJournal, names_asked}
-use Rattle.ds_audit.proofs.AuditLaws.{given_back, undecided_defs, undecided_journal}
+use Rattle.ds_audit.proofs.AuditLaws.{given_back, same_then, same_unless, undecided_defs, undecided_journal}
+use Rattle.ds_audit.proofs.WritingLaws.{unfaulted}
 use Rattle.ds_audit.proofs.auditing.verdict_on.Goals as goal
 
 pub returns-in-Err-clause-undecided : goal.returns-in-Err-clause-undecided
@@ -40,3 +41,16 @@ returns-in-Ok-check-clause-decided g c = λ words said.
           (subst (λ (bs : List ℕ). IsVerdict defs options.shards options.window (rounds_of_input c.bytes-2.result.now) journal bs v)
           c.bytes-3.ensures c.in-Ok-check.ensures.verdict);
     }
+
+pub returns-in-Err-clause-unfaulted : goal.returns-in-Err-clause-unfaulted
+returns-in-Err-clause-unfaulted g c = unfaulted c.in-Err.status _ c.in_ok-texts.ensures.unfaulted
+
+pub returns-in-Err-definitions-clause-unfaulted : goal.returns-in-Err-definitions-clause-unfaulted
+returns-in-Err-definitions-clause-unfaulted g c =
+    same_unless c.in-Err-definitions.status (g.F.Files.faults c.args.files.now) (g.F.Files.faults c.load_texts.new.files)
+    (g.F.Files.faults c.definitions.new.files) c.in_ok-texts.ensures.unfaulted c.in-Err-definitions.ensures.unfaulted
+
+pub returns-in-Ok-check-clause-unfaulted : goal.returns-in-Ok-check-clause-unfaulted
+returns-in-Ok-check-clause-unfaulted g c =
+    same_then (g.F.Files.faults c.args.files.now) (g.F.Files.faults c.load_texts.new.files) (g.F.Files.faults c.definitions.new.files)
+    c.in_ok-texts.ensures.unfaulted c.in-Ok-definitions.ensures.unfaulted

@@ -1,4 +1,4 @@
-use Rattle.std.proofs.Common.{◌≡◌, ℕ, List, Option, Some, None, ◌∙◌, length, map, ap, subst, sym, rules, All}
+use Rattle.std.proofs.Common.{◌≡◌, List, Some, None, ◌∙◌, length, map, ap, subst, sym, rules, All}
 use Rattle.std.specs.Prelude.{option_map, ◌↔◌}
 use Rattle.std.proofs.lemmas.Result.{IfOk-weaker}
 use Rattle.std.proofs.lemmas.List.{length-map}

@@ -1,4 +1,4 @@
-use Rattle.std.proofs.Common.{◌≡◌, ◌+◌, ◌≤◌, [], ◌∷◌, take, ap, sym, ◌∙◌, arith}
+use Rattle.std.proofs.Common.{◌+◌, take, ap, sym, ◌∙◌, arith}
 use Rattle.ds_check.specs.Walks.{asks}
 use Rattle.ds_check.proofs.Walking.{asks-more}
 use Rattle.ds_check.proofs.steps.asks.Goals as goal

@@ -1,6 +1,6 @@
-use Rattle.std.proofs.Common.{◌≡◌, ◌<◌, length, sym, subst}
+use Rattle.std.proofs.Common.{sym, subst}
 use Rattle.ds_told.specs.Told.{CanBeDrawn}
-use Rattle.ds_judging_reads.specs.Deciding.{seen_by, world_run}
+use Rattle.ds_judging_lines.specs.Deciding.{seen_by, world_run}
 use Rattle.ds_check.proofs.DrawnLaws.{can_be_drawn}
 use Rattle.ds_check.proofs.SessionLaws.{answer_of, client_below, is_right, is_wrong, none_of, noted_as, session_in, sessions_set}
 use Rattle.ds_check.proofs.walk.is_answered.Goals as goal

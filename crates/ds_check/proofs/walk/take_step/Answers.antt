@@ -1,6 +1,6 @@
 use Rattle.std.proofs.Common.{◌+◌, ◌++◌, drop, length, map, take, refl, subst, sym}
 use Rattle.std.specs.Prelude.{Ok, Err}
-use Rattle.ds_judging_reads.specs.Deciding.{seen_by, world_run}
+use Rattle.ds_judging_lines.specs.Deciding.{seen_by, world_run}
 use Rattle.ds_check.specs.Walks.{AreSessions, IfAsk, IsFound, IsTaken}
 use Rattle.ds_check.proofs.walk.take_step.Goals as goal
 

@@ -1,8 +1,8 @@
-use Rattle.std.proofs.Common.{◌≡◌, ℕ, List, [], ◌∷◌, ◌∙◌, length, map, ap, subst, sym, rules}
-use Rattle.std.specs.Prelude.{Ok, Err, Result}
+use Rattle.std.proofs.Common.{◌≡◌, ℕ, List, ◌∙◌, length, map, ap, subst, sym, rules}
+use Rattle.std.specs.Prelude.{Result}
 use Rattle.std.proofs.lemmas.List.{length-map, nil_from_length}
 use Rattle.ds_model.specs.Sessions.{Session, first_sessions}
-use Rattle.ds_judging_reads.specs.Deciding.{seen_by, world_run}
+use Rattle.ds_judging_lines.specs.Deciding.{seen_by, world_run}
 use Rattle.ds_check.specs.Walks.{AreSessions, IsFirstWrong, IsReplied, IsTaken, IsWalked, asks}
 use Rattle.ds_check.specs.declared.steps.Step.{Step}
 use Rattle.ds_check.proofs.SessionLaws.{first_are, sessions_next}

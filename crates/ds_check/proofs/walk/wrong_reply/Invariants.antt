@@ -1,6 +1,6 @@
-use Rattle.std.proofs.Common.{◌≡◌, map}
+use Rattle.std.proofs.Common.{map}
 use Rattle.ds_model.specs.Sessions.{first_sessions}
-use Rattle.ds_judging_reads.specs.Deciding.{seen_by, world_run}
+use Rattle.ds_judging_lines.specs.Deciding.{seen_by, world_run}
 use Rattle.ds_check.specs.Walks.{AreSessions}
 use Rattle.ds_check.proofs.WalkLaws.{IsSoFar}
 use Rattle.ds_check.proofs.walk.wrong_reply.Given as goal

@@ -1,7 +1,7 @@
-use Rattle.std.proofs.Common.{◌≡◌, arith}
-use Rattle.ds_judging_reads.specs.Deciding.{IsSession, IsSessionIn}
-use Rattle.ds_judging_reads.specs.declared.turn.Turn.{Turn}
-use Rattle.ds_judging_reads.proofs.Saying.{ok_so}
+use Rattle.std.proofs.Common.{arith}
+use Rattle.ds_judging_lines.specs.Deciding.{IsSession, IsSessionIn}
+use Rattle.ds_judging_lines.specs.declared.turn.Turn.{Turn}
+use Rattle.ds_judging_lines.proofs.Saying.{ok_so}
 use Rattle.ds_judging.proofs.judging.judge.Goals as goal
 
 pub judge_turn-requires-clause-session : goal.judge_turn-requires-clause-session

@@ -1,12 +1,11 @@
 use Rattle.std.proofs.Common.{◌≡◌}
-use Rattle.std.specs.Prelude.{IfOk}
 use Rattle.ds_reply.specs.declared.reply.Body.TheVariants as body
 use Rattle.ds_protocol.specs.Operations.{call_of}
 use Rattle.ds_model.specs.Refusals.{refusal_of}
-use Rattle.ds_judging_reads.specs.Deciding.{DecidesTurn, SaidIs, seen_by, world_in}
+use Rattle.ds_judging_lines.specs.Deciding.{DecidesTurn, SaidIs, seen_by, world_in}
 use Rattle.ds_judging.specs.Judging.{IsOperated}
 use Rattle.ds_judging.proofs.OperationLaws.{refusal_decided, untold_refusal}
-use Rattle.ds_judging_reads.proofs.Saying.{ok_two, says_same, silent_counter, told_refusal}
+use Rattle.ds_judging_lines.proofs.Saying.{ok_two, says_same, silent_counter, told_refusal}
 use Rattle.ds_judging.proofs.judging.judge_operation.Goals as goal
 
 pub judge_unrefused-requires-clause-unrefused : goal.judge_unrefused-requires-clause-unrefused

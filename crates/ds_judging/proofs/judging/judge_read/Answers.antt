@@ -1,4 +1,4 @@
-use Rattle.std.proofs.Common.{◌≡◌, sym, subst, Option, Ok, Err}
+use Rattle.std.proofs.Common.{sym, subst, Option, Ok, Err}
 use Rattle.std.specs.Prelude.{IfOk, Result}
 use Rattle.ds_asked.specs.AskedLines.{IsLawful, read_as}
 use Rattle.ds_request.specs.declared.call.Request.{Request}
@@ -6,10 +6,10 @@ use Rattle.ds_reply.specs.declared.reply.Body.{Body}
 use Rattle.ds_model.specs.Answers.{AskedAnswers, RequestAnswers}
 use Rattle.ds_model.specs.Asked.{search_of}
 use Rattle.ds_model.specs.Sessions.{Session}
-use Rattle.ds_judging_reads.specs.Deciding.{DecidesTurn, SaidIs, seen_by, world_in}
-use Rattle.ds_judging_reads.specs.declared.turn.Turn.{Turn}
+use Rattle.ds_judging_lines.specs.Deciding.{DecidesTurn, SaidIs, seen_by, world_in}
+use Rattle.ds_judging_lines.specs.declared.turn.Turn.{Turn}
 use Rattle.ds_judging.proofs.JudgeLaws.{refusal_read, request_read}
-use Rattle.ds_judging_reads.proofs.Saying.{ok_so}
+use Rattle.ds_judging_lines.proofs.Saying.{ok_so}
 use Rattle.ds_judging.proofs.judging.judge_read.Goals as goal
 
 -- what is found is decided, of what was read

@@ -1,14 +1,13 @@
 use Rattle.std.proofs.Common.{◌≡◌, ◌∙◌, subst, sym}
-use Rattle.std.specs.Prelude.{IfOk}
 use Rattle.ds_reply.specs.declared.reply.Body.TheVariants as body
 use Rattle.ds_protocol.specs.Operations.{IsAlwaysRefused}
 use Rattle.ds_protocol.specs.Refused.{operation_body}
 use Rattle.ds_model.specs.Answers.{RequestAnswers}
 use Rattle.ds_model.specs.Asked.{search_of}
-use Rattle.ds_judging_reads.specs.Deciding.{DecidesTurn, HasCounter, SaidIs, seen_by, world_in}
+use Rattle.ds_judging_lines.specs.Deciding.{DecidesTurn, HasCounter, SaidIs, seen_by, world_in}
 use Rattle.ds_judging.specs.Judging.{IsOperated}
 use Rattle.ds_judging.proofs.OperationLaws.{has_shard_too, not_unread, operation_counter, request_decided, unread_decided}
-use Rattle.ds_judging_reads.proofs.Saying.{ok_so, ok_two, says_same}
+use Rattle.ds_judging_lines.proofs.Saying.{ok_so, ok_two, says_same}
 use Rattle.ds_judging.proofs.judging.judge_request.Goals as goal
 
 pub judge_operation-requires-clause-shard : goal.judge_operation-requires-clause-shard

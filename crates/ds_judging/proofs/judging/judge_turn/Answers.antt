@@ -1,11 +1,10 @@
-use Rattle.std.proofs.Common.{◌≡◌, subst, Option, Some, None}
-use Rattle.std.specs.Prelude.{IfOk}
+use Rattle.std.proofs.Common.{subst}
 use Rattle.ds_asked.specs.AskedLines.{read_as}
 use Rattle.ds_reply.specs.declared.reply.Body.TheVariants as body
 use Rattle.ds_model.specs.Answers.{AskedAnswers, BodyAnswers}
-use Rattle.ds_judging_reads.specs.Deciding.{DecidesTurn, SaidIs, seen_by, world_in}
+use Rattle.ds_judging_lines.specs.Deciding.{DecidesTurn, SaidIs, seen_by, world_in}
 use Rattle.ds_judging.proofs.JudgeLaws.{asked_decided, memory_decided}
-use Rattle.ds_judging_reads.proofs.Saying.{ok_so}
+use Rattle.ds_judging_lines.proofs.Saying.{ok_so}
 use Rattle.ds_judging.proofs.judging.judge_turn.Goals as goal
 
 pub returns-in-Some-clause-decided : goal.returns-in-Some-clause-decided

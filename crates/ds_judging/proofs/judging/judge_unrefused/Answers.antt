@@ -1,6 +1,5 @@
-use Rattle.std.proofs.Common.{◌≡◌, ◌<◌, ◌^◌, None, Option, subst, sym, arith}
+use Rattle.std.proofs.Common.{◌≡◌, None, Option, subst, sym}
 use Rattle.std.specs.Prelude.{IfOk, IsTrue}
-use Rattle.ds_base.specs.Limits.{most_shards}
 use Rattle.ds_reply.specs.declared.reply.Body.{Body}
 use Rattle.ds_model.specs.Answers.{CallAnswers}
 use Rattle.ds_model.specs.Asked.{has_shard}
@@ -9,11 +8,11 @@ use Rattle.ds_model.specs.Sessions.{Session}
 use Rattle.ds_protocol.specs.declared.operations.Operation.{Operation}
 use Rattle.ds_protocol.specs.declared.operations.Operation.TheVariants as operation
 use Rattle.ds_protocol.specs.Operations.{IsLawfulOperation, call_of}
-use Rattle.ds_judging_reads.specs.Deciding.{DecidesTurn, seen_by, world_in}
+use Rattle.ds_judging_lines.specs.Deciding.{DecidesTurn, seen_by, world_in}
 use Rattle.ds_judging.specs.Judging.{IsOperated}
-use Rattle.ds_judging_reads.specs.declared.turn.Turn.{Turn}
+use Rattle.ds_judging_lines.specs.declared.turn.Turn.{Turn}
 use Rattle.ds_judging.proofs.OperationLaws.{as_called, shard_below}
-use Rattle.ds_judging_reads.proofs.Saying.{ok_so}
+use Rattle.ds_judging_lines.proofs.Saying.{ok_so}
 use Rattle.ds_judging.proofs.judging.judge_unrefused.Goals as goal
 
 -- what is found is decided, of an operation

@@ -1,12 +1,12 @@
 use Rattle.std.proofs.Common.{◌≡◌, Some, true}
 use Rattle.std.proofs.lemmas.Result.{IfOk-weaker}
 use Rattle.ds_model.specs.Sessions.{Session}
-use Rattle.ds_judging_reads.specs.Deciding.{DecidesTurn, seen_by, world_in}
+use Rattle.ds_judging_lines.specs.Deciding.{DecidesTurn, seen_by, world_in}
 use Rattle.ds_request.specs.declared.call.Call.TheVariants as call
 use Rattle.ds_model.specs.Answers.{CallAnswers}
-use Rattle.ds_judging.specs.Committing.{IsCommit, IsConflict, IsDraftWithin}
+use Rattle.ds_judging_writes.specs.Committing.{IsCommit, IsConflict, IsDraftWithin}
 use Rattle.ds_judging.proofs.CommitLaws.{commit_committed, commit_conflict}
-use Rattle.ds_judging.proofs.WritesTold.{Error}
+use Rattle.ds_judging_writes.proofs.WritesTold.{Error}
 use Rattle.ds_judging.proofs.transactions.judge_commit.Goals as goal
 
 pub returns-then-tells_error-clause-decided : goal.returns-then-tells_error-clause-decided

@@ -2,12 +2,12 @@ use Rattle.std.proofs.Common.{◌≡◌, ◌<◌, ap, sym, ◌∙◌, subst, ari
 use Rattle.std.proofs.lemmas.Result.{IfOk-weaker}
 use Rattle.ds_reply.specs.declared.reply.Body.TheVariants as body
 use Rattle.ds_model.specs.Sessions.{Session}
-use Rattle.ds_judging_reads.specs.Deciding.{DecidesTurn, SaysThen, seen_by, world_in}
-use Rattle.ds_judging_reads.proofs.Decisions.{one_number}
+use Rattle.ds_judging_lines.specs.Deciding.{DecidesTurn, SaysThen, seen_by, world_in}
+use Rattle.ds_judging_lines.proofs.Decisions.{one_number}
 use Rattle.ds_history.specs.Writers.{nth_commit}
 use Rattle.std.specs.Prelude.{take, ◌-◌}
 use Rattle.ds_log.specs.Conflicts.{IsCommitted}
-use Rattle.ds_judging.specs.Committing.{IsCommit}
+use Rattle.ds_judging_writes.specs.Committing.{IsCommit}
 use Rattle.ds_judging.proofs.CommitLaws.{CommitTold, committed_decided, committed_none, ended}
 use Rattle.ds_judging.proofs.transactions.judge_committed.Goals as goal
 

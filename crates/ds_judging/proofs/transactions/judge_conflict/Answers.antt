@@ -2,16 +2,16 @@ use Rattle.std.proofs.Common.{List, ap, sym, ◌∙◌}
 use Rattle.std.proofs.lemmas.Result.{IfOk-weaker}
 use Rattle.ds_reply.specs.declared.reply.Body.TheVariants as body
 use Rattle.ds_model.specs.Sessions.{Session}
-use Rattle.ds_judging_reads.specs.Deciding.{DecidesTurn, SaysThen, seen_by, world_in}
+use Rattle.ds_judging_lines.specs.Deciding.{DecidesTurn, SaysThen, seen_by, world_in}
 use Rattle.std.specs.Prelude.{slice_get, take}
 use Rattle.std.specs.Option.{option_map}
 use Rattle.ds_log.specs.declared.Conflict.{Conflict}
 use Rattle.ds_log.specs.declared.Touch.{Touch}
 use Rattle.ds_log.specs.Conflicts.{conflict_of}
 use Rattle.ds_model.specs.Groups.{IsSeenPlace}
-use Rattle.ds_judging.specs.Committing.{IsConflict}
+use Rattle.ds_judging_writes.specs.Committing.{IsConflict}
 use Rattle.ds_judging.proofs.CommitLaws.{PlaceTold, body_for, conflict_found, conflict_unlooked, conflict_unnamed, conflict_unplaced, ended}
-use Rattle.ds_judging_reads.proofs.Decisions.{only_some}
+use Rattle.ds_judging_lines.proofs.Decisions.{only_some}
 use Rattle.ds_judging.proofs.transactions.judge_conflict.Goals as goal
 
 pub returns-in_default-clause-decided : goal.returns-in_default-clause-decided

@@ -1,5 +1,5 @@
-use Rattle.std.proofs.Common.{◌≡◌, IfOk, map, subst, ◌∙◌}
-use Rattle.ds_judging_reads.specs.Deciding.{SaidIs}
+use Rattle.std.proofs.Common.{IfOk, map, subst, ◌∙◌}
+use Rattle.ds_judging_lines.specs.Deciding.{SaidIs}
 use Rattle.ds_judging_reads.proofs.SearchLaws.{told_page}
 use Rattle.ds_judging_reads.proofs.reads.finds.Goals as goal
 

@@ -1,10 +1,9 @@
-use Rattle.std.proofs.Common.{◌≡◌, ◌++◌, [], IfOk, List, map, ap, subst, take, ◌∙◌}
-use Rattle.ds_entity.specs.Entities.{EntityParts}
+use Rattle.std.proofs.Common.{◌++◌, IfOk, map, ap, subst, take, ◌∙◌}
 use Rattle.ds_entity.specs.declared.results.Seen.TheVariants as seen
 use Rattle.ds_log.specs.After.{after}
 use Rattle.ds_log.specs.Logs.{writes_of}
 use Rattle.ds_history.specs.Writers.{writing}
-use Rattle.ds_judging_reads.specs.Deciding.{SaidIs}
+use Rattle.ds_judging_lines.specs.Deciding.{SaidIs}
 use Rattle.ds_judging_reads.specs.Reading.{told_over}
 use Rattle.ds_judging_reads.proofs.SearchLaws.{by_key}
 use Rattle.ds_judging_reads.proofs.reads.finds_under.Goals as goal

@@ -1,4 +1,4 @@
-use Rattle.std.proofs.Common.{◌≡◌, ℕ, List, Option, Some, None, refl, ap, sym, ◌∙◌, subst, option_map, Vec, Global}
+use Rattle.std.proofs.Common.{ℕ, List, Option, Some, None, ap, sym, ◌∙◌, subst, option_map, Vec, Global}
 use Rattle.std.specs.Prelude.{codes}
 use Rattle.ds_entity.specs.EntityOrder.{sorted_by_key}
 use Rattle.ds_entity.specs.declared.results.Seen.TheVariants as seen
@@ -11,10 +11,10 @@ use Rattle.ds_model.specs.Sessions.{Session, saw_counts}
 use Rattle.ds_model.specs.Worlds.{shard_lists}
 use Rattle.ds_reply.specs.declared.reply.Body.{Body}
 use Rattle.ds_reply_lines.specs.ReplyLines.{numbers_at}
-use Rattle.ds_judging_reads.specs.Deciding.{IsOnlyTold, SaidIs, seen_by, told_in, world_in}
+use Rattle.ds_judging_lines.specs.Deciding.{IsOnlyTold, SaidIs, seen_by, told_in}
 use Rattle.ds_judging_reads.specs.Reading.{told_over}
-use Rattle.ds_judging_reads.specs.declared.turn.Turn.{Turn}
-use Rattle.ds_judging_reads.proofs.CountLaws.{are_counts}
+use Rattle.ds_judging_lines.specs.declared.turn.Turn.{Turn}
+use Rattle.ds_judging_lines.proofs.CountLaws.{are_counts}
 use Rattle.ds_judging_reads.proofs.SearchLaws.{counted_countless, counted_decided}
 use Rattle.ds_judging_reads.proofs.reads.judge_counted.Goals as goal
 

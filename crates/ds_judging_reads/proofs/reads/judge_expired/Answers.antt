@@ -1,5 +1,5 @@
-use Rattle.std.proofs.Common.{◌≡◌, ℕ, ◌+◌, ◌<◌, ◌≤◌, Bool, true, false, Option, Some, None, refl, ap, sym, ◌∙◌, subst, arith, length}
-use Rattle.std.proofs.Common.{take, get_or}
+use Rattle.std.proofs.Common.{◌≡◌, ℕ, true, false, Option, Some, None, ap, sym, ◌∙◌, subst, arith, length}
+use Rattle.std.proofs.Common.{get_or}
 use Rattle.std.specs.Prelude.{codes}
 use Rattle.ds_log.specs.Shards.{shard_of}
 use Rattle.ds_model.specs.Groups.{with_transaction}
@@ -7,11 +7,11 @@ use Rattle.ds_model.specs.Sessions.{list_of, saw_place, saw_shard_count}
 use Rattle.ds_model.specs.Worlds.{entries_up_to, shard_lists}
 use Rattle.ds_reply.specs.declared.reply.Body.TheVariants as body
 use Rattle.ds_reply_lines.specs.ReplyLines.{number_at}
-use Rattle.ds_judging_reads.specs.Deciding.{SaidIs, seen_by, told_in, world_in}
-use Rattle.ds_judging_reads.proofs.CountSteps.{at_none, seen_count}
+use Rattle.ds_judging_lines.specs.Deciding.{SaidIs, seen_by, told_in, world_in}
+use Rattle.ds_judging_lines.proofs.CountSteps.{at_none, seen_count}
 use Rattle.ds_judging_reads.proofs.GetLaws.{expired_countless, expired_decided, expired_unfit}
 use Rattle.ds_judging_reads.proofs.GetSteps.{expired_answers, not_open, same_window, two_ways}
-use Rattle.ds_judging_reads.proofs.SeenLaws.{ended_seen, place_kept}
+use Rattle.ds_judging_lines.proofs.SeenLaws.{ended_seen, place_kept}
 use Rattle.ds_judging_reads.proofs.reads.judge_expired.Goals as goal
 
 pub returns-in_default-clause-decided : goal.returns-in_default-clause-decided

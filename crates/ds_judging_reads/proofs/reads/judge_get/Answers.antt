@@ -1,14 +1,14 @@
-use Rattle.std.proofs.Common.{◌≡◌, ℕ, Bool, true, false, Option, Some, None, refl, ap, sym, ◌∙◌, subst}
-use Rattle.std.specs.Prelude.{codes, IfOk}
+use Rattle.std.proofs.Common.{◌≡◌, true, false, Option, Some, None, ap, sym, ◌∙◌, subst}
+use Rattle.std.specs.Prelude.{codes}
 use Rattle.ds_entity.specs.Entities.{EntityParts}
-use Rattle.ds_base.specs.Keys.{KeyParts, root_of}
+use Rattle.ds_base.specs.Keys.{KeyParts}
 use Rattle.ds_model.specs.Answers.{saw_group}
 use Rattle.ds_model.specs.Groups.{StandsAt, group_refusal, place_in}
 use Rattle.ds_reply.specs.declared.reply.Body.TheVariants as body
 use Rattle.ds_reply_lines.specs.ReplyLines.{number_at}
-use Rattle.ds_judging_reads.specs.Deciding.{DecidesTurn, IsOnlyTold, SaidIs, seen_by, told_in, world_in}
+use Rattle.ds_judging_lines.specs.Deciding.{DecidesTurn, IsOnlyTold, SaidIs, seen_by, told_in, world_in}
 use Rattle.ds_judging_reads.specs.Reading.{IsExpired}
-use Rattle.ds_judging_reads.proofs.CountSteps.{at_none}
+use Rattle.ds_judging_lines.proofs.CountSteps.{at_none}
 use Rattle.ds_judging_reads.proofs.GetLaws.{get_decided, get_expired, get_placeless, stands_within}
 use Rattle.ds_judging_reads.proofs.GetSteps.{if_ok, two_ways}
 use Rattle.ds_judging_reads.proofs.reads.judge_get.Goals as goal

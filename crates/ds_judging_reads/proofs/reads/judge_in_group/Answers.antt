@@ -1,5 +1,5 @@
-use Rattle.std.proofs.Common.{◌≡◌, ℕ, Bool, List, Option, Some, None, refl, ap, sym, ◌∙◌, subst, take, true, false}
-use Rattle.std.specs.Prelude.{IfOk, codes}
+use Rattle.std.proofs.Common.{◌≡◌, ℕ, Bool, Option, Some, None, subst, take, true, false}
+use Rattle.std.specs.Prelude.{codes}
 use Rattle.ds_entity.specs.EntityOrder.{sorted_by_key}
 use Rattle.ds_base.specs.Keys.{KeyParts}
 use Rattle.ds_entity.specs.declared.results.Seen.TheVariants as seen
@@ -9,16 +9,15 @@ use Rattle.ds_history.specs.Writers.{writing}
 use Rattle.ds_protocol.specs.declared.preparing.Ready.{Ready}
 use Rattle.ds_protocol.specs.declared.searching.Search.{Search}
 use Rattle.ds_reply.specs.declared.reply.Body.{Body}
-use Rattle.ds_model.specs.Groups.{StandsAt, group_refusal, place_in}
-use Rattle.ds_model.specs.Refusals.{ancestor_group_refusal}
+use Rattle.ds_model.specs.Groups.{StandsAt, place_in}
 use Rattle.ds_model.specs.Sessions.{Session}
 use Rattle.ds_reply_lines.specs.ReplyLines.{number_at}
-use Rattle.ds_judging_reads.specs.Deciding.{DecidesTurn, IsOnlyTold, SaidIs, seen_by, told_in, world_in}
+use Rattle.ds_judging_lines.specs.Deciding.{DecidesTurn, IsOnlyTold, SaidIs, seen_by, told_in, world_in}
 use Rattle.ds_judging_reads.specs.Reading.{IsExpired, IsSearched, told_over}
-use Rattle.ds_judging_reads.specs.declared.turn.Turn.{Turn}
-use Rattle.ds_judging_reads.proofs.CountSteps.{at_none}
+use Rattle.ds_judging_lines.specs.declared.turn.Turn.{Turn}
+use Rattle.ds_judging_lines.proofs.CountSteps.{at_none}
 use Rattle.ds_judging_reads.proofs.GetLaws.{stands_within}
-use Rattle.ds_judging_reads.proofs.Saying.{ok_so}
+use Rattle.ds_judging_lines.proofs.Saying.{ok_so}
 use Rattle.ds_judging_reads.proofs.SearchLaws.{ancestor_of, group_found, group_gone, group_placeless, unrefused_in}
 use Rattle.ds_judging_reads.proofs.reads.judge_in_group.Goals as goal
 

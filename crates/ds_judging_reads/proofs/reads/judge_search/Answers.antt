@@ -1,11 +1,10 @@
 use Rattle.std.proofs.Common.{◌≡◌, subst}
-use Rattle.std.specs.Prelude.{IfOk, is_some}
 use Rattle.ds_reply.specs.declared.reply.Body.TheVariants as body
 use Rattle.ds_protocol.specs.Preparing.{IsRefused}
 use Rattle.ds_protocol.specs.Searches.{search_parts}
-use Rattle.ds_judging_reads.specs.Deciding.{DecidesTurn, SaidIs, seen_by, world_in}
+use Rattle.ds_judging_lines.specs.Deciding.{DecidesTurn, SaidIs, seen_by, world_in}
 use Rattle.ds_judging_reads.specs.Reading.{IsSearched}
-use Rattle.ds_judging_reads.proofs.Saying.{not_memory, ok_two, quiet_counter, says_same}
+use Rattle.ds_judging_lines.proofs.Saying.{not_memory, ok_two, quiet_counter, says_same}
 use Rattle.ds_judging_reads.proofs.SearchLaws.{form_decided}
 use Rattle.ds_judging_reads.proofs.reads.judge_search.Goals as goal
 

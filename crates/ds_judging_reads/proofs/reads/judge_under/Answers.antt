@@ -1,10 +1,9 @@
-use Rattle.std.proofs.Common.{◌≡◌, Option, Some, None}
-use Rattle.std.specs.Prelude.{IfOk}
+use Rattle.std.proofs.Common.{◌≡◌, Some}
 use Rattle.ds_reply.specs.declared.reply.Body.TheVariants as body
 use Rattle.ds_model.specs.Groups.{group_refusal}
-use Rattle.ds_judging_reads.specs.Deciding.{DecidesTurn, SaidIs, seen_by, world_in}
+use Rattle.ds_judging_lines.specs.Deciding.{DecidesTurn, SaidIs, seen_by, world_in}
 use Rattle.ds_judging_reads.specs.Reading.{IsSearched}
-use Rattle.ds_judging_reads.proofs.Saying.{ok_two, says_same, silent_counter, told_refusal}
+use Rattle.ds_judging_lines.proofs.Saying.{ok_two, says_same, silent_counter, told_refusal}
 use Rattle.ds_judging_reads.proofs.SearchLaws.{ancestor_of, group_decided, refused_in}
 use Rattle.ds_judging_reads.proofs.reads.judge_under.Goals as goal
 

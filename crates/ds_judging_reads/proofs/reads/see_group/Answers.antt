@@ -1,6 +1,6 @@
 use Rattle.std.proofs.Common.{◌≡◌, Some, None, ap, sym, ◌∙◌, subst}
 use Rattle.ds_model.specs.Groups.{group_refusal, touching_if}
-use Rattle.ds_judging_reads.proofs.SeenLaws.{group_kept, group_seen}
+use Rattle.ds_judging_lines.proofs.SeenLaws.{group_kept, group_seen}
 use Rattle.ds_judging_reads.proofs.reads.see_group.Goals as goal
 
 pub touch-requires-clause-allowed : goal.touch-requires-clause-allowed

@@ -1,0 +1,10 @@
+pub mod CountLaws
+pub mod CountSteps
+pub mod Decisions
+pub mod LawfulItems
+pub mod LawfulViews
+pub mod OnePlace
+pub mod Raising
+pub mod Saying
+pub mod SeenLaws
+pub mod Telling

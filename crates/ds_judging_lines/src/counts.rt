@@ -1,0 +1,125 @@
+//! Replies to settle and apply.
+ghost use Rattle.std.specs.Prelude.{◌≡◌, ◌<◌, ◌≤◌, ◌↔◌, length, IfOk, IsTrue};
+ghost use Rattle.ds_applied.specs.AppliedLists.{AreCounts};
+ghost use Rattle.ds_request.specs.declared.call.Call.{Call};
+ghost use Rattle.ds_model.specs.Answers.{AppliedCount, CallAnswers};
+ghost use Rattle.ds_model.specs.Sessions.{list_of, saw_counts, saw_shard_count};
+ghost use Rattle.ds_model.specs.Worlds.{shard_lists};
+ghost use Rattle.ds_judging_lines.specs.Deciding.{DecidesTurn, IsSession, seen_by, world_in};
+
+use crate::sessions::Session;
+use crate::turn::Turn;
+use ds_base::{Counts, NoMemory};
+use ds_reply::Body;
+use std::alloc::Global;
+
+/// The body, where it is an answer to a settle.
+pub fn judge_settle(turn: &Turn<'_>, session: &mut Session) -> Result<Option<Body>, NoMemory>
+    requires session { IsSession turn.now session.old }
+    ensures decided { IfOk result (λ found. DecidesTurn turn.now
+        (λ said after. CallAnswers (world_in turn.now) turn.now.client (seen_by session.old) Call.Settle said after) found
+        (seen_by session.new)) }
+    ensures kept { IfOk result (λ found. IsSession turn.now session.new) }
+{
+    let Some(place) = turn.place(session) else {
+        return Ok(None);
+    };
+    let Some(counts) = turn.counts(session, place)? else {
+        return Ok(None);
+    };
+    let applied = copy_counts(turn.alloc, counts.as_slice())?;
+    let Some(said) = turn.said(Body::Settle { place, applied })? else {
+        return Ok(None);
+    };
+    session.seen.see_place(place);
+    see_counts(turn, session, counts.as_slice());
+    Ok(Some(said))
+}
+
+pub fn copy_counts(alloc: Global, counts: &[u64]) -> Result<Counts, NoMemory>
+    ensures { IfOk result (λ copy. copy ≡ counts.now) }
+{
+    let mut copy = Vec::with_capacity(alloc, counts.len())?;
+    for count in counts {
+        copy.push(*count)?;
+    }
+    Ok(Counts::from(copy))
+}
+
+/// These counts were shown.
+pub fn see_counts(turn: &Turn<'_>, session: &mut Session, counts: &[u64])
+    requires { AreCounts (shard_lists turn.now.run.now.history.shards turn.now.run.now.history.journal) counts.now }
+    ensures seen { seen_by session.new
+        ≡ saw_counts (shard_lists turn.now.run.now.history.shards turn.now.run.now.history.journal) counts.now (seen_by session.old) }
+    ensures kept { IsSession turn.now session.old → IsSession turn.now session.new }
+{
+    let commit = turn.run.history.counted_place(counts);
+    session.seen.see_counts(counts, commit);
+}
+
+/// A count of one shard was shown.
+pub fn see_count(turn: &Turn<'_>, session: &mut Session, shard: u32, count: u64)
+    requires shard { shard < turn.now.run.now.history.shards }
+    requires count { count ≤ length (list_of (shard_lists turn.now.run.now.history.shards turn.now.run.now.history.journal) shard) }
+    ensures seen { seen_by session.new
+        ≡ saw_shard_count (shard_lists turn.now.run.now.history.shards turn.now.run.now.history.journal) shard count (seen_by session.old) }
+    ensures kept { IsSession turn.now session.old → IsSession turn.now session.new }
+{
+    let commit = turn.run.history.last_commit(shard, count);
+    session.seen.see_count(shard as usize, count, commit);
+}
+
+/// The body, where it is an answer to an apply of this shard.
+pub fn judge_apply(
+    turn: &Turn<'_>,
+    session: &mut Session,
+    shard: u32,
+) -> Result<Option<Body>, NoMemory>
+    requires session { IsSession turn.now session.old }
+    requires shard { shard < turn.now.run.now.history.shards }
+    ensures decided { IfOk result (λ found. DecidesTurn turn.now
+        (λ said after. CallAnswers (world_in turn.now) turn.now.client (seen_by session.old) (Call.Apply shard) said after) found
+        (seen_by session.new)) }
+    ensures kept { IfOk result (λ found. IsSession turn.now session.new) }
+{
+    let Some(place) = turn.place(session) else {
+        return Ok(None);
+    };
+    let Some(count) = turn.told.number("count") else {
+        return Ok(None);
+    };
+    let Some(applied) = turn.told.flag("applied") else {
+        return Ok(None);
+    };
+    let seen = session.seen.counts()[shard as usize];
+    let up_to = turn.run.history.entries_up_to(shard, place);
+    if !fits(applied, seen, up_to, count) {
+        return Ok(None);
+    }
+    if count > turn.run.history.entries(shard) {
+        return Ok(None);
+    }
+    let body = Body::Apply {
+        applied,
+        count,
+        place,
+        shard,
+    };
+    let Some(said) = turn.said(body)? else {
+        return Ok(None);
+    };
+    session.seen.see_place(place);
+    see_count(turn, session, shard, count);
+    Ok(Some(said))
+}
+
+/// Whether an apply may tell this count, where one was seen and so many entries are of the commits up to the told place.
+fn fits(applied: bool, seen: u64, up_to: u64, count: u64) -> bool
+    ensures { IsTrue result ↔ AppliedCount applied seen up_to count }
+{
+    if applied {
+        seen < count && count <= up_to
+    } else {
+        seen <= count && up_to <= count
+    }
+}

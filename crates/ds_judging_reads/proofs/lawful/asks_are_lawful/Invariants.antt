@@ -1,7 +1,0 @@
-use Rattle.std.proofs.Common.{take}
-use Rattle.std.specs.Prelude.{All}
-use Rattle.ds_judging_reads.specs.Reading.{AsksLawful}
-use Rattle.ds_judging_reads.proofs.lawful.asks_are_lawful.Given as goal
-
-abbrev pub invariant-loop-branch : goal.invariant-loop-branch
-invariant-loop-branch l = All AsksLawful (take l.branch-index l.branches)

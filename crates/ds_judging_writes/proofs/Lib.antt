@@ -1,0 +1,5 @@
+pub mod Allowed
+pub mod CommitLines
+pub mod IdLaws
+pub mod PutLaws
+pub mod WritesTold
