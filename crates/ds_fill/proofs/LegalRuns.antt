@@ -1,5 +1,5 @@
 -- A run over a load that ended well, in the words of its replies.
-use Rattle.std.proofs.Common.{◌≡◌, ℕ, false, true, List, [], ◌∷◌, ◌++◌, refl, ap, sym, ◌∙◌, Option, Some, None, subst, append-nil, ◌⊎◌, inl}
+use Rattle.std.proofs.Common.{◌≡◌, ℕ, false, true, List, [], ◌++◌, ap, sym, ◌∙◌, Option, Some, None, subst, append-nil, ◌⊎◌, inl}
 use Rattle.std.proofs.Common.{inr, ◌+◌}
 use Rattle.std.proofs.Common.{◌-◌, take, drop, length, length-drop, arith}
 use Rattle.std.specs.Prelude.{IfSome, IsSome, option_map}
@@ -8,13 +8,11 @@ use Rattle.std.proofs.KnownBytes.{Appends-trans}
 use Rattle.std.proofs.Math.Seq.{take-add}
 use Rattle.std.proofs.lemmas.List.{take_all}
 use Rattle.ds_fill.specs.Filling.{AreReplies, server_words}
-use Rattle.ds_indexdef.specs.declared.IndexDef.{IndexDef}
 use Rattle.ds_load.specs.Input.{load_text}
 use Rattle.ds_load.specs.Telling.{IsOfRuns, IsSummary}
 use Rattle.ds_load.specs.declared.reading.Summary.{Summary}
 use Rattle.ds_log.specs.declared.Commit.{Commit}
 use Rattle.ds_model.specs.Legal.{Legal}
-use Rattle.ds_reply.specs.Replies.{replies_text}
 use Rattle.ds_rounds.specs.Rounds.{NumberedLine, rounds_of_input}
 use Rattle.ds_serve.specs.Runs.{IsLegalRun}
 use Rattle.ds_words.specs.Form.{options_of}

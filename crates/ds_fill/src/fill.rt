@@ -53,7 +53,7 @@ impl FillStatus {
 /// read from the
 /// replies and follows from the server's theorem. `Usage`: exactly where the words leave their form; nothing is printed then.
 /// `WriteFault`: exactly where a write or a flush failed; the sink counts that fault and no other. `NoMemory`: lack of memory; also where
-/// the last reply doesn't count all items, as where a put was refused.
+/// the settle was refused or the last reply doesn't count all items, as where a put was refused; nothing is printed then.
 pub fn fill<Rt: Threads + Wait + Sync, O: Sink>(
     rt: &Rt,
     alloc: Global,
@@ -65,6 +65,7 @@ pub fn fill<Rt: Threads + Wait + Sync, O: Sink>(
     ensures usage { result ≡ FillStatus.Usage → items_asked (map string_bytes words.now) ≡ None }
     ensures form { items_asked (map string_bytes words.now) ≡ None → result ≡ FillStatus.Usage }
     ensures untouched { result ≡ FillStatus.Usage → output.new ≡ output.old }
+    ensures unprinted { result ≡ FillStatus.NoMemory → output.new ≡ output.old }
     ensures write_fault { O.faults output.new ≡ write_faults result (O.faults output.old) }
 {
     let Some(items) = items_asked(words) else {
@@ -195,6 +196,7 @@ fn append_number(number: u64, text: &mut Buffer) -> Result<(), NoMemory>
 fn print<O: Sink>(text: &[u8], output: &mut O) -> FillStatus
     ensures printed { result ≡ FillStatus.Done → Appends (O.held output.old) (O.held output.new) text.now }
     ensures no_other { result ≡ FillStatus.Usage → ⊥ }
+    ensures had_memory { result ≡ FillStatus.NoMemory → ⊥ }
     ensures write_fault { O.faults output.new ≡ write_faults result (O.faults output.old) }
 {
     match write_all(output, text) {
@@ -207,6 +209,7 @@ fn print<O: Sink>(text: &[u8], output: &mut O) -> FillStatus
 fn flush<O: Sink>(output: &mut O) -> FillStatus
     ensures kept { result ≡ FillStatus.Done → Keeps (O.held output.old) (O.held output.new) }
     ensures no_other { result ≡ FillStatus.Usage → ⊥ }
+    ensures had_memory { result ≡ FillStatus.NoMemory → ⊥ }
     ensures write_fault { O.faults output.new ≡ write_faults result (O.faults output.old) }
 {
     match output.flush() {

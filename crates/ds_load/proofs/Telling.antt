@@ -1,7 +1,8 @@
 -- The line of the last reply: what it tells is the summary of the load.
 use Rattle.std.proofs.Common.{◌≡◌, ℕ, zero, suc, ◌<◌, ◌≤◌, ◌^◌, List, [], ◌∷◌, ◌++◌, refl, ap, sym, ◌∙◌, arith, Bool, true}
 use Rattle.std.proofs.Common.{false, cond, inl, inr, map, length, drop, take, lit<, Option, Some, None, subst, append_assoc}
-use Rattle.std.proofs.Common.{length-append, ◌⊎◌, ◌-◌, Bor}
+use Rattle.std.proofs.Common.{length-append, get_or, ◌⊎◌, ◌-◌, Bor}
+use Rattle.std.proofs.lemmas.Option.{slice_get_read}
 use Rattle.std.specs.Prelude.{codes, decimal, slice_get, filter, ◌==◌, ◌%◌, option_map, unwrap_or, nat_eq, Result, Ok, Err, IfOk, IfSome}
 use Rattle.std.specs.Char.{digit_value}
 use Rattle.std.specs.Cmp.Lexicographic.{pointwise}
@@ -34,8 +35,8 @@ use Rattle.ds_journal_text.proofs.CommitsBack.{text_back}
 use Rattle.ds_journal_text.proofs.PlainData.{ArePlain, IsPlain}
 use Rattle.ds_load.specs.declared.reading.Summary.{Summary}
 use Rattle.ds_load.specs.Matches.{last_of, matching}
-use Rattle.ds_load.specs.Telling.{CountsAll, IsOfRuns, IsSummary, IsToldLast, counts_text, how_many, last_number, sum_of, summary_in}
-use Rattle.ds_load.specs.Telling.{summary_of}
+use Rattle.ds_load.specs.Telling.{CountsAll, IsOfRuns, IsSettled, IsSummary, IsToldLast, counts_text, how_many, last_number, sum_of}
+use Rattle.ds_load.specs.Telling.{summary_in, summary_of}
 use Rattle.ds_load.proofs.Ends.{IsRefusal}
 use Rattle.ds_load.proofs.Found.{told_of}
 use Rattle.ds_load.proofs.Conclusions.{AreSmall, Concludes, answer, concludes, range_small}
@@ -365,3 +366,14 @@ told_last n lines line s is counted told = record {
   counted = counted;
   told = told;
 }
+
+-- the line before the last one, which begins as an answer to a settle
+pub settled_as : (lines : List (Bor (List ℕ))) (k : ℕ) (line : Bor (List ℕ)) → k ≡ length lines - 2 → k < length lines
+    → line ≡ get_or lines k line → starts_with nat_eq line.now (codes "{\"applied\":") ≡ true → IsSettled (map (λ l. l.now) lines)
+settled_as lines k line is within read begins =
+    let there : slice_get lines k ≡ Some line = slice_get_read lines (length lines) k line refl within read in record {
+      line = line.now;
+      last_but_one = ap (λ n. slice_get (map (λ l. l.now) lines) (n - 2)) (length-now lines)
+          ∙ slice_now lines (length lines - 2) line (sym there ∙ ap (slice_get lines) is);
+      begins = begins;
+    }

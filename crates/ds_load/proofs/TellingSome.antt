@@ -1,6 +1,6 @@
 -- What holds of a value that may be there.
 use Rattle.std.proofs.Common.{◌≡◌, ◌∙◌, sym, ap, List, ℕ, Option, Some, None}
-use Rattle.std.specs.Prelude.{IfSome, nat_eq, true}
+use Rattle.std.specs.Prelude.{IfOk, IfSome, Ok, Err, Result, nat_eq, true}
 use Rattle.std.specs.List.{starts_with}
 use Rattle.serde_json.specs.Data.{Data}
 use Rattle.ds_request.specs.Requests.{line_data}
@@ -26,3 +26,8 @@ counts_told n sum line text counts all together text_is begins = record {
   all = sym together ∙ all;
   begins = ap (starts_with nat_eq line) (sym text_is) ∙ begins;
 }
+
+pub ok_some : {A E : Type 0} {P : Type 0} (r : Result (Option A) E) → P → IfOk r (λ found. IfSome found (λ s. P))
+ok_some (Ok None) p = tt
+ok_some (Ok (Some s)) p = p
+ok_some (Err e) p = tt

@@ -10,7 +10,7 @@ use Rattle.ds_log.specs.declared.Commit.{Commit}
 use Rattle.ds_reply.specs.declared.reply.Reply.{Reply}
 use Rattle.ds_reply.specs.Results.{count_items}
 use Rattle.ds_reply.specs.Replies.{replies_text}
-use Rattle.ds_reply_lines.specs.ReplyLines.{last_item}
+use Rattle.ds_reply_lines.specs.ReplyLines.{last_item, whole_lines}
 use Rattle.ds_request.specs.Requests.{line_data}
 use Rattle.ds_rounds.specs.Rounds.{rounds_of_input}
 use Rattle.ds_model.specs.Legal.{Legal}
@@ -60,6 +60,18 @@ pub record IsToldLast (n : ℕ) (lines : List (List ℕ)) (s : Summary) : Type 0
   pub last : slice_get lines (length lines - 1) ≡ Some line
   pub counted : CountsAll n line
   pub told : (d : Data) → line_data line ≡ Some d → summary_in d ≡ Some s
+
+-- the settle, whose reply is the last but one, was answered: that begins with what was applied, and a refusal with the client
+pub record IsSettled (lines : List (List ℕ)) : Type 0 where
+  pub line : List ℕ
+  pub last_but_one : slice_get lines (length lines - 2) ≡ Some line
+  pub begins : starts_with nat_eq line (codes "{\"applied\":") ≡ true
+
+-- so it is in the text of the replies
+pub record IsSettledText (text : List ℕ) : Type 0 where
+  pub lines : List (List ℕ)
+  pub whole : whole_lines text ≡ Some lines
+  pub settled : IsSettled lines
 
 -- what is told of so many items is how many match, and which is the last that does
 pub record IsSummary (n : ℕ) (s : Summary) : Type 0 where

@@ -1,11 +1,11 @@
 //! What the replies to a load tell.
-ghost use Rattle.std.specs.Prelude.{◌≡◌, Some, true, IfOk, IfSome, map, option_map};
+ghost use Rattle.std.specs.Prelude.{◌≡◌, Some, true, IfOk, IfSome, IsTrue, map, option_map};
 ghost use Rattle.serde_json.specs.Data.{Data};
 ghost use Rattle.serde_json.specs.View.{items_view, view};
 ghost use Rattle.ds_request.specs.Requests.{line_data};
 ghost use Rattle.ds_reply_lines.specs.ReplyLines.{last_item};
-ghost use Rattle.ds_load.specs.Telling.{CountsAll, IsOfRuns, IsToldLast, counts_of, counts_text, how_many, last_number, sum_of, summary_in};
-ghost use Rattle.ds_load.specs.Telling.{summary_of};
+ghost use Rattle.ds_load.specs.Telling.{CountsAll, IsOfRuns, IsSettled, IsSettledText, IsToldLast, counts_of, counts_text};
+ghost use Rattle.ds_load.specs.Telling.{how_many, last_number, sum_of, summary_in, summary_of};
 
 use crate::writing::append_number;
 use ds_base::{Buffer, NoMemory};
@@ -23,11 +23,11 @@ pub struct Summary {
 }
 
 /// What the last of the replies tells, whose text this is, of a run over a load of so many items with four shards; `None` where it doesn't
-/// tell that all of them were counted, as where a put or the settle was refused when out of memory. Whatever the schedule of the run, that
-/// is how many
-/// items match and which is the last that does. An `Err` means out of memory here.
+/// tell that all of them were counted, as where a put was refused when out of memory, and where the settle was refused. Whatever the
+/// schedule of the run, that is how many items match and which is the last that does. An `Err` means out of memory here.
 pub fn read_summary(alloc: Global, items: u32, text: &[u8]) -> Result<Option<Summary>, NoMemory>
-    ensures { IfOk result (λ found. IfSome found (IsOfRuns items text.now)) }
+    ensures told { IfOk result (λ found. IfSome found (IsOfRuns items text.now)) }
+    ensures settled { IfOk result (λ found. IfSome found (λ s. IsSettledText text.now)) }
 {
     match whole_lines(alloc, text)? {
         Some(lines) => read_last(alloc, items, lines.as_slice()),
@@ -37,7 +37,8 @@ pub fn read_summary(alloc: Global, items: u32, text: &[u8]) -> Result<Option<Sum
 
 /// What the last of these lines tells, behind a settle that was answered.
 fn read_last(alloc: Global, items: u32, lines: &[&[u8]]) -> Result<Option<Summary>, NoMemory>
-    ensures { IfOk result (λ found. IfSome found (IsToldLast items (map (λ line. line.now) lines.now))) }
+    ensures told { IfOk result (λ found. IfSome found (IsToldLast items (map (λ line. line.now) lines.now))) }
+    ensures settled { IfOk result (λ found. IfSome found (λ s. IsSettled (map (λ line. line.now) lines.now))) }
 {
     if !is_settled(lines) {
         return Ok(None);
@@ -49,7 +50,9 @@ fn read_last(alloc: Global, items: u32, lines: &[&[u8]]) -> Result<Option<Summar
 }
 
 /// Whether the line before the last one is an answer to a settle, which begins with what was applied; a refusal begins with the client.
-fn is_settled(lines: &[&[u8]]) -> bool {
+fn is_settled(lines: &[&[u8]]) -> bool
+    ensures { IsTrue result → IsSettled (map (λ line. line.now) lines.now) }
+{
     let Some(at) = lines.len().checked_sub(2) else {
         return false;
     };

@@ -1,4 +1,4 @@
-use Rattle.std.proofs.Common.{take, ◌∙◌, arith, refl}
+use Rattle.std.proofs.Common.{◌∙◌, arith, refl}
 use Rattle.std.proofs.KnownBytes.{Appends-nil}
 use Rattle.ds_fill.proofs.LegalRuns.{written_more}
 use Rattle.ds_fill.proofs.fill.write_all.Goals as goal
