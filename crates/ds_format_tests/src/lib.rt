@@ -1,10 +1,9 @@
 //! Tests of the public calls of the crates that everything stands on: each call once where it succeeds, tables of limits and orders with
 //! values that were worked out by hand, and the formats: what encodings of bytes look like, what is none, the hash that tells shards
-//! apart, what a query means, what is read of a line, and what replies look like. There is no code but tests, so that the libraries are
-//! proved once.
+//! apart, and what a query means. There is no code but tests, so that the libraries are proved once. What is read of a line, and what
+//! replies look like, is tried by the tests of the programs.
 //!
-//! One module for each library, named for what it holds; begin with `base`. `parts` has parts of lines, and `told` tells what
-//! is read of a line.
+//! One module for each library, named for what it holds; begin with `base`.
 #![tactic(auto)]
 
 #[cfg(test)]
@@ -20,18 +19,8 @@ mod lanes;
 #[cfg(test)]
 mod log;
 #[cfg(test)]
-mod parts;
-#[cfg(test)]
 mod query;
 #[cfg(test)]
-mod reply;
-#[cfg(test)]
-mod request;
-#[cfg(test)]
-mod request_queries;
-#[cfg(test)]
 mod rounds;
-#[cfg(test)]
-mod told;
 #[cfg(test)]
 mod words;

@@ -1,15 +1,14 @@
 //! Sixteen threads of random calls, with eight that apply.
 ghost use Rattle.std.specs.Prelude.{◌≤◌, ◌<◌};
 
-use crate::ids::commit_new;
-use ds_base::NoMemory;
+use crate::asking::{find, find_under, find_wide};
+use crate::calls::{apply, commit, commit_new, draw, get, get_at, settle};
+use crate::dice::Dice;
+use crate::made::{alone, incomplete, key, touching};
+use crate::told::Told;
+use ds_base::{Key, NoMemory};
 use ds_io::NoGate;
 use ds_store::{Names, Pass, Store};
-use ds_store_trials::asking::{keys, query, query_wide, strong_query};
-use ds_store_trials::calls::{apply, commit, draw, get, get_at, settle};
-use ds_store_trials::dice::Dice;
-use ds_store_trials::made::{alone, incomplete, key, touching};
-use ds_store_trials::told::Told;
 use std::alloc::Global;
 use std::sync::atomic::{AtomicU64, Ordering};
 use std::sync::{Mutex, Wait};
@@ -52,16 +51,27 @@ pub(crate) fn crowd<J: Names + Send + Sync, R: Threads + Wait + Sync, H: Wait + 
     } = shared;
     told.join(all.into_inner());
     let c = key(alloc, "c")?;
-    let raised = raised.load(Ordering::SeqCst);
+    see_raised(rt, store, passes, &c, raised.load(Ordering::SeqCst), told);
+    Ok(())
+}
+
+/// Each pass, once it sees all commits, has this number for `c`.
+fn see_raised<J: Names, R: Wait, H: Wait + Drop>(
+    rt: &R,
+    store: &Store<J, H>,
+    passes: &mut [Pass<J>],
+    c: &Key,
+    raised: u64,
+    told: &mut Told,
+) {
     for pass in passes.iter_mut() {
         store.touch(rt, pass);
-        let found = get(rt, store, pass, &c).0;
+        let found = get(rt, store, pass, c).0;
         told.expect(
             is_number(found, raised),
             "a number that was raised more or less often",
         );
     }
-    Ok(())
 }
 
 fn is_number(found: Option<(i64, u64, u64)>, wanted: u64) -> bool {
@@ -181,32 +191,52 @@ fn call<J: Names + Send + Sync, R: Threads + Wait + Sync, H: Wait + Drop + Send>
     told: &mut Told,
 ) -> Result<(), NoMemory> {
     match dice.roll(10) {
-        0 | 1 | 2 => put(rt, alloc, store, pass, dice, told)?,
-        3 | 4 => raise(rt, alloc, store, shared, pass, told)?,
-        5 => {
-            let new = commit_new(rt, store, pass, incomplete(alloc)?, told);
-            told.expect(new.is_some(), "a commit with a new id");
+        0 | 1 | 2 => put(rt, alloc, store, pass, dice, told),
+        3 | 4 => raise(rt, alloc, store, shared, pass, told),
+        5 => put_new(rt, alloc, store, pass, told),
+        9 => query(rt, alloc, store, pass, dice, told),
+        other => {
+            let called = is_called(rt, store, pass, other, dice, told);
+            told.expect(called, "a draw, a settle or an apply");
+            Ok(())
         }
-        6 => {
-            let drawn = draw(rt, store, pass, 1 + dice.roll(3), told);
-            told.expect(drawn.is_ok(), "a draw");
-        }
-        7 => {
-            let settled = settle(rt, store, pass, told);
-            told.expect(settled.is_some(), "a settle");
-        }
-        8 => {
-            let shard = one_of(dice.roll(1000), store.shards());
-            let applied = apply(rt, store, pass, shard);
-            told.expect(applied.is_some(), "an apply");
-        }
-        _ => ask(rt, alloc, store, pass, dice, told)?,
     }
+}
+
+/// Puts an entity under a new id.
+fn put_new<J: Names, R: Wait, H: Wait + Drop>(
+    rt: &R,
+    alloc: Global,
+    store: &Store<J, H>,
+    pass: &mut Pass<J>,
+    told: &mut Told,
+) -> Result<(), NoMemory> {
+    let new = commit_new(rt, store, pass, incomplete(alloc)?, told);
+    told.expect(new.is_some(), "a commit with a new id");
     Ok(())
 }
 
+/// Whether ids are drawn, all entries applied, or one of some shard.
+fn is_called<J: Names, R: Wait, H: Wait + Drop>(
+    rt: &R,
+    store: &Store<J, H>,
+    pass: &mut Pass<J>,
+    which: u64,
+    dice: &mut Dice,
+    told: &mut Told,
+) -> bool {
+    match which {
+        6 => draw(rt, store, pass, 1 + dice.roll(3), told).is_ok(),
+        7 => settle(rt, store, pass, told).is_some(),
+        _ => {
+            let shard = one_of(dice.roll(1000), store.shards());
+            apply(rt, store, pass, shard).is_some()
+        }
+    }
+}
+
 /// Queries all shards, one after the other or at once, or those under `c`.
-fn ask<J: Names + Send + Sync, R: Threads + Wait + Sync, H: Wait + Drop + Send>(
+fn query<J: Names + Send + Sync, R: Threads + Wait + Sync, H: Wait + Drop + Send>(
     rt: &R,
     alloc: Global,
     store: &Store<J, H>,
@@ -214,12 +244,10 @@ fn ask<J: Names + Send + Sync, R: Threads + Wait + Sync, H: Wait + Drop + Send>(
     dice: &mut Dice,
     told: &mut Told,
 ) -> Result<(), NoMemory> {
-    let anywhere = keys(alloc, None, &[])?;
-    let under = keys(alloc, Some(key(alloc, "c")?), &[])?;
     let asked = match dice.roll(4) {
-        0 => query_wide(rt, store, pass, &anywhere, &NoGate, &[]),
-        1 => strong_query(rt, store, pass, &under, None, &[]).0,
-        _ => query(store, pass, &anywhere, &[]),
+        0 => find_wide(rt, alloc, store, pass, &NoGate, &[])?,
+        1 => find_under(rt, alloc, store, pass, "c", None, &[])?.0,
+        _ => find(alloc, store, pass, &[])?,
     };
     told.expect(asked.is_some(), "a query");
     Ok(())
@@ -240,16 +268,23 @@ fn put<J: Names, R: Wait, H: Wait + Drop>(
         _ => "d",
     };
     let number = dice.roll(1000) as i64;
-    let (commit, _) = commit(rt, store, pass, alone(alloc, name, number)?, told);
     let key = key(alloc, name)?;
-    match (commit, get(rt, store, pass, &key).0) {
-        (Some(commit), Some((_, place, _))) => told.expect(
-            commit <= place,
-            "a read below a commit",
-        ),
-        _ => told.expect(false, "a commit or a read"),
-    }
+    let draft = alone(alloc, name, number)?;
+    let (commit, _) = commit(rt, store, pass, draft, told);
+    let (read, _) = get(rt, store, pass, &key);
+    told.expect(
+        is_not_below(read, commit),
+        "a commit, or a read that isn't below it",
+    );
     Ok(())
+}
+
+/// Whether there is a read, and a commit that isn't above its place.
+fn is_not_below(read: Option<(i64, u64, u64)>, commit: Option<u64>) -> bool {
+    match (read, commit) {
+        (Some((_, place, _)), Some(commit)) => commit <= place,
+        _ => false,
+    }
 }
 
 /// Raises the number of `c` by one in a transaction, unless another does so at once or its versions are gone.

@@ -1,12 +1,12 @@
 //! Two threads that commit what both touched at one place.
 ghost use Rattle.ds_log.specs.Ids.{AreIssued};
 
+use crate::calls::{Committed, commit, conflict, number};
+use crate::made::touching;
+use crate::told::Told;
 use ds_base::NoMemory;
 use ds_journal::Draft;
 use ds_store::{Names, Pass, Store};
-use ds_store_trials::calls::{Committed, commit, conflict, number};
-use ds_store_trials::made::touching;
-use ds_store_trials::told::Told;
 use std::alloc::Global;
 use std::sync::Wait;
 use std::thread::{Threads, join};

@@ -4,53 +4,34 @@ ghost use Rattle.ds_base.specs.Limits.{most_shards};
 ghost use Rattle.ds_store_hubs.specs.Opening.{AreBegun, AreNamesOf};
 
 use crate::crowd::crowd;
-use crate::guestbook::guestbook;
-use crate::ids::{handed_out, issued};
-use crate::queries::{at_once, inside, late};
 use crate::race::race;
-use crate::worked::{applied, conflicting, left, met, transaction, window};
+use crate::told::{Told, amiss};
+use crate::wide::at_once;
 use ds_base::NoMemory;
-use ds_indexdef::{Defs, read_yaml};
-use ds_store::{Made, Names, Opened, Pass, Passes, Store, Tail, make, open};
-use ds_store_trials::told::{Told, amiss};
-use std::alloc::{AllocError, Global};
+use ds_indexdef::Defs;
+use ds_store::{Made, Names, Opened, Pass, Passes, Store, make, open};
+use std::alloc::Global;
 use std::marker::Brand;
 use std::sync::Wait;
 use std::thread::Threads;
 
 /// What is tried.
-#[derive(Clone, Copy, Debug)]
+#[derive(Clone, Copy)]
 pub(crate) enum Trial {
-    Transaction,
-    Conflicting,
-    Applied,
-    Met,
-    Window(bool),
-    Issued,
-    HandedOut,
-    Late,
-    Inside,
+    /// All shards are searched at once.
     AtOnce,
-    Guestbook,
-    Left,
+    /// Two callers commit at once.
     Race,
+    /// Many callers call at random, drawn from this seed.
     Crowd(u64),
 }
 
-/// How many shards and passes a store has, how many stamps each shard keeps, and the text of its index file, if there is one.
+/// How many shards and passes a store has, and how many stamps each shard keeps.
 #[derive(Clone, Copy, Debug)]
 pub(crate) struct Shape {
     pub(crate) shards: u32,
     pub(crate) passes: u32,
     pub(crate) window: u64,
-    pub(crate) index: Option<&'static str>,
-}
-
-fn definitions(alloc: Global, index: Option<&str>) -> Result<Defs, NoMemory> {
-    match index {
-        Some(text) => read_yaml(alloc, text.as_bytes()).map_err(|_| AllocError),
-        None => Ok(Defs::new(alloc)),
-    }
 }
 
 /// What is amiss with a trial on a store of its own; an empty text if nothing is.
@@ -64,7 +45,7 @@ pub(crate) fn amiss_with<R: Threads + Wait + Sync>(
     requires passes { (1 ≤ shape.passes) × (shape.passes ≤ 26) }
     requires window { (1 ≤ shape.window) × (shape.window ≤ 65536) }
 {
-    let defs = definitions(alloc, shape.index)?;
+    let defs = Defs::new(alloc);
     let opened = open(
         rt,
         rt,
@@ -89,36 +70,14 @@ fn ended<J: Names + Send + Sync, R: Threads + Wait + Sync, H: Wait + Drop + Send
 {
     let Made {
         store,
-        tail,
+        tail: _tail,
         passes,
     } = make::<J, H>(alloc, opened)?;
     let mut passes = passes.into_vec();
-    let told = told(rt, alloc, trial, &store, &tail, passes.as_mut_slice());
-    finished(rt, alloc, trial, store, Passes::from(passes), told)
-}
-
-/// What is amiss once the store was closed, or ended where the trial asks for that.
-fn finished<J: Names, R: Wait, H: Wait + Drop>(
-    rt: &R,
-    alloc: Global,
-    trial: Trial,
-    store: Store<J, H>,
-    passes: Passes<J>,
-    told: Result<Told, NoMemory>,
-) -> Result<&'static str, NoMemory>
-    requires { length passes ≡ store.passes }
-{
+    let told = told(rt, alloc, trial, &store, passes.as_mut_slice());
     let shards = store.shards();
-    match trial {
-        Trial::Left => {
-            store.end(rt, passes);
-            Ok(told?.amiss)
-        }
-        _ => {
-            let closed = store.close(rt, passes);
-            amiss(alloc, shards, told?, &closed)
-        }
-    }
+    let closed = store.close(rt, Passes::from(passes));
+    amiss(alloc, shards, told?, &closed)
 }
 
 /// What a trial was told.
@@ -127,13 +86,12 @@ fn told<J: Names + Send + Sync, R: Threads + Wait + Sync, H: Wait + Drop + Send>
     alloc: Global,
     trial: Trial,
     store: &Store<J, H>,
-    tail: &Tail<J>,
     passes: &mut [Pass<J>],
 ) -> Result<Told, NoMemory> {
     let mut told = Told::new(alloc);
     match trial {
         Trial::Crowd(seed) => crowd(rt, alloc, store, passes, seed, &mut told)?,
-        _ => first_two(rt, alloc, trial, store, tail, passes, &mut told)?,
+        _ => first_two(rt, alloc, trial, store, passes, &mut told)?,
     }
     Ok(told)
 }
@@ -144,7 +102,6 @@ fn first_two<J: Names + Send + Sync, R: Threads + Wait + Sync, H: Wait + Drop + 
     alloc: Global,
     trial: Trial,
     store: &Store<J, H>,
-    tail: &Tail<J>,
     passes: &mut [Pass<J>],
     told: &mut Told,
 ) -> Result<(), NoMemory> {
@@ -153,46 +110,8 @@ fn first_two<J: Names + Send + Sync, R: Threads + Wait + Sync, H: Wait + Drop + 
         return Ok(());
     }
     let (ones, others) = passes.split_at_mut(1);
-    pair(
-        rt,
-        alloc,
-        trial,
-        store,
-        tail,
-        &mut ones[0],
-        &mut others[0],
-        told,
-    )
-}
-
-/// A trial with two passes.
-fn pair<J: Names + Send + Sync, R: Threads + Wait + Sync, H: Wait + Drop + Send>(
-    rt: &R,
-    alloc: Global,
-    trial: Trial,
-    store: &Store<J, H>,
-    tail: &Tail<J>,
-    one: &mut Pass<J>,
-    two: &mut Pass<J>,
-    told: &mut Told,
-) -> Result<(), NoMemory> {
     match trial {
-        Trial::Transaction => transaction(rt, alloc, store, one, told),
-        Trial::Conflicting => conflicting(rt, alloc, store, one, two, told),
-        Trial::Applied => applied(rt, alloc, store, one, told),
-        Trial::Met => met(rt, alloc, store, one, two, told),
-        Trial::Window(wide) => window(rt, alloc, store, one, two, wide, told),
-        Trial::Issued => {
-            issued(rt, store, one, two, told);
-            Ok(())
-        }
-        Trial::HandedOut => handed_out(rt, alloc, store, tail, one, two, told),
-        Trial::Race => race(rt, alloc, store, one, two, told),
-        Trial::Late => late(rt, alloc, store, one, two, told),
-        Trial::Inside => inside(rt, alloc, store, one, two, told),
-        Trial::AtOnce => at_once(rt, alloc, store, one, told),
-        Trial::Guestbook => guestbook(rt, alloc, store, one, told),
-        Trial::Left => left(rt, alloc, store, one, told),
-        Trial::Crowd(_) => Ok(()),
+        Trial::Race => race(rt, alloc, store, &mut ones[0], &mut others[0], told),
+        _ => at_once(rt, alloc, store, &mut ones[0], told),
     }
 }

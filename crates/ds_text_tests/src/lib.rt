@@ -1,22 +1,15 @@
-//! Tests of texts that are written and read back, and of plans: index files, cursors, journals, GQL statements, and queries with the
-//! scans that answer them, as tables whose values were worked out by hand or made outside. There is no code but tests, so that the
-//! libraries are proved once.
+//! Tests of texts that are written and read back, and of plans: index files, journals, GQL statements, and queries with the scans that
+//! answer them, as tables whose values were worked out by hand or made outside. There is no code but tests, so that the libraries are
+//! proved once. Cursors are tried by the tests of the programs.
 //!
 //! `index_reading` has index files that are read or refused, `index_many` those of about 200 definitions, and `index_writing` what is
-//! written. `cursor_writing` has cursors both ways, over the branches of `cursor_branches`, and `cursor_reading` texts that are none.
-//! `journal` has journals that come back, and the first wrong line of a text that is none.
+//! written. `journal` has journals that come back, and the first wrong line of a text that is none.
 //!
 //! `statements` has texts with the statements that they are, and with the bytes at which they stop being one, each told as one line by
 //! `told`, and `printed` statements as they are printed. `plans` has queries with the scans that answer them over definitions, or what is
 //! missing where none do.
 #![tactic(auto)]
 
-#[cfg(test)]
-mod cursor_branches;
-#[cfg(test)]
-mod cursor_reading;
-#[cfg(test)]
-mod cursor_writing;
 #[cfg(test)]
 mod index_many;
 #[cfg(test)]

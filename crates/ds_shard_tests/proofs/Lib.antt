@@ -1,3 +1,0 @@
-mod Windows
-pub mod Known
-pub mod ListingLaws

@@ -1,6 +1,0 @@
-use Rattle.std.proofs.Common.{Bool, true, false, refl}
-use Rattle.ds_store_trials.proofs.asking.all.Goals as goal
-
-pub returns : goal.returns
-returns c true = record { start = refl; end = refl }
-returns c false = tt

@@ -1,5 +1,0 @@
-use Rattle.ds_store_trials.proofs.asking.query.Given as goal
-
--- the ledger that the blank becomes
-abbrev pub ghosts-counted : goal.ghosts-counted
-ghosts-counted g a = record { name = a.blank.name; parts = a.blank.parts }
