@@ -167,16 +167,15 @@ class Talk:
     def __exit__(self, *_):
         with contextlib.suppress(OSError):
             self.server.stdin.close()
+        self.server.stdin = None
+        # What it still says is read, so that a full pipe doesn't keep it from its end.
         try:
-            self.status = self.server.wait(SECONDS)
+            output, errors = self.server.communicate(timeout=SECONDS)
         except subprocess.TimeoutExpired:
             self.server.kill()
-            self.status = self.server.wait()
-        self.errors = self.server.stderr.read().decode(errors="replace").strip()
-        if not self.server.stdout.closed:
-            self.ahead += self.server.stdout.read()
-        self.server.stdout.close()
-        self.server.stderr.close()
+            output, errors = self.server.communicate()
+        self.status, self.errors = self.server.returncode, errors.decode(errors="replace").strip()
+        self.ahead += output or b""
 
     @property
     def end(self):
@@ -205,6 +204,18 @@ class Talk:
         with open(f"/proc/{self.server.pid}/stat", encoding="ascii") as file:
             words = file.read().rpartition(")")[2].split()
         return (int(words[11]) + int(words[12])) / os.sysconf("SC_CLK_TCK")
+
+    def threads(self):
+        """The states of the server's threads now, a letter each, as `R` of one that has a processor or waits for one. Where a wrong server is planted
+        before the real one, they are those of the real one."""
+        number, found = self.server.pid, []
+        if PLANTED:
+            with open(f"/proc/{number}/task/{number}/children", encoding="ascii") as file:
+                number = int(file.read().split()[0])
+        for thread in os.listdir(f"/proc/{number}/task"):
+            with contextlib.suppress(OSError), open(f"/proc/{number}/task/{thread}/stat", encoding="ascii", errors="replace") as file:
+                found.append(file.read().rpartition(")")[2].split()[0])
+        return found
 
     def memory(self):
         """Bytes that the server holds now."""

@@ -21,6 +21,8 @@ TIMES = 5
 PUTS = 24
 # What is waited after an entry was applied, until the applier sleeps again.
 ASLEEP_SECONDS = 0.1
+# How long a server without appliers is looked at, and how long others have to start their threads.
+ALONE_SECONDS, STARTED_SECONDS = 1, 10
 
 
 def words(shards, appliers):
@@ -43,6 +45,21 @@ def seconds_until_applied(talk, count):
     return time.monotonic() - began
 
 
+def most_threads(appliers, seconds, enough=None):
+    """The most threads that a server with so many appliers has within these seconds. Where there are enough, it is looked at once more a little later,
+    and no longer."""
+    with Talk(words(4, appliers)) as talk:
+        reply(talk, b'{"op":"settle"}')
+        most, end = 0, time.monotonic() + seconds
+        while time.monotonic() < end:
+            most = max(most, len(talk.threads()))
+            if enough is not None and most >= enough:
+                time.sleep(ASLEEP_SECONDS)
+                return max(most, len(talk.threads()))
+            time.sleep(0.005)
+    return most
+
+
 class Appliers(Case):
     def test_idle_appliers_sleep(self):
         """Before the first commit and behind one that is applied, 2 appliers and 8 take no processor time."""
@@ -59,6 +76,12 @@ class Appliers(Case):
                     seconds = talk.seconds() - used[appliers]
                     self.expect(f"{appliers} appliers {when}: whether {seconds:.2f} s of a processor in {IDLE_SECONDS} idle seconds are at most {MOST_IDLE_SECONDS}",
                                 seconds <= MOST_IDLE_SECONDS, True)
+
+    def test_each_applier_is_a_thread(self):
+        """As many more threads as appliers, and no more where there are none. They start beside the first replies, so their number is waited for."""
+        without = most_threads(0, ALONE_SECONDS)
+        more = [most_threads(appliers, STARTED_SECONDS, without + appliers) - without for appliers in (1, 2, 8)]
+        self.expect("how many threads more there are with 1, 2 and 8 appliers than with none", more, [1, 2, 8])
 
     def test_a_commit_wakes_an_applier(self):
         """A put, a new entity and a transaction are each applied soon, while the client asks for nothing that applies entries."""

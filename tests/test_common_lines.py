@@ -28,12 +28,39 @@ def properties(draw):
     return {name: draw.choice(VALUES if draw.random() < 0.4 else VALUES[:4]) for name in (sorted(names) if draw.random() < 0.7 else names)}
 
 
+def condition(draw):
+    """A filter, mostly of a property of the puts above."""
+    op = draw.choice(("=", "=", "<", "<=", ">", ">=", "!=", "in", "IN", "", 1) if draw.random() < 0.4 else ("=", ">"))
+    value = draw.choice(VALUES if draw.random() < 0.3 else VALUES[:4])
+    whole = ["__key__", op, {"key": key(draw)}] if draw.random() < 0.2 else [draw.choice(NAMES), op, draw.choice(([value], [value, 1], [], value)) if op == "in" else value]
+    return draw.choice((whole[:2], whole + [1], {}, None, whole[::-1])) if draw.random() < 0.05 else whole
+
+
+def order(draw):
+    return draw.choice(([], ["a"], ["a", "asc", 1], ["a", "ASC"], ["a", None], ["", "asc"], "a", None)) if draw.random() < 0.1 else [draw.choice(NAMES), draw.choice(("asc", "desc"))]
+
+
+def query(draw):
+    """The members of a query, of which most are left out."""
+    kinds, counts = ("T", "T", "Task", "__kind__", "", None, 1, "é"), (0, 1, 3, 3, 2**31 - 1, 2**31, -1, 1.0, None, "1", 2**64)
+    texts = ("", "AA==", "x", None, 1, "é\n")
+    members = {"kind": draw.choice(kinds if draw.random() < 0.2 else ("T",)), "ancestor": key(draw), "filters": [condition(draw) for _ in range(draw.choice((0, 1, 1, 2)))],
+               "orders": [order(draw) for _ in range(draw.choice((0, 1, 1, 2)))], "select": draw.choice(("entities", "keys", "keys", "Keys", ["a"], ["a", "b"], [], [""], None, 1)),
+               "offset": draw.choice(counts), "limit": draw.choice(counts if draw.random() < 0.3 else counts[:4]), "start": draw.choice(texts), "end": draw.choice(texts),
+               "cursor": draw.choice((True, False, None, 1)), "namespace": draw.choice(("", "n", "N.1", "a b", "a" * 101, None, 1))}
+    rare = {"kind": 0.8, "ancestor": 0.4, "filters": 0.4, "orders": 0.2, "limit": 0.5}
+    found = {name: it for name, it in members.items() if draw.random() < rare.get(name, 0.08)}
+    if draw.random() < 0.05:
+        found[draw.choice(("filters", "orders", "ancestor"))] = draw.choice((None, {}, "", 1, [None]))
+    return found
+
+
 def request(draw):
     """A line as a dictionary."""
-    op = draw.choice(("put", "put", "put", "get", "delete", "begin", "commit", "rollback", "settle", "apply", "allocate_ids", "query", "gql", "no"))
+    op = draw.choice(("put", "put", "put", "get", "delete", "begin", "commit", "rollback", "settle", "apply", "allocate_ids", "query", "query", "query", "gql", "no"))
     members = {"put": {"entity": {"key": key(draw), "properties": properties(draw)}}, "get": {"key": key(draw)}, "delete": {"key": key(draw)},
                "begin": draw.choice(({}, {"xg": True}, {"xg": False}, {"xg": None}, {"xg": 1})), "apply": {"shard": draw.choice((0, 0, 1, -1, 1.0, None, 2**63))},
-               "allocate_ids": {"count": draw.choice((1, 5, 0, -1, 1.0, None, 2**63))}, "query": {"kind": "T", "limit": 3}, "gql": {"text": "SELECT * FROM T LIMIT 2"}}.get(op, {})
+               "allocate_ids": {"count": draw.choice((1, 5, 0, -1, 1.0, None, 2**63))}, "query": query(draw), "gql": {"text": "SELECT * FROM T LIMIT 2"}}.get(op, {})
     if draw.random() < 0.1:
         members.update(draw.choice(({"client": None}, {"client": 0}, {"client": 16}, {"client": -1}, {"client": 1.0}, {"client": "0"}, {"key": key(draw)}, {"count": 3}, {"entity": None}, {"xg": 1})))
     return {"op": op, **members}

@@ -21,14 +21,18 @@ LIMITED = {
     "of an equality": {"kind": "T", "filters": [["a", "=", 3]]},
     "of two equalities": {"kind": "T", "filters": [["a", "=", 3], ["b", "=", 5]]},
     "of an inequality": {"kind": "T", "filters": [["b", ">", 2]]},
+    "of all but one value": {"kind": "T", "filters": [["b", "!=", 5]]},
+    "of two values": {"kind": "T", "filters": [["a", "in", [1, 3]]]},
     "by an order": {"kind": "T", "orders": [["s", "desc"]]},
     "by a composite index": {"kind": "T", "filters": [["a", "=", 3]], "orders": [["s", "desc"]]},
+    "of two values by a composite index": {"kind": "T", "filters": [["a", "in", [1, 3]]], "orders": [["s", "desc"]]},
     "of a projection": {"kind": "T", "select": ["s"]},
     "of no kind": {},
     "of an ancestor": {"kind": "T", "ancestor": [["G", 1]]},
     "of an ancestor and an equality": {"kind": "T", "ancestor": [["G", 1]], "filters": [["a", "=", 3]]},
 }
-STATEMENTS = ["SELECT * FROM T LIMIT 1", "SELECT b FROM T WHERE b > 2 LIMIT 1", "SELECT __key__ FROM T WHERE ANCESTOR IS KEY('G', 1) LIMIT 1"]
+STATEMENTS = ["SELECT * FROM T LIMIT 1", "SELECT b FROM T WHERE b > 2 LIMIT 1", "SELECT * FROM T WHERE a IN (1, 3) LIMIT 1",
+              "SELECT __key__ FROM T WHERE ANCESTOR IS KEY('G', 1) LIMIT 1"]
 # The entities of a small table and of a large one, the entries that overwrite some of them, and how many times as much they may cost in the large one.
 SMALL, LARGE, OVERWRITES, TIMES = 1_000, sample(50_000, 10_000, 50_000), sample(5_000, 1_000, 5_000), 4
 COMMITS = sample(210_000, 1_000, 1_100_000)

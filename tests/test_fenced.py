@@ -50,8 +50,7 @@ class Example:
     def answered(self):
         """What it is answered, and the status."""
         if self.form == "requests":
-            of = reindexer() if "--next" in self.words else server()
-            ran = run(self.text.encode(), with_defaults(self.words), of=of, files=self.files)
+            ran = run(self.text.encode(), with_defaults(self.words), files=self.files)
             return ran.output.decode() + ran.errors, ran.status
         if self.form == "sh":
             return self.ran(["bash", "-c", self.text])

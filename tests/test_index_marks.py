@@ -5,7 +5,7 @@
 import pathlib
 import unittest
 
-from tests.test_run import Runs
+from tests.pretending import Runs
 
 MARK = b"\xef\xbb\xbf"
 FILE = b"indexes:\n- kind: T\n  properties:\n  - name: a\n"

@@ -10,8 +10,8 @@ from tests.runner import Job, files
 # What each file must find: replies that lack or come twice, other numbers, another order, another status, no word on standard error, a crash, a line
 # behind the last or a part of one, a refusal told as done, an entity that is lost, memory that grows, replies that come late, an auditor that finds all runs
 # legal or none, a match too few, a processor that is never idle, an end that comes late, an apply of several entries, reads of a byte, commits that end at a
-# number, loads of some sizes refused, files of a megabyte refused, a wrong status for words that aren't UTF-8, a verdict without memory for it. A sample takes
-# the first of each.
+# number, loads of some sizes refused, files of a megabyte refused, a wrong status for words that aren't UTF-8, a verdict without memory for it, clients that
+# are answered in turn, one applier in the place of several. A sample takes the first of each.
 MUST_FIND = {
     "examples": ("server", "swaps drops doubles counts status dies cuts adds forgets"),
     "fenced": ("server", "counts drops status dies"),
@@ -26,7 +26,8 @@ MUST_FIND = {
     "properties": ("server", "swaps drops doubles dies"),
     "audited": ("auditor", "agrees refuses counts status silent dies small words early"),
     "filled": ("load", "nearly counts drops doubles status silent dies cuts adds skips"),
-    "appliers": ("server", "lingers burns applies drops"),
+    "appliers": ("server", "lingers burns applies alone drops"),
+    "at_once": ("server", "turns drops doubles dies"),
     "costs": ("server", "sips stops drops"),
     "cut": ("reindexer", "forgets drops doubles counts swaps status silent dies cuts adds burns"),
 }

@@ -23,7 +23,8 @@ EXAMPLES = sample(150, 30, 3_000)
 
 # ---- queries: entities by name, each with its properties, and a query of them
 
-LESS = {"<": lambda one, other: one < other, "<=": lambda one, other: one <= other, ">": lambda one, other: one > other, ">=": lambda one, other: one >= other}
+LESS = {"<": lambda one, other: one < other, "<=": lambda one, other: one <= other, ">": lambda one, other: one > other, ">=": lambda one, other: one >= other,
+        "!=": lambda one, other: one != other}
 KEPT_QUERIES = [
     ({"x": {"a": [1, 9]}, "y": {"a": [4, 5]}}, {"filters": [["a", ">", 1], ["a", "<", 9]]}),
     ({"x": {"a": [1, 9]}, "y": {"a": [4, 5]}}, {"orders": [["a", "desc"]]}),
@@ -31,6 +32,8 @@ KEPT_QUERIES = [
     ({"x": {"a": 1}, "y": {}, "z": {"a": []}}, {"orders": [["a", "asc"]]}),
     ({"x": {"a": 1}, "y": {"a": "1"}}, {"filters": [["a", ">=", 1]], "orders": [["a", "asc"]]}),
     ({"b": {"a": 1}, "a": {"a": 1}, "é": {"a": 1}}, {"orders": [["a", "desc"]], "offset": 1, "limit": 1}),
+    ({"x": {"a": [1, 2, 9]}, "y": {"a": [1, 8]}, "z": {"a": 7}}, {"filters": [["a", "!=", 5]], "orders": [["a", "desc"]], "offset": 1, "limit": 2}),
+    ({"x": {"a": [1, 2]}, "y": {"a": [1, 2]}, "z": {"a": 2}}, {"filters": [["a", "in", [1, 2]]], "offset": 1, "limit": 2}),
 ]
 
 
@@ -47,13 +50,14 @@ def values(properties, name):
 def listed(entities, asked):
     """The names that the query has, over a plain list of the entities: each where it comes first, rows by value and then by key."""
     filters, order = asked.get("filters", []), asked.get("orders", [[None, "asc"]])[0]
-    name = next((name for name, sign, _ in filters if sign != "="), order[0])
+    name = next((name for name, sign, _ in filters if sign in LESS), order[0])
     rows = []
     for key in sorted(entities, key=str.encode):
         properties = entities[key]
-        if all(ordered(value) in values(properties, it) for it, sign, value in filters if sign == "="):
+        if all(any(ordered(value) in values(properties, it) for value in ([asked_for] if sign == "=" else asked_for))
+               for it, sign, asked_for in filters if sign not in LESS):
             ranged = values(properties, name) if name else [()]
-            rows += [(value, key) for value in ranged if all(LESS[sign](value, ordered(least)) for _, sign, least in filters if sign != "=")]
+            rows += [(value, key) for value in ranged if all(LESS[sign](value, ordered(least)) for _, sign, least in filters if sign in LESS)]
     rows.sort(key=lambda row: row[0], reverse=order[1] == "desc")
     names = list(dict.fromkeys(key for _, key in rows))
     names = names[asked.get("offset", 0):]
@@ -70,7 +74,8 @@ def drawn_queries():
         filters = st.lists(st.tuples(st.just(name), st.sampled_from(sorted(LESS)), value).map(list), max_size=2)
         return st.fixed_dictionaries({"filters": filters, "orders": st.sampled_from([[[name, "asc"]], [[name, "desc"]]])}, optional=window)
 
-    equal = st.fixed_dictionaries({"filters": st.lists(st.tuples(name, st.just("="), value).map(list), max_size=3)}, optional=window)
+    equality = st.one_of(st.tuples(name, st.just("="), value), st.tuples(name, st.just("in"), st.lists(value, min_size=1, max_size=3)))
+    equal = st.fixed_dictionaries({"filters": st.lists(equality.map(list), max_size=3)}, optional=window)
     return entities, st.one_of(name.flatmap(ranged), equal)
 
 

@@ -5,13 +5,15 @@ import errno
 import os
 import re
 import signal
+import shutil
 import subprocess
 import sys
+import tempfile
 import threading
 import time
 
 WAYS = ("drops", "doubles", "counts", "swaps", "status", "silent", "dies", "cuts", "adds", "keeps", "grows", "forgets", "holds", "agrees", "refuses", "nearly",
-        "burns", "lingers", "applies", "sips", "stops", "skips", "small", "words", "early")
+        "burns", "lingers", "applies", "sips", "stops", "skips", "small", "words", "early", "turns", "alone")
 MEGABYTE = 2**20
 
 
@@ -58,7 +60,28 @@ def burn():
         pass
 
 
+def with_one_applier(words):
+    """The words, with one applier in the place of several."""
+    return [b"1" if before == b"--appliers" and word > b"1" else word for before, word in zip([b"", *words], words)]
+
+
+def without_threads(folder):
+    """The environment in which each start of a thread is refused, so that the program answers clients in turn."""
+    library, counts = os.path.join(folder, "refused.so"), os.path.join(folder, "counts")
+    source = os.path.join(os.path.dirname(os.path.realpath(__file__)), "refused.c")
+    subprocess.run([os.environ.get("CC") or shutil.which("cc") or "gcc", "-O2", "-shared", "-fPIC", "-o", library, source, "-ldl"], check=True)
+    with open(counts, "wb") as file:
+        file.write(bytes(4_096))
+    return {**os.environ, "LD_PRELOAD": library, "REFUSED_PROGRAM": os.environ["PLANTED_PROGRAM"], "REFUSED_COUNTS": counts, "REFUSED_THREADS": "1.."}
+
+
 def main():
+    with tempfile.TemporaryDirectory(prefix="wrong-") as folder:
+        return run(folder)
+
+
+def run(folder):
+    """Runs the program, and gives the status to end with."""
     way = os.environ["WRONG"]
     if way not in WAYS:
         sys.exit(f"WRONG is one of {' '.join(WAYS)}")
@@ -72,7 +95,10 @@ def main():
         os.environ["REFUSED_READ_MOST"] = "1"
     if way == "burns":
         threading.Thread(target=burn, daemon=True).start()
-    served = subprocess.Popen(words, stdout=subprocess.PIPE, stderr=subprocess.DEVNULL if way == "silent" else None)
+    if way == "alone":
+        words = with_one_applier(words)
+    environment = without_threads(folder) if way == "turns" else None
+    served = subprocess.Popen(words, stdout=subprocess.PIPE, stderr=subprocess.DEVNULL if way == "silent" else None, env=environment)
     signal.signal(signal.SIGINT, signal.SIG_DFL)
     held, hoard, output = [], [], sys.stdout.buffer
     for at, line in enumerate(served.stdout, 1):

@@ -19,7 +19,7 @@ class Parser(argparse.ArgumentParser):
     """Tells what is wrong with the arguments, and ends with the status that `run` has for it."""
 
     def error(self, message):
-        self.exit(WRONG_WORDS, f"{message}\n{self.format_usage()}")
+        self.exit(WRONG_WORDS, f"draw: {message}\n{self.format_usage()}")
 
 
 def arguments():
@@ -41,7 +41,7 @@ def content_of(name):
         with open(name, "rb") as file:
             return file.read()
     except OSError as error:
-        print(f"{name} can't be read: {error.strerror}", file=sys.stderr)
+        print(f"draw: {name} can't be read: {error.strerror}", file=sys.stderr)
         sys.exit(FILE_FAULT)
 
 

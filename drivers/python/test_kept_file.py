@@ -45,8 +45,8 @@ class Files(unittest.TestCase):
         self.assertEqual(read(behind + b"\x01"), (2, FIRST, len(behind), False))
         self.assertEqual(read(behind + b"\x00" + WHOLE), (2, FIRST, len(behind), False))
 
-    def test_the_line_that_the_protocol_shows(self):
-        pages = pathlib.Path(__file__).resolve().parents[2] / "docs" / "protocol.md"
+    def test_the_line_that_the_design_shows(self):
+        pages = pathlib.Path(__file__).resolve().parents[2] / "docs" / "design.md"
         shown = re.findall(r'^ {4}(\{"client":.*"writes":.*)$', pages.read_text(encoding="utf-8"), re.M)
         self.assertEqual(len(shown), 1)
         commit = commit_in(shown[0].encode(), 1)

@@ -15,21 +15,19 @@ from .client import Client
 from .consistency import Consistency
 from .drawing import Drawing
 from .errors import ServerFailed, TorfyllanError
+from .hearing import take
 from .index_use import IndexUse
-from .journal import DRIVER, Journal, Session, Site, Write, calling_site
+from .journal import DRIVER, Journal, Session, Site, calling_site
 from .keeping import UNDRAWN, Keeping
 from .lines import line_of, rounds_of
 from .log import Log, Recorder
 from .process import Process, Tell, found_program, tell_on_stderr
-from .refusals import MissingIndex, Refused, refusal
 from .replies import Reply
 from .rounds import Asked, Pending, Round
 from .second_indexes import SecondIndexes, too_many_rows
 from .shards import FIRST_DRAWN, LAST_ID, even_start
-from .spaces import space_out
 from .steering import Counts, Steering, has_ancestor
-from .values import Key
-from .wire import key_in, lists_of
+from .wire import lists_of
 
 # A report of pytest shows the test's own lines, and none of these.
 __tracebackhide__ = True
@@ -380,7 +378,7 @@ class Server:
             lines, owners = self._lines(asked, requests)
             for first, end in rounds_of(lines, split):
                 members = self._exchange(lines[first:end], seconds or self._timeout, tell)
-                self._take(asked, pendings, requests, owners[first:end], members)
+                take(self, asked, pendings, requests, owners[first:end], members)
                 self._steering.apply_due()
         return pendings
 
@@ -444,97 +442,6 @@ class Server:
             recorder.answered(replied)
         return replied
 
-    def _take(
-        self,
-        asked: Sequence[Asked],
-        pendings: Sequence[Pending],
-        requests: Sequence[Request],
-        owners: Sequence[Optional[int]],
-        members: Sequence[Dict[str, Any]],
-    ) -> None:
-        """Makes replies of the members, and keeps what they say of commits and transactions."""
-        writes: List[Write] = []
-        unsettled: Set[int] = set()
-        for owner, told in zip(owners, members):
-            if owner is None:
-                if "error" not in told:
-                    unsettled.discard(told["client"])
-                continue
-            client, sent = asked[owner]
-            reply = self._reply(client, sent, told)
-            request = requests[owner]
-            for recorder in self._recorders:
-                recorder.asked_at(told["line"], request.site)
-            write = self._hear(client, sent, reply, request.site)
-            if write is not None:
-                write.request, write.name = request.number, request.name
-                writes.append(write)
-                unsettled.add(client.number)
-            self._choices.answered(request, told)
-            if "results" in told:
-                self._index_use.served(sent)
-            fault = self._refused(client, sent, reply) if "error" in told else self._steering.withheld(request, write)
-            pendings[owner]._answer(reply, fault)
-        self._steering.draw(writes, bool(unsettled))
-        self._journal.record(writes)
-        for owner, told in zip(owners, members):
-            reply_or_none = pendings[owner]._reply if owner is not None else None
-            if owner is not None and reply_or_none is not None and "results" in reply_or_none._members and "applied" in reply_or_none._members:
-                client, sent = asked[owner]
-                reply_or_none._is_stale(self._journal, sent, told["results"])
-                if reply_or_none._stale is not None:
-                    self._stale.append((client, sent, reply_or_none, requests[owner].site))
-        self._steering.hear([asked[owner] if owner is not None else None for owner in owners], members)
-
-    def _reply(self, client: Client, sent: Dict[str, Any], told: Dict[str, Any]) -> Reply:
-        select = sent.get("select")
-        projected = isinstance(select, list)
-        if sent["op"] == "gql":
-            words = sent["text"].split(None, 2)
-            projected = len(words) > 1 and words[0].upper() == "SELECT" and not words[1].startswith("*")
-        return Reply(told, client.namespace, projected, self._many_of_all | self._many.get(client.namespace, set()))
-
-    def _hear(self, client: Client, sent: Dict[str, Any], reply: Reply, site: Site) -> Optional[Write]:
-        """Keeps what a reply says of the client's transaction; gives the commit that it tells."""
-        op, session, told = sent["op"], self._sessions[client.number], reply._members
-        if "error" in told:
-            if told["name"] in ("Conflict", "Expired"):
-                session.end(told["name"])
-            return None
-        if op == "begin":
-            session.begin(bool(sent.get("xg")), site)
-        elif op == "rollback":
-            session.end(op)
-        elif op == "commit":
-            written = session.written
-            session.end(op)
-            return Write(told["commit"], client.number, op, written, site, told["line"])
-        elif op in ("put", "delete"):
-            key = _absolute(told["key"], client.namespace)
-            content = sent["entity"]["properties"] if op == "put" else None
-            if "commit" in told:
-                return Write(told["commit"], client.number, op, {key: content}, site, told["line"])
-            session.written[key] = content
-            session.touched[told["key"].root] = None
-            if op == "put" and len(key.path) == 1 and sent["entity"]["key"][-1][1] is None:
-                session.drawn[told["key"].root] = None
-        elif session.is_open and (sent.get("key") or sent.get("ancestor")):
-            session.touched[key_in(sent.get("key") or sent["ancestor"], client.namespace).root] = None
-        return None
-
-    def _refused(self, client: Client, sent: Dict[str, Any], reply: Reply) -> Refused:
-        refused = refusal(reply, sent, client.namespace, self.shards)
-        session = self._sessions[client.number]
-        if refused.name == "Conflict":
-            refused.writer = self._journal.writer(reply.commit)
-        refused.begun = session.begun if session.is_open else None
-        refused.touched = tuple(session.touched)
-        if isinstance(refused, MissingIndex):
-            self._index_use.missing[refused.index_yaml] = None
-            add = self._second.add if self._second.serves else self._indexes.add
-            refused.added_to = add(refused.index_yaml)
-        return refused
-
 
 _STARTED: "weakref.WeakSet[Server]" = weakref.WeakSet()
 
@@ -548,8 +455,3 @@ def _leave_to_parent() -> None:
 
 if hasattr(os, "register_at_fork"):
     os.register_at_fork(after_in_child=_leave_to_parent)
-
-
-def _absolute(key: Key, namespace: str) -> Key:
-    """The key with the server's namespace written out."""
-    return Key(*(word for pair in key.path for word in pair), namespace=space_out(key.namespace, namespace))
