@@ -1,2 +1,2 @@
-pub mod LastIds
+pub mod Lengths
 pub mod TextLaws

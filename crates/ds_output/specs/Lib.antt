@@ -1,3 +1,4 @@
 pub mod Unsent
 pub mod Writes
 pub mod Looking
+pub mod Room

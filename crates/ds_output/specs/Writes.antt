@@ -16,8 +16,3 @@ written_body (Delete k) = body.Delete k
 abbrev pub body_with : Bool → KeyParts → WriteAt → Body
 body_with true key = body.Delete key
 body_with false key = body.Put key
-
--- is it the reply to a put?
-abbrev pub is_of_put : Body → Bool
-is_of_put (body.Put key at) = true
-is_of_put _ = false

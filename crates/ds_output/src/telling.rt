@@ -1,13 +1,12 @@
 //! Telling a reply: its line is put into the client's text, or that there was no memory where there is no room for it.
 ghost use Rattle.std.specs.Prelude.{◌≡◌, ◌+◌, ◌≤◌, ◌++◌, false, length, IsTrue};
+ghost use Rattle.ds_output.specs.Room.{HasRoomToTell};
 ghost use Rattle.ds_protocol.specs.Saying.{no_memory_reply};
 ghost use Rattle.ds_reply.specs.Replies.{reply_text};
 
 use ds_base::Buffer;
-use ds_protocol::{make_room, say_if_room, say_no_memory};
-use ds_reply::{Body, Reply};
-use std::sync::Wait;
-use std::thread;
+use ds_protocol::{say_if_room, say_no_memory};
+use ds_reply::{Body, Reply, write_reply};
 
 /// Writes a reply, or that there was no memory where there is no room for it, and says which; `keep` bytes of room are left.
 pub fn tell(client: u32, number: u64, body: Body, keep: usize, text: &mut Buffer) -> bool
@@ -47,35 +46,9 @@ pub fn tell_no_memory(client: u32, number: u64, keep: usize, text: &mut Buffer)
     say_no_memory(client, number, keep, text);
 }
 
-/// Makes room for a reply, and `keep` bytes beside it; false where there is no memory for them.
-pub fn make_room_to_tell(
-    client: u32,
-    number: u64,
-    body: Body,
-    keep: usize,
-    text: &mut Buffer,
-) -> bool
-    ensures same { text.new.bytes ≡ text.old.bytes }
-    ensures kept { text.old.spare ≤ text.new.spare }
-    ensures room { IsTrue result → keep + length (reply_text (record { client = client; line = number; body = body })) ≤ text.new.spare }
-{
-    let reply = Reply {
-        client,
-        line: number,
-        body,
-    };
-    make_room(&reply, keep, text)
-}
-
-/// Writes a reply for which room was taken, though for one with another number: it is tried until there is room, which there is at once.
-pub fn tell_last<R: Wait>(
-    rt: &R,
-    client: u32,
-    number: u64,
-    body: Body,
-    keep: usize,
-    text: &mut Buffer,
-)
+/// Writes a reply for which there is room; `keep` bytes of it are left. It takes no memory.
+pub fn tell_last(client: u32, number: u64, body: Body, keep: usize, text: &mut Buffer)
+    requires { HasRoomToTell body keep text.old.spare }
     ensures told { text.new.bytes ≡ text.old.bytes ++ reply_text (record { client = client; line = number; body = body }) }
     ensures kept { keep ≤ text.new.spare }
 {
@@ -84,33 +57,7 @@ pub fn tell_last<R: Wait>(
         line: number,
         body,
     };
-    for _ in rt.forever() {
-        if say_if_room(&reply, keep, text) {
-            return;
-        }
-        thread::yield_now();
+    if write_reply(&reply, text).is_err() {
+        unreachable!();
     }
-    unreachable!()
-}
-
-/// Makes room for the longest reply that tells so many ids, and `keep` bytes beside it; false where there is no memory for them.
-pub fn make_room_for_ids(
-    client: u32,
-    number: u64,
-    count: u64,
-    keep: usize,
-    text: &mut Buffer,
-) -> bool
-    ensures same { text.new.bytes ≡ text.old.bytes }
-    ensures kept { text.old.spare ≤ text.new.spare }
-{
-    let longest = Reply {
-        client,
-        line: number,
-        body: Body::AllocateIds {
-            first: u64::MAX,
-            count,
-        },
-    };
-    make_room(&longest, keep, text)
 }

@@ -39,7 +39,7 @@ use Rattle.ds_protocol.specs.Finishing.{found}
 use Rattle.ds_protocol.specs.Preparing as protocol
 use Rattle.ds_protocol.specs.Refused.{IsRefusal}
 use Rattle.ds_protocol.specs.Preparing.{IsReady}
-use Rattle.ds_protocol.specs.Searches.{IsSearchOf, is_statement, search_parts}
+use Rattle.ds_protocol.specs.Searches.{IsSearchOf, search_parts}
 use Rattle.ds_engine.specs.Counted.{FindsGlobally}
 use Rattle.ds_engine.specs.Plans as states
 use Rattle.ds_engine.specs.Searches.{IsResultOf, ancestor_of, look_ups, most_of, search_bound}

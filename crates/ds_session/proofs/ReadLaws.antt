@@ -15,7 +15,6 @@ use Rattle.ds_model.specs.Answers.{ExpiredAnswers, saw_group}
 use Rattle.ds_model.specs.Groups.{StandsAt, place_in, touching_if, with_transaction}
 use Rattle.ds_model.specs.Refusals.{refusal_of}
 use Rattle.ds_model.specs.Sessions.{Session, Transaction, last_commit, list_of, saw_place, saw_shard_count}
-use Rattle.ds_store.specs.Answered as store
 use Rattle.ds_store.specs.Answered.{HasLooked, HasReadGroup, IsExpired, IsGot, entries_up_to}
 use Rattle.ds_store.specs.Passes.{PassParts, counts_of}
 use Rattle.ds_session.specs.Answering.{HasSaid}

@@ -1,5 +1,5 @@
 -- From what was said to the reply that was written.
-use Rattle.std.proofs.Common.{◌≡◌, ℕ, ◌+◌, ◌≤◌, ◌⊎◌, inl, inr, List, ◌++◌, refl, sym, subst, Bool, true, false, Option}
+use Rattle.std.proofs.Common.{◌≡◌, ℕ, ◌≤◌, ◌⊎◌, inl, inr, List, ◌++◌, refl, sym, subst, Bool, true, false, Option}
 use Rattle.std.specs.Prelude.{Result, IsTrue}
 use Rattle.ds_indexdef.specs.declared.IndexDef.{IndexDef}
 use Rattle.ds_request.specs.declared.call.Request.{Request}

@@ -1,5 +1,5 @@
 -- From one reply of a session to an answered line, and replies to lines that ask nothing.
-use Rattle.std.proofs.Common.{◌≡◌, ℕ, ◌+◌, ◌<◌, ◌≤◌, List, [], ◌∷◌, ◌++◌, length, map, replicate, suc, refl, ap, sym, ◌∙◌, subst}
+use Rattle.std.proofs.Common.{◌≡◌, ℕ, ◌<◌, ◌≤◌, List, [], ◌∷◌, ◌++◌, length, map, replicate, suc, refl, ap, sym, ◌∙◌, subst}
 use Rattle.std.proofs.Common.{arith, Bool, true}
 use Rattle.std.proofs.Common.{false, Option}
 use Rattle.std.specs.Prelude.{IsTrue, Result, Err}

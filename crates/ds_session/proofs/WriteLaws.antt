@@ -1,5 +1,5 @@
 -- Puts and deletes: what the store's calls tell is an answer to them.
-use Rattle.std.proofs.Common.{◌≡◌, ℕ, ◌+◌, ◌-◌, ◌<◌, ◌≤◌, List, [], ◌∷◌, ◌++◌, refl, ap, sym, ◌∙◌, subst, arith, Bool, true}
+use Rattle.std.proofs.Common.{◌≡◌, ℕ, ◌-◌, ◌<◌, ◌≤◌, List, [], ◌∷◌, ◌++◌, refl, ap, sym, ◌∙◌, subst, arith, Bool, true}
 use Rattle.std.proofs.Common.{false, Option, Some, None}
 use Rattle.std.specs.Prelude.{All, slice_get}
 use Rattle.std.proofs.lemmas.List.{append-nil}
@@ -8,7 +8,6 @@ use Rattle.ds_entity.specs.declared.entity.Property.{Property}
 use Rattle.ds_base.specs.Keys.{KeyParts, root_of, renumbered, ends_in_id}
 use Rattle.ds_base.specs.Limits.{greatest_id}
 use Rattle.ds_indexdef.specs.declared.IndexDef.{IndexDef}
-use Rattle.ds_log.specs.declared.Commit.{Commit}
 use Rattle.ds_log.specs.declared.Write.{Write}
 use Rattle.ds_log.specs.declared.Write.TheVariants.{Put, Delete}
 use Rattle.ds_log.specs.Ids.{first_unissued}

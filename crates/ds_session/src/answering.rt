@@ -12,7 +12,7 @@ ghost use Rattle.ds_session.specs.Replying.{HasReplied, request_of};
 ghost use Rattle.ds_session.specs.Sessions.{IsWithin};
 ghost use Rattle.ds_session.specs.Steps.{IsWithinSteps};
 
-use crate::state::State;
+use crate::state::{ReplyTo, State};
 use ds_entity::Entity;
 use ds_indexdef::Defs;
 use ds_io::Steps;
@@ -33,24 +33,23 @@ impl<J: Names> State<J> {
         rt: &R,
         store: &Store<J, H>,
         defs: &Defs,
-        number: u64,
+        to: ReplyTo,
         call: Call,
-        keep: usize,
         steps: &mut Steps<L>,
     )
         requires lawful { IsLawfulCall call }
         requires shard { IsTrue (has_shard store.now.shards call) }
         requires within { IsWithin self.old.seen self.old.pass }
         requires definitions { defs.now ≡ J.definitions }
-        requires room { keep + length (reply_text (no_memory_reply self.old.client number)) ≤ self.old.room }
-        ensures replied { HasReplied J.definitions store.now.shards (Some J.window) self.old self.new number
-            (request_of self.old.client call) keep }
-        ensures steps { IsWithinSteps J.definitions J.window store.now.shards number (request_of self.old.client call) self.old self.new
+        requires room { to.keep + length (reply_text (no_memory_reply self.old.client to.number)) ≤ self.old.room }
+        ensures replied { HasReplied J.definitions store.now.shards (Some J.window) self.old self.new to.number
+            (request_of self.old.client call) to.keep }
+        ensures steps { IsWithinSteps J.definitions J.window store.now.shards to.number (request_of self.old.client call) self.old self.new
             steps.old steps.new }
     {
         match operation_of(self.alloc, call) {
-            Ok(operation) => self.perform(rt, store, defs, number, operation, keep, steps),
-            Err(refused) => self.refuse(number, refused.body(), keep),
+            Ok(operation) => self.perform(rt, store, defs, to, operation, steps),
+            Err(refused) => self.refuse(to.number, refused.body(), to.keep),
         }
     }
 
@@ -71,28 +70,28 @@ impl<J: Names> State<J> {
         rt: &R,
         store: &Store<J, H>,
         defs: &Defs,
-        number: u64,
+        to: ReplyTo,
         operation: Operation,
-        keep: usize,
         steps: &mut Steps<L>,
     )
         requires lawful { IsLawfulOperation operation }
         requires shard { IsTrue (has_shard store.now.shards (call_of operation)) }
         requires within { IsWithin self.old.seen self.old.pass }
         requires definitions { defs.now ≡ J.definitions }
-        requires room { keep + length (reply_text (no_memory_reply self.old.client number)) ≤ self.old.room }
+        requires room { to.keep + length (reply_text (no_memory_reply self.old.client to.number)) ≤ self.old.room }
         ensures replied { (call : Call) → IsOperationOf call operation
-            → HasReplied J.definitions store.now.shards (Some J.window) self.old self.new number (request_of self.old.client call) keep }
+            → HasReplied J.definitions store.now.shards (Some J.window) self.old self.new to.number
+            (request_of self.old.client call) to.keep }
         ensures steps { (call : Call) → IsOperationOf call operation
-            → IsWithinSteps J.definitions J.window store.now.shards number (request_of self.old.client call) self.old self.new
+            → IsWithinSteps J.definitions J.window store.now.shards to.number (request_of self.old.client call) self.old self.new
             steps.old steps.new }
     {
         match refusal_of(self.alloc, defs, &self.transaction, &operation) {
             Some(body) => {
                 drop(operation);
-                self.refuse(number, body, keep);
+                self.refuse(to.number, body, to.keep);
             }
-            None => self.carry_out(rt, store, defs, number, operation, keep, steps),
+            None => self.carry_out(rt, store, defs, to, operation, steps),
         }
     }
 
@@ -102,9 +101,8 @@ impl<J: Names> State<J> {
         rt: &R,
         store: &Store<J, H>,
         defs: &Defs,
-        number: u64,
+        to: ReplyTo,
         operation: Operation,
-        keep: usize,
         steps: &mut Steps<L>,
     )
         requires lawful { IsLawfulOperation operation }
@@ -112,49 +110,55 @@ impl<J: Names> State<J> {
         requires unrefused { refusal_of J.definitions self.old.seen (call_of operation) ≡ None }
         requires within { IsWithin self.old.seen self.old.pass }
         requires definitions { defs.now ≡ J.definitions }
-        requires room { keep + length (reply_text (no_memory_reply self.old.client number)) ≤ self.old.room }
+        requires room { to.keep + length (reply_text (no_memory_reply self.old.client to.number)) ≤ self.old.room }
         ensures replied { (call : Call) → IsOperationOf call operation
-            → HasReplied J.definitions store.now.shards (Some J.window) self.old self.new number (request_of self.old.client call) keep }
+            → HasReplied J.definitions store.now.shards (Some J.window) self.old self.new to.number
+            (request_of self.old.client call) to.keep }
         ensures steps { (call : Call) → IsOperationOf call operation
-            → IsWithinSteps J.definitions J.window store.now.shards number (request_of self.old.client call) self.old self.new
+            → IsWithinSteps J.definitions J.window store.now.shards to.number (request_of self.old.client call) self.old self.new
             steps.old steps.new }
     {
         match operation {
             Operation::Put { entity, incomplete } => self.put(
-                rt, store, number, entity, incomplete, keep,
+                rt, store, to.number, entity, incomplete, to.keep,
             ),
-            Operation::Delete { key } => self.write(rt, store, number, Write::Delete(key), keep),
+            Operation::Delete { key } => self.write(
+                rt,
+                store,
+                to.number,
+                Write::Delete(key),
+                to.keep,
+            ),
             Operation::Get { key } => {
-                self.get(rt, store, number, &key, keep);
+                self.get(rt, store, to.number, &key, to.keep);
                 drop(key);
             }
             Operation::Find(search) => {
-                self.find(rt, store, defs, number, &search, keep, steps);
-                drop(search);
+                self.find(rt, store, defs, to, search, steps);
             }
             Operation::Begin { several_groups } => {
                 drop(operation);
-                self.begin(number, several_groups, keep);
+                self.begin(to.number, several_groups, to.keep);
             }
             Operation::Commit => {
                 drop(operation);
-                self.commit(rt, store, number, keep);
+                self.commit(rt, store, to.number, to.keep);
             }
             Operation::Rollback => {
                 drop(operation);
-                self.rollback(number, keep);
+                self.rollback(to.number, to.keep);
             }
             Operation::Settle => {
                 drop(operation);
-                self.settle(rt, store, number, keep);
+                self.settle(rt, store, to.number, to.keep);
             }
             Operation::AllocateIds { count } => {
                 drop(operation);
-                self.allocate(rt, store, number, count, keep);
+                self.allocate(rt, store, to.number, count, to.keep);
             }
             Operation::Apply { shard } => {
                 drop(operation);
-                self.apply(rt, store, number, shard_number(store, shard), keep);
+                self.apply(rt, store, to.number, shard_number(store, shard), to.keep);
             }
         }
     }

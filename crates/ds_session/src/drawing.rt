@@ -15,7 +15,7 @@ ghost use Rattle.ds_store.specs.Passes.{HasRead, PassParts};
 
 use crate::state::State;
 use ds_base::Elem;
-use ds_output::{make_room_for_ids, tell, tell_last};
+use ds_output::{make_room_for_numbers, tell, tell_last};
 use ds_protocol::first_unissued;
 use ds_reply::Body;
 use ds_store::{Names, Pass, Store};
@@ -56,14 +56,14 @@ impl<J: Names> State<J> {
         ensures { HasReplied J.definitions store.now.shards (Some J.window) self.old self.new number
             (request_of self.old.client (Call.AllocateIds count)) keep }
     {
-        if !make_room_for_ids(self.client, number, count, keep, &mut self.text) {
+        if !make_room_for_numbers(keep, &mut self.text) {
             return self.say_no_memory(number, keep);
         }
         match store.issue(rt, &mut self.pass, count) {
             Ok(first) => {
                 self.seen.see_next(first + count);
                 let body = Body::AllocateIds { first, count };
-                tell_last(rt, self.client, number, body, keep, &mut self.text);
+                tell_last(self.client, number, body, keep, &mut self.text);
             }
             Err(refused) => {
                 let body = Body::IdsExhausted { next: refused.next };

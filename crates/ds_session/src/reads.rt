@@ -27,16 +27,23 @@ use ds_store::{Expired, GetRefused, Got, Names, Pass, Store};
 use std::alloc::Global;
 use std::sync::Wait;
 
+/// An entity group, by its root key, and its shard.
+#[derive(Drop)]
+pub(crate) struct GroupHome {
+    pub(crate) group: Key,
+    pub(crate) shard: u32,
+}
+
 /// The group of a key, and its shard. A refusal means out of memory.
-pub(crate) fn group_and_shard(alloc: Global, key: &Key, shards: u32) -> Result<(Key, u32), NoMemory>
+pub(crate) fn group_home(alloc: Global, key: &Key, shards: u32) -> Result<GroupHome, NoMemory>
     requires { (1 ≤ shards) × (shards ≤ most_shards) }
-    ensures group { IfOk result (λ both. both.0 ≡ root_of key.now) }
-    ensures shard { IfOk result (λ both. both.1 ≡ shard_of (root_of key.now) shards) }
-    ensures below { IfOk result (λ both. both.1 < shards) }
+    ensures group { IfOk result (λ home. home.group ≡ root_of key.now) }
+    ensures shard { IfOk result (λ home. home.shard ≡ shard_of (root_of key.now) shards) }
+    ensures below { IfOk result (λ home. home.shard < shards) }
 {
     let group = key.root(alloc)?;
     let shard = shard_of(alloc, &group, shards)?;
-    Ok((group, shard))
+    Ok(GroupHome { group, shard })
 }
 
 /// In a transaction the place at which a read of a group stands: its touch place, or the place of a touch that is made now; `None` outside
@@ -89,9 +96,10 @@ impl<J: Names> State<J> {
         ensures { HasReplied J.definitions store.now.shards (Some J.window) self.old self.new number
             (request_of self.old.client (Call.Get key.now)) keep }
     {
-        let Ok((group, shard)) = group_and_shard(self.alloc, key, store.shards()) else {
+        let Ok(home) = group_home(self.alloc, key, store.shards()) else {
             return self.say_no_memory(number, keep);
         };
+        let GroupHome { group, shard } = home;
         if self.transaction.make_room().is_err() {
             drop(group);
             return self.say_no_memory(number, keep);

@@ -24,23 +24,29 @@ ghost use Rattle.ds_engine.specs.Snapshots.{newest};
 ghost use Rattle.ds_store.specs.Passes.{HasRead};
 ghost use Rattle.ds_store.specs.Searched.{HasCounted};
 
-use crate::reads::{group_and_shard, touch_place};
-use crate::state::State;
+use crate::reads::{GroupHome, group_home, touch_place};
+use crate::state::{ReplyTo, State};
 use crate::wide::goes_wide;
 use ds_base::{Counts, Key, NoMemory, TryCopy};
 use ds_entity::Seen;
 use ds_indexdef::Defs;
 use ds_io::{NoGate, Steps};
 use ds_output::{counts_in, found_body, place_in, tell};
-use ds_planner::ScanPlan;
 use ds_protocol::{Ready, Search, prepare};
-use ds_query::{Normal, Place, Window};
+use ds_query::{Normal, Place};
 use ds_reply::Body;
 use ds_store::{Answer, GetRefused, Names, Pass, Store};
 use std::alloc::Global;
 use std::sync::Wait;
 use std::sync::ledger::Ledger;
 use std::thread::Threads;
+
+/// A search that nothing refuses before its group is looked at, and what it is answered from.
+#[derive(Drop)]
+struct PreparedSearch {
+    search: Search,
+    ready: Ready,
+}
 
 impl<J: Names> State<J> {
     /// Answers a search: its first refusal, or what it finds.
@@ -49,33 +55,37 @@ impl<J: Names> State<J> {
         rt: &R,
         store: &Store<J, H>,
         defs: &Defs,
-        number: u64,
-        search: &Search,
-        keep: usize,
+        to: ReplyTo,
+        search: Search,
         steps: &mut Steps<L>,
     )
         requires within { IsWithin self.old.seen self.old.pass }
         requires definitions { defs.now ≡ J.definitions }
-        requires lawful { IsLawfulSearch search.now }
-        requires room { keep + length (reply_text (no_memory_reply self.old.client number)) ≤ self.old.room }
-        ensures replied { (call : Call) → IsSearchOf call search.now
-            → HasReplied J.definitions store.now.shards (Some J.window) self.old self.new number (request_of self.old.client call) keep }
-        ensures steps { (call : Call) → IsSearchOf call search.now
-            → IsWithinSteps J.definitions J.window store.now.shards number (request_of self.old.client call) self.old self.new
+        requires lawful { IsLawfulSearch search }
+        requires room { to.keep + length (reply_text (no_memory_reply self.old.client to.number)) ≤ self.old.room }
+        ensures replied { (call : Call) → IsSearchOf call search
+            → HasReplied J.definitions store.now.shards (Some J.window) self.old self.new to.number
+            (request_of self.old.client call) to.keep }
+        ensures steps { (call : Call) → IsSearchOf call search
+            → IsWithinSteps J.definitions J.window store.now.shards to.number (request_of self.old.client call) self.old self.new
             steps.old steps.new }
     {
-        let ready = match prepare(self.alloc, defs, self.transaction.is_open(), search) {
+        let ready = match prepare(self.alloc, defs, self.transaction.is_open(), &search) {
             Ok(ready) => ready,
-            Err(body) => return self.refuse(number, body, keep),
+            Err(body) => {
+                drop(search);
+                return self.refuse(to.number, body, to.keep);
+            }
         };
-        match &search.query.ancestor {
+        let prepared = PreparedSearch { search, ready };
+        match &prepared.search.query.ancestor {
             Some(ancestor) => {
-                self.find_in_group(rt, store, number, search, &ready, ancestor, keep, steps);
-                drop(ready);
+                self.find_in_group(rt, store, to, &prepared, ancestor, steps);
+                drop(prepared);
             }
             None => {
-                self.find_in_all(rt, store, number, search, &ready, keep, steps);
-                drop(ready);
+                self.find_in_all(rt, store, to, &prepared, steps);
+                drop(prepared);
             }
         }
     }
@@ -85,49 +95,40 @@ impl<J: Names> State<J> {
         &mut self,
         rt: &R,
         store: &Store<J, H>,
-        number: u64,
-        search: &Search,
-        ready: &Ready,
-        keep: usize,
+        to: ReplyTo,
+        prepared: &PreparedSearch,
         steps: &mut Steps<L>,
     )
         requires within { IsWithin self.old.seen self.old.pass }
-        requires everywhere { search.now.query.ancestor ≡ None }
-        requires ready { IsReady J.definitions (is_some self.old.seen.transaction) (search_parts search.now) ready.now.normal
-            ready.now.window }
-        requires lawful { IsLawfulNormal ready.now.normal }
-        requires planned { ArePlansFor J.definitions ready.now.normal.branches ready.now.plans.items }
-        requires placeless { SuitsSeveral ready.now.normal.several ready.now.window }
-        requires room { keep + length (reply_text (no_memory_reply self.old.client number)) ≤ self.old.room }
-        ensures replied { (call : Call) → IsSearchOf call search.now
-            → HasReplied J.definitions store.now.shards (Some J.window) self.old self.new number (request_of self.old.client call) keep }
-        ensures steps { (call : Call) → IsSearchOf call search.now
-            → IsWithinSteps J.definitions J.window store.now.shards number (request_of self.old.client call) self.old self.new
+        requires everywhere { prepared.now.search.query.ancestor ≡ None }
+        requires ready { IsReady J.definitions (is_some self.old.seen.transaction) (search_parts prepared.now.search)
+            prepared.now.ready.normal prepared.now.ready.window }
+        requires lawful { IsLawfulNormal prepared.now.ready.normal }
+        requires planned { ArePlansFor J.definitions prepared.now.ready.normal.branches prepared.now.ready.plans.items }
+        requires placeless { SuitsSeveral prepared.now.ready.normal.several prepared.now.ready.window }
+        requires room { to.keep + length (reply_text (no_memory_reply self.old.client to.number)) ≤ self.old.room }
+        ensures replied { (call : Call) → IsSearchOf call prepared.now.search
+            → HasReplied J.definitions store.now.shards (Some J.window) self.old self.new to.number
+            (request_of self.old.client call) to.keep }
+        ensures steps { (call : Call) → IsSearchOf call prepared.now.search
+            → IsWithinSteps J.definitions J.window store.now.shards to.number (request_of self.old.client call) self.old self.new
             steps.old steps.new }
     {
+        let PreparedSearch { search, ready } = prepared;
         let wide = goes_wide(&ready.window, store.shards(), &self.pass);
-        let asked = query(
-            rt,
-            store,
-            &mut self.pass,
-            wide,
-            &ready.normal,
-            &ready.window,
-            ready.plans.as_slice(),
-            steps,
-        );
+        let asked = query(rt, store, &mut self.pass, wide, ready, steps);
         let Ok(answer) = asked else {
-            return self.say_no_memory(number, keep);
+            return self.say_no_memory(to.number, to.keep);
         };
         let Ok(counted) = counted_body(self.alloc, search, &ready.normal, answer) else {
-            return self.say_no_memory(number, keep);
+            return self.say_no_memory(to.number, to.keep);
         };
         let Counted {
             body,
             counts,
             commit,
         } = counted;
-        if !tell(self.client, number, body, keep, &mut self.text) {
+        if !tell(self.client, to.number, body, to.keep, &mut self.text) {
             return;
         }
         self.seen.see_counts(counts.as_slice(), commit);
@@ -138,35 +139,37 @@ impl<J: Names> State<J> {
         &mut self,
         rt: &R,
         store: &Store<J, H>,
-        number: u64,
-        search: &Search,
-        ready: &Ready,
+        to: ReplyTo,
+        prepared: &PreparedSearch,
         ancestor: &Key,
-        keep: usize,
         steps: &mut Steps<L>,
     )
         requires within { IsWithin self.old.seen self.old.pass }
-        requires under { search.now.query.ancestor ≡ Some ancestor.now }
-        requires ready { IsReady J.definitions (is_some self.old.seen.transaction) (search_parts search.now) ready.now.normal
-            ready.now.window }
-        requires lawful { IsLawfulNormal ready.now.normal }
-        requires planned { ArePlansFor J.definitions ready.now.normal.branches ready.now.plans.items }
-        requires placeless { SuitsSeveral ready.now.normal.several ready.now.window }
-        requires room { keep + length (reply_text (no_memory_reply self.old.client number)) ≤ self.old.room }
-        ensures replied { (call : Call) → IsSearchOf call search.now
-            → HasReplied J.definitions store.now.shards (Some J.window) self.old self.new number (request_of self.old.client call) keep }
-        ensures steps { (call : Call) → IsSearchOf call search.now
-            → IsWithinSteps J.definitions J.window store.now.shards number (request_of self.old.client call) self.old self.new
+        requires under { prepared.now.search.query.ancestor ≡ Some ancestor.now }
+        requires ready { IsReady J.definitions (is_some self.old.seen.transaction) (search_parts prepared.now.search)
+            prepared.now.ready.normal prepared.now.ready.window }
+        requires lawful { IsLawfulNormal prepared.now.ready.normal }
+        requires planned { ArePlansFor J.definitions prepared.now.ready.normal.branches prepared.now.ready.plans.items }
+        requires placeless { SuitsSeveral prepared.now.ready.normal.several prepared.now.ready.window }
+        requires room { to.keep + length (reply_text (no_memory_reply self.old.client to.number)) ≤ self.old.room }
+        ensures replied { (call : Call) → IsSearchOf call prepared.now.search
+            → HasReplied J.definitions store.now.shards (Some J.window) self.old self.new to.number
+            (request_of self.old.client call) to.keep }
+        ensures steps { (call : Call) → IsSearchOf call prepared.now.search
+            → IsWithinSteps J.definitions J.window store.now.shards to.number (request_of self.old.client call) self.old self.new
             steps.old steps.new }
     {
-        let Ok((group, shard)) = group_and_shard(self.alloc, ancestor, store.shards()) else {
-            return self.say_no_memory(number, keep);
+        let Ok(home) = group_home(self.alloc, ancestor, store.shards()) else {
+            return self.say_no_memory(to.number, to.keep);
         };
-        if let Some(body) = self.transaction.group_refusal(self.alloc, Some(&group)) {
-            drop(group);
-            return self.refuse(number, body, keep);
+        if let Some(body) = self
+            .transaction
+            .group_refusal(self.alloc, Some(&home.group))
+        {
+            drop(home);
+            return self.refuse(to.number, body, to.keep);
         }
-        self.find_there(rt, store, number, search, ready, group, shard, keep, steps);
+        self.find_there(rt, store, to, prepared, home, steps);
     }
 
     /// What it finds in this group and its shard: it stands where a get of the group would, and its transaction touches the group.
@@ -174,34 +177,34 @@ impl<J: Names> State<J> {
         &mut self,
         rt: &R,
         store: &Store<J, H>,
-        number: u64,
-        search: &Search,
-        ready: &Ready,
-        group: Key,
-        shard: u32,
-        keep: usize,
+        to: ReplyTo,
+        prepared: &PreparedSearch,
+        home: GroupHome,
         steps: &mut Steps<L>,
     )
         requires within { IsWithin self.old.seen self.old.pass }
-        requires under { option_map root_of search.now.query.ancestor ≡ Some group }
-        requires shard { shard ≡ shard_of group store.now.shards }
-        requires below { shard < store.now.shards }
-        requires allowed { group_refusal self.old.seen.transaction (Some group) ≡ None }
-        requires ready { IsReady J.definitions (is_some self.old.seen.transaction) (search_parts search.now) ready.now.normal
-            ready.now.window }
-        requires lawful { IsLawfulNormal ready.now.normal }
-        requires planned { ArePlansFor J.definitions ready.now.normal.branches ready.now.plans.items }
-        requires placeless { SuitsSeveral ready.now.normal.several ready.now.window }
-        requires room { keep + length (reply_text (no_memory_reply self.old.client number)) ≤ self.old.room }
-        ensures replied { (call : Call) → IsSearchOf call search.now
-            → HasReplied J.definitions store.now.shards (Some J.window) self.old self.new number (request_of self.old.client call) keep }
-        ensures steps { (call : Call) → IsSearchOf call search.now
-            → IsWithinSteps J.definitions J.window store.now.shards number (request_of self.old.client call) self.old self.new
+        requires under { option_map root_of prepared.now.search.query.ancestor ≡ Some home.group }
+        requires shard { home.shard ≡ shard_of home.group store.now.shards }
+        requires below { home.shard < store.now.shards }
+        requires allowed { group_refusal self.old.seen.transaction (Some home.group) ≡ None }
+        requires ready { IsReady J.definitions (is_some self.old.seen.transaction) (search_parts prepared.now.search)
+            prepared.now.ready.normal prepared.now.ready.window }
+        requires lawful { IsLawfulNormal prepared.now.ready.normal }
+        requires planned { ArePlansFor J.definitions prepared.now.ready.normal.branches prepared.now.ready.plans.items }
+        requires placeless { SuitsSeveral prepared.now.ready.normal.several prepared.now.ready.window }
+        requires room { to.keep + length (reply_text (no_memory_reply self.old.client to.number)) ≤ self.old.room }
+        ensures replied { (call : Call) → IsSearchOf call prepared.now.search
+            → HasReplied J.definitions store.now.shards (Some J.window) self.old self.new to.number
+            (request_of self.old.client call) to.keep }
+        ensures steps { (call : Call) → IsSearchOf call prepared.now.search
+            → IsWithinSteps J.definitions J.window store.now.shards to.number (request_of self.old.client call) self.old self.new
             steps.old steps.new }
     {
+        let PreparedSearch { search, ready } = prepared;
+        let GroupHome { group, shard } = home;
         if self.transaction.make_room().is_err() {
             drop(group);
-            return self.say_no_memory(number, keep);
+            return self.say_no_memory(to.number, to.keep);
         }
         let at = touch_place(rt, store, &mut self.pass, &self.transaction, &group);
         let asked = store.strong_query_planned(
@@ -218,14 +221,14 @@ impl<J: Names> State<J> {
             Ok(answer) => {
                 let Ok(read) = place_body(self.alloc, search, &ready.normal, answer) else {
                     drop(group);
-                    return self.say_no_memory(number, keep);
+                    return self.say_no_memory(to.number, to.keep);
                 };
                 let ReadAt {
                     body,
                     place,
                     entries,
                 } = read;
-                if !tell(self.client, number, body, keep, &mut self.text) {
+                if !tell(self.client, to.number, body, to.keep, &mut self.text) {
                     return;
                 }
                 self.transaction.touch(group, place);
@@ -236,9 +239,9 @@ impl<J: Names> State<J> {
                 drop(group);
                 match refused {
                     GetRefused::Expired(expired) => {
-                        self.expire(number, shard, at, expired, keep);
+                        self.expire(to.number, shard, at, expired, to.keep);
                     }
-                    GetRefused::NoMemory => self.say_no_memory(number, keep),
+                    GetRefused::NoMemory => self.say_no_memory(to.number, to.keep),
                 }
             }
         }
@@ -252,27 +255,31 @@ fn query<J: Names, R: Threads + Sync, H: Wait + Drop, L: Ledger>(
     store: &Store<J, H>,
     pass: &mut Pass<J>,
     wide: bool,
-    normal: &Normal,
-    window: &Window,
-    plans: &[ScanPlan],
+    ready: &Ready,
     steps: &mut Steps<L>,
 ) -> Result<Answer, NoMemory>
-    requires lawful { IsLawfulNormal normal.now }
-    requires placeless { SuitsSeveral normal.now.several window.now }
-    requires planned { ArePlansFor J.definitions normal.now.branches plans.now }
-    requires wide { IsTrue wide → GoesWide window.now store.now.shards pass.old }
-    requires everywhere { ancestor_of normal.now.branches ≡ None }
+    requires lawful { IsLawfulNormal ready.now.normal }
+    requires placeless { SuitsSeveral ready.now.normal.several ready.now.window }
+    requires planned { ArePlansFor J.definitions ready.now.normal.branches ready.now.plans.items }
+    requires wide { IsTrue wide → GoesWide ready.now.window store.now.shards pass.old }
+    requires everywhere { ancestor_of ready.now.normal.branches ≡ None }
     ensures counted { IfOk result (λ a. HasCounted pass.old pass.new a.seen a.beside) }
-    ensures found { IfOk result (λ a. FindsGlobally pass.new.lists normal.now window.now a.results a.next) }
+    ensures found { IfOk result (λ a. FindsGlobally pass.new.lists ready.now.normal ready.now.window a.results a.next) }
     ensures steps_bounded { IfOk result (λ a. All (λ q. steps.new ≤ (steps.old
-        + search_bound normal.now window.now (most_of normal.now window.now) (newest J.definitions J.window pass.new.lists))
-        + look_ups q.select (length a.results)) normal.now.branches) }
+        + search_bound ready.now.normal ready.now.window (most_of ready.now.normal ready.now.window)
+        (newest J.definitions J.window pass.new.lists))
+        + look_ups q.select (length a.results)) ready.now.normal.branches) }
     ensures read { OnErr result (HasRead pass.old pass.new) }
 {
+    let Ready {
+        normal,
+        window,
+        plans,
+    } = ready;
     if wide {
-        store.query_wide_planned(rt, pass, normal, window, plans, &NoGate)
+        store.query_wide_planned(rt, pass, normal, window, plans.as_slice(), &NoGate)
     } else {
-        store.query_planned(pass, normal, window, plans, steps)
+        store.query_planned(pass, normal, window, plans.as_slice(), steps)
     }
 }
 

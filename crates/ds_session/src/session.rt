@@ -13,7 +13,7 @@ ghost use Rattle.ds_session.specs.Meeting.{HasTaken};
 ghost use Rattle.ds_session.specs.Sessions.{IsWithin};
 ghost use Rattle.ds_session.specs.Steps.{IsWithinSteps};
 
-use crate::state::State;
+use crate::state::{ReplyTo, State};
 use ds_asked::{Asked, asked_line};
 use ds_base::{Buffer, Counts, NoMemory};
 use ds_indexdef::Defs;
@@ -207,9 +207,10 @@ impl<J: Names> Session<J> {
             request,
         } = asked;
         match request {
-            Ok(request) => self
-                .state
-                .answer(rt, store, defs, number, request.call, keep, steps),
+            Ok(request) => {
+                let to = ReplyTo { number, keep };
+                self.state.answer(rt, store, defs, to, request.call, steps);
+            }
             Err(body) => self.state.refuse_line(number, body, keep),
         }
     }

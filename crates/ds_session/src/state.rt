@@ -17,6 +17,13 @@ pub(crate) struct State<J: Names> {
     pub(crate) alloc: Global,
 }
 
+/// Where a reply goes: behind the text, for the line of this number, with so many bytes of room left behind it.
+#[derive(Clone, Copy)]
+pub(crate) struct ReplyTo {
+    pub(crate) number: u64,
+    pub(crate) keep: usize,
+}
+
 impl<J: Names> Model for State<J> {
     ghost use Rattle.ds_model.specs.Groups.{with_transaction};
     ghost use Rattle.ds_session.specs.Sessions.{SessionParts};

@@ -6,6 +6,7 @@ ghost use Rattle.ds_protocol.specs.Saying.{no_memory_reply};
 ghost use Rattle.ds_reply.specs.Replies.{reply_text};
 ghost use Rattle.ds_request.specs.declared.call.Call.{Call};
 ghost use Rattle.ds_model.specs.Sessions.{Transaction};
+ghost use Rattle.ds_output.specs.Room.{HasRoomForCommit};
 ghost use Rattle.ds_session.specs.Committing.{IsCommitOf};
 ghost use Rattle.ds_session.specs.Replying.{HasReplied, request_of};
 ghost use Rattle.ds_session.specs.Sessions.{IsWithin};
@@ -17,7 +18,7 @@ use crate::state::State;
 use ds_base::{Buffer, Key, TryCopy};
 use ds_journal::{CommitCause, CommitRefused, Draft};
 use ds_log::Conflict;
-use ds_output::{make_room_to_tell, tell, tell_last};
+use ds_output::{make_room_for_numbers, tell, tell_last};
 use ds_protocol::{OpenTransaction, draft_of_transaction};
 use ds_reply::Body;
 use ds_store::{Names, Store};
@@ -72,7 +73,6 @@ impl<J: Names> State<J> {
             self.alloc,
             self.client,
             &self.transaction,
-            number,
             keep,
             &mut self.text,
         ) {
@@ -81,7 +81,7 @@ impl<J: Names> State<J> {
         }
     }
 
-    /// Commits what the transaction asks for.
+    /// Commits what the transaction asks for; there is room to tell it.
     fn commit_draft<R: Wait, H: Wait + Drop>(
         &mut self,
         rt: &R,
@@ -94,17 +94,19 @@ impl<J: Names> State<J> {
         requires unrefused { refusal_of J.definitions self.old.seen Call.Commit ≡ None }
         requires asked { IsCommitOf self.old.client self.old.seen.transaction draft }
         requires room { keep + length (reply_text (no_memory_reply self.old.client number)) ≤ self.old.room }
+        requires suffices { HasRoomForCommit keep self.old.room }
         ensures { HasReplied J.definitions store.now.shards (Some J.window) self.old self.new number
             (request_of self.old.client Call.Commit) keep }
     {
         match store.commit(rt, &mut self.pass, draft) {
-            Ok(commit) => self.tell_commit(rt, number, commit, keep),
+            Ok(commit) => self.tell_commit(number, commit, keep),
             Err(refused) => self.refuse_commit(number, refused, keep),
         }
     }
 
-    /// Tells the number of the transaction's commit; the transaction has then ended.
-    fn tell_commit<R: Wait>(&mut self, rt: &R, number: u64, commit: u64, keep: usize)
+    /// Tells the number of the transaction's commit, for which there is room; the transaction has then ended.
+    fn tell_commit(&mut self, number: u64, commit: u64, keep: usize)
+        requires { HasRoomForCommit keep self.old.room }
         ensures { (p : PassParts) (t : Transaction) (shards : ℕ) → IsWithin self.old.seen p → self.old.seen.transaction ≡ Some t
             → refusal_of J.definitions self.old.seen Call.Commit ≡ None
             → IsAppended p self.old.pass (commit_of self.old.client t) commit []
@@ -113,14 +115,8 @@ impl<J: Names> State<J> {
     {
         self.transaction.end();
         self.seen.see_place(commit);
-        tell_last(
-            rt,
-            self.client,
-            number,
-            Body::Commit { commit },
-            keep,
-            &mut self.text,
-        );
+        let body = Body::Commit { commit };
+        tell_last(self.client, number, body, keep, &mut self.text);
     }
 
     /// Tells why the transaction isn't committed.
@@ -175,17 +171,16 @@ fn prepared(
     alloc: Global,
     client: u32,
     transaction: &OpenTransaction,
-    number: u64,
     keep: usize,
     text: &mut Buffer,
 ) -> Option<Draft>
     ensures asked { IfSome result (λ draft. IsCommitOf client transaction.now.transaction draft) }
     ensures same { text.new.bytes ≡ text.old.bytes }
     ensures kept { text.old.spare ≤ text.new.spare }
+    ensures suffices { IfSome result (λ draft. HasRoomForCommit keep text.new.spare) }
 {
     let txn = transaction.transaction()?;
-    let longest = Body::Commit { commit: u64::MAX };
-    if !make_room_to_tell(client, number, longest, keep, text) {
+    if !make_room_for_numbers(keep, text) {
         return None;
     }
     match draft_of_transaction(alloc, client, txn) {

@@ -1,6 +1,6 @@
 //! Puts and deletes: outside a transaction each is a commit of its own.
-ghost use Rattle.std.specs.Prelude.{◌≡◌, ◌+◌, ◌≤◌, ℕ, None, Some, Result, true, length, IfOk, IsTrue};
-ghost use Rattle.ds_base.specs.Keys.{ends_in_id, renumbered};
+ghost use Rattle.std.specs.Prelude.{◌≡◌, ◌+◌, ◌≤◌, ℕ, None, Some, Result, true, length, IfOk, IsTrue, OnOk};
+ghost use Rattle.ds_base.specs.Keys.{ends_in_id};
 ghost use Rattle.ds_log.specs.declared.Write.TheVariants as write;
 ghost use Rattle.ds_log.specs.Logs.{key_of};
 ghost use Rattle.ds_model.specs.Refusals.{refusal_of};
@@ -13,6 +13,7 @@ ghost use Rattle.ds_request.specs.declared.call.Call.{Call};
 ghost use Rattle.ds_request.specs.declared.call.Request.{Request};
 ghost use Rattle.ds_session.specs.Answering.{HasSaid};
 ghost use Rattle.ds_session.specs.Replying.{HasReplied, own_commit, request_of, write_call};
+ghost use Rattle.ds_output.specs.Room.{HasRoomForNew, HasRoomForWrite};
 ghost use Rattle.ds_output.specs.Writes.{body_with, written_body};
 ghost use Rattle.ds_session.specs.Sessions.{IsWithin};
 ghost use Rattle.ds_store.specs.Answered.{WhereExhausted};
@@ -59,6 +60,7 @@ fn prepare_commit(
     ensures body { IfOk result (λ p. (at : WriteAt) → body_with p.deletes p.key at ≡ written_body write at) }
     ensures same { text.new.bytes ≡ text.old.bytes }
     ensures kept { text.old.spare ≤ text.new.spare }
+    ensures suffices { OnOk result (HasRoomForWrite (key_of write) keep text.new.spare) }
 {
     let room = make_room_for_write(write.key(), keep, text);
     let deletes = is_delete(&write);
@@ -84,7 +86,8 @@ fn is_delete(write: &Write) -> bool
 
 /// A copy of a key, where there is room for the reply that tells it. A refusal means out of memory.
 fn key_if(room: bool, alloc: Global, key: &Key) -> Result<Key, NoMemory>
-    ensures { IfOk result (λ copy. copy ≡ key.now) }
+    ensures copied { IfOk result (λ copy. copy ≡ key.now) }
+    ensures room { OnOk result (IsTrue room) }
 {
     if !room {
         return Err(AllocError);
@@ -96,20 +99,17 @@ fn key_if(room: bool, alloc: Global, key: &Key) -> Result<Key, NoMemory>
 fn prepare_new(
     alloc: Global,
     client: u32,
-    number: u64,
     entity: Entity,
     keep: usize,
     text: &mut Buffer,
 ) -> Result<PreparedNew, NoMemory>
-    requires { IsTrue (ends_in_id entity.key.elems) }
     ensures draft { IfOk result (λ p. p.draft ≡ own_commit client (write.Put entity)) }
-    ensures ends { IfOk result (λ p. IsTrue (ends_in_id p.key.elems)) }
-    ensures key { IfOk result (λ p. (id : ℕ) → renumbered p.key id ≡ renumbered entity.key id) }
+    ensures key { IfOk result (λ p. p.key ≡ entity.key) }
     ensures same { text.new.bytes ≡ text.old.bytes }
     ensures kept { text.old.spare ≤ text.new.spare }
+    ensures suffices { OnOk result (HasRoomForNew entity.key keep text.new.spare) }
 {
-    let at = WriteAt::Commit(u64::MAX);
-    let key = prepare_key(alloc, client, number, entity.key(), at, keep, text)?;
+    let key = prepare_key(alloc, entity.key(), keep, text)?;
     let draft = draft_of_write(alloc, client, Write::Put(entity))?;
     Ok(PreparedNew { draft, key })
 }
@@ -198,7 +198,7 @@ impl<J: Names> State<J> {
                 self.seen.see_place(commit);
                 self.seen.see_next(next);
                 let body = body_with(key, deletes, WriteAt::Commit(commit));
-                tell_last(rt, self.client, number, body, keep, &mut self.text);
+                tell_last(self.client, number, body, keep, &mut self.text);
             }
             Err(refused) => {
                 drop(refused);
@@ -230,14 +230,7 @@ impl<J: Names> State<J> {
             drop(entity);
             return self.say_unissued(number, id, keep);
         }
-        let prepared = prepare_new(
-            self.alloc,
-            self.client,
-            number,
-            entity,
-            keep,
-            &mut self.text,
-        );
+        let prepared = prepare_new(self.alloc, self.client, entity, keep, &mut self.text);
         let Ok(PreparedNew { draft, mut key }) = prepared else {
             return self.say_no_memory(number, keep);
         };
@@ -247,14 +240,8 @@ impl<J: Names> State<J> {
                 self.seen.see_place(new.commit);
                 self.seen.see_next(next_above(key.elems().as_slice()));
                 let at = WriteAt::Commit(new.commit);
-                tell_last(
-                    rt,
-                    self.client,
-                    number,
-                    Body::Put { key, at },
-                    keep,
-                    &mut self.text,
-                );
+                let body = Body::Put { key, at };
+                tell_last(self.client, number, body, keep, &mut self.text);
             }
             Err(refused) => {
                 drop(key);

@@ -1,5 +1,5 @@
 //! Puts and deletes in an open transaction: they are put behind its other writes, and touch their group.
-ghost use Rattle.std.specs.Prelude.{◌≡◌, ◌+◌, ◌≤◌, ◌<◌, ℕ, None, Some, true, length, is_some, unwrap_or, IfOk, IsTrue, OnOk};
+ghost use Rattle.std.specs.Prelude.{◌≡◌, ◌+◌, ◌≤◌, ◌<◌, None, Some, true, length, is_some, unwrap_or, IfOk, IsTrue, OnOk};
 ghost use Rattle.ds_base.specs.Keys.{ends_in_id, renumbered, root_of};
 ghost use Rattle.ds_base.specs.Limits.{greatest_id};
 ghost use Rattle.ds_log.specs.Ids.{first_unissued};
@@ -9,6 +9,7 @@ ghost use Rattle.ds_model.specs.Refusals.{refusal_of};
 ghost use Rattle.ds_protocol.specs.Saying.{no_memory_reply};
 ghost use Rattle.ds_reply.specs.Replies.{reply_text};
 ghost use Rattle.ds_request.specs.declared.call.Call.{Call};
+ghost use Rattle.ds_output.specs.Room.{HasRoomForNew};
 ghost use Rattle.ds_session.specs.Replying.{HasReplied, request_of, write_call};
 ghost use Rattle.ds_session.specs.Sessions.{IsWithin};
 
@@ -131,8 +132,6 @@ impl<J: Names> State<J> {
     {
         let Ok(draft) = prepare_new(
             self.alloc,
-            self.client,
-            number,
             entity,
             keep,
             &mut self.transaction,
@@ -148,14 +147,8 @@ impl<J: Names> State<J> {
                 let NewPut { entity, group, key } = numbered(draft, id);
                 let place = place_or(&self.transaction, &group, looked);
                 let at = WriteAt::Place(place);
-                tell_last(
-                    rt,
-                    self.client,
-                    number,
-                    Body::Put { key, at },
-                    keep,
-                    &mut self.text,
-                );
+                let body = Body::Put { key, at };
+                tell_last(self.client, number, body, keep, &mut self.text);
                 let next = next_above(entity.key().elems().as_slice());
                 self.transaction.write(group, place, Write::Put(entity));
                 self.seen.see_place(place);
@@ -192,30 +185,26 @@ struct NewPut {
     key: Key,
 }
 
-/// Takes all memory for a put whose id isn't drawn yet: in the transaction, for its group, and for its reply, with the greatest id and
+/// Takes all memory for a put whose id isn't drawn yet: in the transaction, for its group, and for its reply, whatever the id and the
 /// place. A refusal means out of memory.
 fn prepare_new(
     alloc: Global,
-    client: u32,
-    number: u64,
     entity: Entity,
     keep: usize,
     transaction: &mut OpenTransaction,
     text: &mut Buffer,
 ) -> Result<NewPut, NoMemory>
-    requires ends_in_id { IsTrue (ends_in_id entity.key.elems) }
     ensures entity { IfOk result (λ draft. draft.entity ≡ entity) }
     ensures group { IfOk result (λ draft. draft.group ≡ root_of entity.key) }
-    ensures ends { IfOk result (λ draft. IsTrue (ends_in_id draft.key.elems)) }
-    ensures key { IfOk result (λ draft. (id : ℕ) → renumbered draft.key id ≡ renumbered entity.key id) }
+    ensures key { IfOk result (λ draft. draft.key ≡ entity.key) }
     ensures same { transaction.new.transaction ≡ transaction.old.transaction }
     ensures room { OnOk result (IsTrue (is_some transaction.new.transaction) → 0 < transaction.new.room) }
     ensures text { text.new.bytes ≡ text.old.bytes }
     ensures kept { text.old.spare ≤ text.new.spare }
+    ensures suffices { OnOk result (HasRoomForNew entity.key keep text.new.spare) }
 {
     let group = group_with_room(alloc, entity.key(), transaction)?;
-    let at = WriteAt::Place(u64::MAX);
-    let key = prepare_key(alloc, client, number, entity.key(), at, keep, text)?;
+    let key = prepare_key(alloc, entity.key(), keep, text)?;
     Ok(NewPut { entity, group, key })
 }
 
@@ -223,8 +212,7 @@ fn prepare_new(
 fn numbered(draft: NewPut, id: u64) -> NewPut
     requires ends_in_id { IsTrue (ends_in_id draft.entity.key.elems) }
     requires group { draft.group ≡ root_of draft.entity.key }
-    requires ends { IsTrue (ends_in_id draft.key.elems) }
-    requires key { renumbered draft.key id ≡ renumbered draft.entity.key id }
+    requires key { draft.key ≡ draft.entity.key }
     requires positive { 1 ≤ id }
     requires bounded { id ≤ greatest_id }
     ensures entity { result.entity ≡ record { key = renumbered draft.entity.key id; properties = draft.entity.properties } }

@@ -1,4 +1,4 @@
-use Rattle.std.proofs.Common.{◌++◌, ◌∙◌, refl, ap, Some}
+use Rattle.std.proofs.Common.{◌++◌, ◌∙◌, refl, ap, arith, Some}
 use Rattle.ds_model.specs.Groups.{with_transaction}
 use Rattle.ds_reply.specs.declared.reply.Body.TheVariants as body
 use Rattle.ds_reply.specs.Replies.{reply_text}
@@ -7,15 +7,18 @@ use Rattle.ds_session.proofs.IdLaws.{allocate_exhausted, allocated, read_next}
 use Rattle.ds_session.proofs.StateLaws.{later_from, told_from, within_parts, within_read}
 use Rattle.ds_session.proofs.state.State.allocate.Goals as goal
 
-pub returns-then-not-make_room_for_ids : goal.returns-then-not-make_room_for_ids
-returns-then-not-make_room_for_ids g c =
-    later_from _ _ _ _ _ _ c.self.view_is _ _ _ _ refl refl c.make_room_for_ids.ensures.same (read_itself c.self.inside.pass)
+pub returns-then-not-make_room_for_numbers : goal.returns-then-not-make_room_for_numbers
+returns-then-not-make_room_for_numbers g c =
+    later_from _ _ _ _ _ _ c.self.view_is _ _ _ _ refl refl c.make_room_for_numbers.ensures.same (read_itself c.self.inside.pass)
     (c.say_no_memory.ensures.replied _ _)
 
 pub say_next-requires-clause-within : goal.say_next-requires-clause-within
 say_next-requires-clause-within g c =
     within_read _ _ c.issue.new.pass c.self.view_is c.requires.within
     (read_next c.self.inside.pass c.issue.new.pass c.in-Err.refused.next c.in-Err.ensures.exhausted.0)
+
+pub tell_last-requires : goal.tell_last-requires
+tell_last-requires g c = c.make_room_for_numbers.ensures.ids c.if-not-make_room_for_numbers.false c.in-Ok.first c.args.count (omega arith) c.ranges.count.fits
 
 pub returns-in-Ok : goal.returns-in-Ok
 returns-in-Ok g c =
@@ -27,13 +30,13 @@ returns-in-Ok g c =
       client = c.self.inside.client;
       line = c.args.number;
       body = body.AllocateIds c.in-Ok.first c.args.count;
-    })) c.make_room_for_ids.ensures.same)
+    })) c.make_room_for_numbers.ensures.same)
     c.tell_last.ensures.kept
 
 pub returns-in-Err : goal.returns-in-Err
 returns-in-Err g c =
     let within = within_parts _ _ c.self.view_is c.requires.within in
-    later_from _ _ _ _ _ _ c.self.view_is _ _ _ _ refl refl c.make_room_for_ids.ensures.same (read_itself c.self.inside.pass)
+    later_from _ _ _ _ _ _ c.self.view_is _ _ _ _ refl refl c.make_room_for_numbers.ensures.same (read_itself c.self.inside.pass)
     (c.say_next.ensures c.self.inside.pass _ _ within
     (read_next c.self.inside.pass c.issue.new.pass c.in-Err.refused.next c.in-Err.ensures.exhausted.0)
     (allocate_exhausted g.J.Names.definitions c.args.store.now.shards (Some g.J.Names.window) c.args.self.now.client _ c.self.inside.pass

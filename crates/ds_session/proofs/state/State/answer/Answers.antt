@@ -19,5 +19,5 @@ returns-in-Err-clause-replied g c =
 
 pub returns-in-Err-clause-steps : goal.returns-in-Err-clause-steps
 returns-in-Err-clause-steps g c =
-    no_steps g.J.Names.definitions g.J.Names.window c.args.store.now.shards c.args.number c.args.self.now.client c.args.call
+    no_steps g.J.Names.definitions g.J.Names.window c.args.store.now.shards c.args.to.number c.args.self.now.client c.args.call
     c.args.self.now _ _ _ refl

@@ -1,4 +1,4 @@
-use Rattle.std.proofs.Common.{◌≡◌, ◌+◌, ◌++◌, refl, ap, sym, ◌∙◌, subst, true, Some}
+use Rattle.std.proofs.Common.{◌≡◌, ◌+◌, ◌++◌, refl, ap, arith, sym, ◌∙◌, subst, true, Some}
 use Rattle.ds_base.specs.Keys.{KeyParts, renumbered}
 use Rattle.ds_journal.specs.Drafts.{renumbered_commit}
 use Rattle.ds_log.specs.declared.Commit.{Commit}
@@ -8,6 +8,7 @@ use Rattle.ds_reply.specs.declared.reply.Body.TheVariants as body
 use Rattle.ds_reply.specs.declared.reply.WriteAt.TheVariants as at
 use Rattle.ds_reply.specs.Replies.{reply_text}
 use Rattle.ds_request.specs.declared.call.Call.TheVariants as call
+use Rattle.ds_output.specs.Room.{HasRoomToTell}
 use Rattle.ds_session.specs.Sessions.{SessionParts}
 use Rattle.ds_session.proofs.AloneLaws.{new_exhausted, new_issued, wrote_new_replied, wrote_seen}
 use Rattle.ds_session.proofs.GrowthLaws.{read_itself, read_through}
@@ -53,6 +54,15 @@ refuse_new-requires-clause-within g c =
     within_read _ _ c.commit_new.new.pass c.self.view_is c.requires.within
     (read_through c.self.inside.pass c.unissued.new.pass c.commit_new.new.pass c.unissued.ensures.read c.in-Err.ensures.read)
 
+pub tell_last-requires : goal.tell_last-requires
+tell_last-requires g c =
+    let id = c.in-Ok-commit_new.new.id in
+    let n = c.in-Ok-commit_new.new.commit in
+    let key : c.renumber.new.self ≡ renumbered c.args.entity.key id =
+    c.renumber.ensures ∙ ap (λ (k : KeyParts). renumbered k id) c.in-Ok.ensures.key in
+    subst (λ (k : KeyParts). HasRoomToTell (body.Put k (at.Commit n)) c.args.keep c.prepare_new-prepared.new.text.spare) (sym key)
+    (c.in-Ok.ensures.suffices id (at.Commit n) (omega arith) (omega arith))
+
 pub returns-in-Ok-commit_new : goal.returns-in-Ok-commit_new
 returns-in-Ok-commit_new g c =
     let e = c.args.entity in
@@ -61,7 +71,7 @@ returns-in-Ok-commit_new g c =
     let ok = c.in-Ok-commit_new.ensures.ok in
     let path = c.as_slice-path.ensures ∙ c.elems.ensures.value ∙ ap (λ (k : KeyParts). k.elems) c.key.ensures.value in
     let issued = ap (first_unissued c.unissued.new.pass.next) (sym path) ∙ sym c.unissued.ensures.first ∙ c.in_default.is in
-    let key : c.renumber.new.self ≡ renumbered e.key id = c.renumber.ensures ∙ c.in-Ok.ensures.key id in
+    let key : c.renumber.new.self ≡ renumbered e.key id = c.renumber.ensures ∙ ap (λ (k : KeyParts). renumbered k id) c.in-Ok.ensures.key in
     rw (← c.self.view_is)
     (wrote_new_replied g.J.Names.definitions c.args.store.now.shards (Some g.J.Names.window) _ _ c.unissued.new.pass c.args.number
     c.args.keep

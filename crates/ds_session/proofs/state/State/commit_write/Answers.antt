@@ -1,4 +1,4 @@
-use Rattle.std.proofs.Common.{◌≡◌, List, ◌++◌, refl, ap, sym, ◌∙◌, subst, Some}
+use Rattle.std.proofs.Common.{◌≡◌, List, ◌++◌, refl, ap, arith, sym, ◌∙◌, subst, Some}
 use Rattle.std.specs.Prelude.{IsTrue}
 use Rattle.std.specs.List.{list_all}
 use Rattle.ds_base.specs.declared.key.Elem.{Elem}
@@ -10,6 +10,7 @@ use Rattle.ds_reply.specs.declared.reply.Body.{Body}
 use Rattle.ds_reply.specs.declared.reply.WriteAt.TheVariants as at
 use Rattle.ds_reply.specs.Replies.{reply_text}
 use Rattle.ds_session.specs.Replying.{write_call}
+use Rattle.ds_output.specs.Room.{HasRoomToTell}
 use Rattle.ds_output.specs.Writes.{written_body}
 use Rattle.ds_session.specs.Sessions.{SessionParts}
 use Rattle.ds_session.proofs.AloneLaws.{lawful_path, write_unissued, wrote_replied, wrote_seen}
@@ -46,6 +47,12 @@ pub returns-in_default-prepared : goal.returns-in_default-prepared
 returns-in_default-prepared g c =
     later_from _ _ _ _ _ _ c.self.view_is _ _ _ _ refl refl c.prepare_commit-prepared.ensures.same c.unissued.ensures.read
     (c.say_no_memory.ensures.replied _ _)
+
+pub tell_last-requires : goal.tell_last-requires
+tell_last-requires g c =
+    let n = c.in-Ok-commit.commit in
+    subst (λ (b : Body). HasRoomToTell b c.args.keep c.prepare_commit-prepared.new.text.spare)
+    (sym (c.body_with-body.ensures ∙ c.in-Ok.ensures.body (at.Commit n))) (c.in-Ok.ensures.suffices c.args.write (at.Commit n) refl (omega arith))
 
 pub returns-in-Ok-commit : goal.returns-in-Ok-commit
 returns-in-Ok-commit g c =

@@ -11,7 +11,7 @@ pub returns-in-Err-clause-replied : goal.returns-in-Err-clause-replied
 returns-in-Err-clause-replied g c = λ call is.
     let inside = c.is_open.ensures ∙ ap (λ (v : SessionParts). is_some v.seen.transaction) c.self.view_is in
     let told = subst (λ ds. (c.in-Err.body ≡ body.NoMemory)
-    ⊎ IsRefused ds c.is_open.result (search_parts c.args.search.now) c.in-Err.body) c.requires.definitions c.in-Err.ensures.refused in
+    ⊎ IsRefused ds c.is_open.result (search_parts c.args.search) c.in-Err.body) c.requires.definitions c.in-Err.ensures.refused in
     c.refuse.ensures _ c.args.store.now.shards
     (search_refused g.J.Names.definitions c.args.store.now.shards (record { client = c.args.self.now.client; call = call })
-    c.args.self.now.seen c.args.search.now c.in-Err.body is c.is_open.result (sym inside) told)
+    c.args.self.now.seen c.args.search c.in-Err.body is c.is_open.result (sym inside) told)

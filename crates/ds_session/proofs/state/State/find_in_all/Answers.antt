@@ -17,7 +17,8 @@ query-asked-requires-clause-wide g c κs within = λ is.
 
 pub query-asked-requires-clause-everywhere : goal.query-asked-requires-clause-everywhere
 query-asked-requires-clause-everywhere g c κs within =
-    ancestor_is c.args.search.now c.args.ready.now.normal c.requires.ready.normal_is c.requires.lawful ∙ c.requires.everywhere
+    ancestor_is c.args.prepared.now.search c.args.prepared.now.ready.normal c.requires.ready.normal_is c.requires.lawful ∙
+    c.requires.everywhere
 
 pub say_no_memory-requires-clause-within : goal.say_no_memory-requires-clause-within
 say_no_memory-requires-clause-within g c = within_read _ _ _ c.self.view_is c.requires.within c.in_default.ensures.read
@@ -47,34 +48,37 @@ pub returns-clause-replied : goal.returns-clause-replied
 returns-clause-replied g c = λ call is.
     let answer = c.in-Ok.answer in
     let counts = c.in-Ok-counted_body.counted.counts in
-    let ready = subst (λ (v : SessionParts). IsReady g.J.Names.definitions (is_some v.seen.transaction) (search_parts c.args.search.now)
-    c.args.ready.now.normal c.args.ready.now.window) (sym c.self.view_is) c.requires.ready in
+    let ready = subst (λ (v : SessionParts). IsReady g.J.Names.definitions (is_some v.seen.transaction)
+    (search_parts c.args.prepared.now.search)
+    c.args.prepared.now.ready.normal c.args.prepared.now.ready.window) (sym c.self.view_is) c.requires.ready in
     told_from _ _ _ _ _ _ c.self.view_is _ _ _ _ _
-    (counted_said g.J.Names.definitions c.args.store.now.shards g.J.Names.window c.args.number
-    (record { client = c.args.self.now.client; call = call }) c.args.search.now is _ c.args.ready.now.normal c.args.ready.now.window ready
+    (counted_said g.J.Names.definitions c.args.store.now.shards g.J.Names.window c.args.to.number
+    (record { client = c.args.self.now.client; call = call }) c.args.prepared.now.search is _ c.args.prepared.now.ready.normal
+    c.args.prepared.now.ready.window ready
     c.requires.lawful c.self.inside.pass c.query-asked.new.pass answer.results answer.next answer.seen answer.beside counts
     (within_parts _ _ c.self.view_is c.requires.within) c.requires.everywhere c.in-Ok.ensures.counted c.in-Ok-counted_body.ensures.counts
     c.in-Ok.ensures.found)
     (counts_told c.self.inside.pass c.query-asked.new.pass answer.seen answer.beside c.in-Ok-counted_body.counted.commit counts
-    c.as_slice-2.result.now c.self.inside.transaction.transaction c.self.inside.seen c.see_counts.new.self c.in-Ok.ensures.counted
-    c.in-Ok-counted_body.ensures.counts c.in-Ok-counted_body.ensures.commit c.as_slice-2.ensures c.see_counts.ensures.saw)
+    c.as_slice.result.now c.self.inside.transaction.transaction c.self.inside.seen c.see_counts.new.self c.in-Ok.ensures.counted
+    c.in-Ok-counted_body.ensures.counts c.in-Ok-counted_body.ensures.commit c.as_slice.ensures c.see_counts.ensures.saw)
     refl
     (c.tell.ensures.told c.if-not-tell.false ∙ ap (λ b. c.self.inside.text.bytes ++ reply_text (record {
       client = c.self.inside.client;
-      line = c.args.number;
+      line = c.args.to.number;
       body = b;
     })) c.in-Ok-counted_body.ensures.body) c.tell.ensures.kept
 
 pub returns-clause-steps : goal.returns-clause-steps
 returns-clause-steps g c = λ call is.
     let answer = c.in-Ok.answer in
-    found_steps_from g.J.Names.definitions c.args.store.now.shards g.J.Names.window c.args.number
-    (record { client = c.args.self.now.client; call = call }) c.args.search.now is c.args.self.now.seen c.args.ready.now.normal
-    c.args.ready.now.window c.requires.ready c.requires.lawful _ _ _ c.self.view_is _ _ answer.results answer.seen _ _
+    found_steps_from g.J.Names.definitions c.args.store.now.shards g.J.Names.window c.args.to.number
+    (record { client = c.args.self.now.client; call = call }) c.args.prepared.now.search is c.args.self.now.seen
+    c.args.prepared.now.ready.normal
+    c.args.prepared.now.ready.window c.requires.ready c.requires.lawful _ _ _ c.self.view_is _ _ answer.results answer.seen _ _
     (ap (λ o. shards_read g.J.Names.definitions g.J.Names.window c.args.store.now.shards c.query-asked.new.pass o answer.seen)
     c.requires.everywhere)
     (c.tell.ensures.told c.if-not-tell.false ∙ ap (λ b. c.self.inside.text.bytes ++ reply_text (record {
       client = c.self.inside.client;
-      line = c.args.number;
+      line = c.args.to.number;
       body = b;
     })) c.in-Ok-counted_body.ensures.body) c.in-Ok.ensures.steps_bounded

@@ -21,8 +21,8 @@ find_there-requires-clause-shard g c =
 
 pub find_there-requires-clause-allowed : goal.find_there-requires-clause-allowed
 find_there-requires-clause-allowed g c =
-    subst (λ (v : SessionParts). group_refusal v.seen.transaction (Some c.in-Ok.group) ≡ None) c.self.view_is
-    (allowed_of (group_refusal c.self.inside.transaction.transaction (Some c.in-Ok.group)) c.group_refusal.result
+    subst (λ (v : SessionParts). group_refusal v.seen.transaction (Some c.in-Ok.home.group) ≡ None) c.self.view_is
+    (allowed_of (group_refusal c.self.inside.transaction.transaction (Some c.in-Ok.home.group)) c.group_refusal.result
     c.in_default-group_refusal.is c.group_refusal.ensures.told)
 
 pub returns-in-Some-clause-replied : goal.returns-in-Some-clause-replied
@@ -30,13 +30,14 @@ returns-in-Some-clause-replied g c = λ call is.
     let had = c.self.inside.transaction.transaction in
     let body = c.in-Some.body in
     let told = subst (λ k. IsRefusal (group_refusal had (Some k)) (Some body)) c.in-Ok.ensures.group
-    (subst (λ o. IsRefusal (group_refusal had (Some c.in-Ok.group)) o) c.in-Some.is c.group_refusal.ensures.told) in
+    (subst (λ o. IsRefusal (group_refusal had (Some c.in-Ok.home.group)) o) c.in-Some.is c.group_refusal.ensures.told) in
     c.refuse.ensures _ c.args.store.now.shards
     (group_refused g.J.Names.definitions c.args.store.now.shards (record { client = c.args.self.now.client; call = call })
-    c.args.self.now.seen c.args.search.now body is (is_some c.args.self.now.seen.transaction) c.args.ancestor.now c.args.ready.now.normal
-    c.args.ready.now.window refl c.requires.under c.requires.ready
+    c.args.self.now.seen c.args.prepared.now.search body is (is_some c.args.self.now.seen.transaction) c.args.ancestor.now
+    c.args.prepared.now.ready.normal
+    c.args.prepared.now.ready.window refl c.requires.under c.requires.ready
     (subst (λ (v : SessionParts). IsRefusal (group_refusal v.seen.transaction (Some (root_of c.args.ancestor.now))) (Some body))
     c.self.view_is told))
 
 pub find_there-requires-clause-below : goal.find_there-requires-clause-below
-find_there-requires-clause-below g c = subst (λ n. c.in-Ok.shard < n) c.shards.ensures.value c.in-Ok.ensures.below
+find_there-requires-clause-below g c = subst (λ n. c.in-Ok.home.shard < n) c.shards.ensures.value c.in-Ok.ensures.below

@@ -23,26 +23,29 @@ use Rattle.ds_session.proofs.state.State.find_there.Goals as goal
 
 pub strong_query_planned-asked-requires-clause-shard : goal.strong_query_planned-asked-requires-clause-shard
 strong_query_planned-asked-requires-clause-shard g c = λ ancestor is.
-    let of = ancestor_under c.args.search.now.query.ancestor c.args.group c.requires.under in
-    let under = ancestor_is c.args.search.now c.args.ready.now.normal c.requires.ready.normal_is c.requires.lawful ∙ of.1 in
+    let of = ancestor_under c.args.prepared.now.search.query.ancestor c.args.home.group c.requires.under in
+    let under = ancestor_is c.args.prepared.now.search c.args.prepared.now.ready.normal c.requires.ready.normal_is c.requires.lawful ∙
+    of.1 in
     let same : of.0 ≡ ancestor = cc (under, is) in
     c.requires.shard ∙ ap (λ k. shard_of k c.args.store.now.shards) (of.2 ∙ ap root_of same)
 
 pub place_body-requires : goal.place_body-requires
 place_body-requires g c =
-    let of = ancestor_under c.args.search.now.query.ancestor c.args.group c.requires.under in
-    let under = ancestor_is c.args.search.now c.args.ready.now.normal c.requires.ready.normal_is c.requires.lawful ∙ of.1 in
+    let of = ancestor_under c.args.prepared.now.search.query.ancestor c.args.home.group c.requires.under in
+    let under = ancestor_is c.args.prepared.now.search c.args.prepared.now.ready.normal c.requires.ready.normal_is c.requires.lawful ∙
+    of.1 in
     ap tells_place (c.in-Ok.ensures.found of.0 under).told
 
 pub strong_query_planned-asked-requires-clause-plans : goal.strong_query_planned-asked-requires-clause-plans
 strong_query_planned-asked-requires-clause-plans g c =
-    subst (states.ArePlansFor g.J.Names.definitions c.args.ready.now.normal.branches) (sym c.as_slice.ensures.value)
-    (plans_kept g.J.Names.definitions c.args.ready.now.normal.branches c.args.ready.now.plans.items c.requires.planned)
+    subst (states.ArePlansFor g.J.Names.definitions c.args.prepared.now.ready.normal.branches) (sym c.as_slice.ensures.value)
+    (plans_kept g.J.Names.definitions c.args.prepared.now.ready.normal.branches c.args.prepared.now.ready.plans.items c.requires.planned)
 
 pub say_no_memory-requires-in_default-clause-within : goal.say_no_memory-requires-in_default-clause-within
 say_no_memory-requires-in_default-clause-within g c =
-    let of = ancestor_under c.args.search.now.query.ancestor c.args.group c.requires.under in
-    let under = ancestor_is c.args.search.now c.args.ready.now.normal c.requires.ready.normal_is c.requires.lawful ∙ of.1 in
+    let of = ancestor_under c.args.prepared.now.search.query.ancestor c.args.home.group c.requires.under in
+    let under = ancestor_is c.args.prepared.now.search c.args.prepared.now.ready.normal c.requires.ready.normal_is c.requires.lawful ∙
+    of.1 in
     let h = read_through c.self.inside.pass c.touch_place-at.new.pass c.strong_query_planned-asked.new.pass c.touch_place-at.ensures.read
     (c.in-Ok.ensures.found of.0 under).read.read in
     within_same c.self.inside.transaction.transaction c.make_room.new.self.transaction c.self.inside.seen c.self.inside.pass
@@ -50,8 +53,9 @@ say_no_memory-requires-in_default-clause-within g c =
 
 pub returns-in_default-clause-replied : goal.returns-in_default-clause-replied
 returns-in_default-clause-replied g c = λ call is.
-    let of = ancestor_under c.args.search.now.query.ancestor c.args.group c.requires.under in
-    let under = ancestor_is c.args.search.now c.args.ready.now.normal c.requires.ready.normal_is c.requires.lawful ∙ of.1 in
+    let of = ancestor_under c.args.prepared.now.search.query.ancestor c.args.home.group c.requires.under in
+    let under = ancestor_is c.args.prepared.now.search c.args.prepared.now.ready.normal c.requires.ready.normal_is c.requires.lawful ∙
+    of.1 in
     let h = read_through c.self.inside.pass c.touch_place-at.new.pass c.strong_query_planned-asked.new.pass c.touch_place-at.ensures.read
     (c.in-Ok.ensures.found of.0 under).read.read in
     later_from _ _ _ _ _ _ c.self.view_is _ _ _ _ refl
@@ -60,8 +64,9 @@ returns-in_default-clause-replied g c = λ call is.
 
 pub returns-then-not-tell-clause-replied : goal.returns-then-not-tell-clause-replied
 returns-then-not-tell-clause-replied g c = λ call is.
-    let of = ancestor_under c.args.search.now.query.ancestor c.args.group c.requires.under in
-    let under = ancestor_is c.args.search.now c.args.ready.now.normal c.requires.ready.normal_is c.requires.lawful ∙ of.1 in
+    let of = ancestor_under c.args.prepared.now.search.query.ancestor c.args.home.group c.requires.under in
+    let under = ancestor_is c.args.prepared.now.search c.args.prepared.now.ready.normal c.requires.ready.normal_is c.requires.lawful ∙
+    of.1 in
     let h = read_through c.self.inside.pass c.touch_place-at.new.pass c.strong_query_planned-asked.new.pass c.touch_place-at.ensures.read
     (c.in-Ok.ensures.found of.0 under).read.read in
     none_from _ _ _ _ _ _ c.self.view_is _ _ _ c.requires.within refl
@@ -70,10 +75,10 @@ returns-then-not-tell-clause-replied g c = λ call is.
 
 pub returns-else-not-tell-clause-replied : goal.returns-else-not-tell-clause-replied
 returns-else-not-tell-clause-replied g c = λ call is.
-    let n = c.args.ready.now.normal in
-    let of = ancestor_under c.args.search.now.query.ancestor c.args.group c.requires.under in
+    let n = c.args.prepared.now.ready.normal in
+    let of = ancestor_under c.args.prepared.now.search.query.ancestor c.args.home.group c.requires.under in
     let ancestor = of.0 in
-    let search = c.args.search.now in
+    let search = c.args.prepared.now.search in
     let under = ancestor_is search n c.requires.ready.normal_is c.requires.lawful ∙ of.1 in
     let found = c.in-Ok.ensures.found ancestor under in
     let had = c.self.inside.transaction.transaction in
@@ -81,58 +86,63 @@ returns-else-not-tell-clause-replied g c = λ call is.
     let q = c.strong_query_planned-asked.new.pass in
     let within = within_parts _ _ c.self.view_is c.requires.within in
     let ready = subst (λ (v : SessionParts). IsReady g.J.Names.definitions (is_some v.seen.transaction) (search_parts search) n
-    c.args.ready.now.window) (sym c.self.view_is) c.requires.ready in
+    c.args.prepared.now.ready.window) (sym c.self.view_is) c.requires.ready in
     let allowed = subst (λ k. group_refusal had (Some k) ≡ None) of.2
-    (subst (λ (v : SessionParts). group_refusal v.seen.transaction (Some c.args.group) ≡ None) (sym c.self.view_is)
+    (subst (λ (v : SessionParts). group_refusal v.seen.transaction (Some c.args.home.group) ≡ None) (sym c.self.view_is)
     c.requires.allowed) in
-    let asked = asked_at had c.make_room.new.self.transaction c.self.inside.seen c.self.inside.pass p c.touch_place-at.result c.args.group
+    let asked = asked_at had c.make_room.new.self.transaction c.self.inside.seen c.self.inside.pass p c.touch_place-at.result
+    c.args.home.group
     (root_of ancestor) c.make_room.ensures.same of.2 within c.touch_place-at.ensures.stands in
     let numbered = c.requires.shard ∙ ap (λ k. shard_of k c.args.store.now.shards) of.2 in
     let later = within_same had had c.self.inside.seen c.self.inside.pass p refl c.touch_place-at.ensures.read within in
     told_from _ _ _ _ _ _ c.self.view_is _ _ _ _ _
     (said_after g.J.Names.definitions c.args.store.now.shards _ c.self.inside.pass p q _ _ _ _ c.touch_place-at.ensures.read
-    (group_said g.J.Names.definitions c.args.store.now.shards g.J.Names.window c.args.number
-    (record { client = c.args.self.now.client; call = call }) search is (with_transaction had c.self.inside.seen) n c.args.ready.now.window
+    (group_said g.J.Names.definitions c.args.store.now.shards g.J.Names.window c.args.to.number
+    (record { client = c.args.self.now.client; call = call }) search is (with_transaction had c.self.inside.seen) n
+    c.args.prepared.now.ready.window
     ready c.requires.lawful p q ancestor c.touch_place-at.result later of.1 allowed asked c.in-Ok.answer.results
     c.in-Ok.answer.next c.in-Ok.answer.seen c.in-Ok.answer.beside c.in-Ok-place_body.read.place
     c.in-Ok-place_body.ensures.place found))
-    (read_seen c.args.store.now.shards c.args.group (root_of ancestor) c.in-Ok-place_body.read.place c.args.shard
+    (read_seen c.args.store.now.shards c.args.home.group (root_of ancestor) c.in-Ok-place_body.read.place c.args.home.shard
     c.in-Ok.answer.beside c.self.inside.seen c.see_place.new.self c.see_entries.new.self had c.make_room.new.self.transaction
     c.touch.new.self.transaction of.2 c.make_room.ensures.same numbered c.touch.ensures c.see_place.ensures
-    (c.see_entries.ensures ∙ ap (λ k. saw_entries c.args.shard k c.see_place.new.self) c.in-Ok-place_body.ensures.entries))
+    (c.see_entries.ensures ∙ ap (λ k. saw_entries c.args.home.shard k c.see_place.new.self) c.in-Ok-place_body.ensures.entries))
     refl
     (c.tell.ensures.told c.if-not-tell.false ∙ ap (λ b. c.self.inside.text.bytes ++ reply_text (record {
       client = c.self.inside.client;
-      line = c.args.number;
+      line = c.args.to.number;
       body = b;
     })) c.in-Ok-place_body.ensures.body) c.tell.ensures.kept
 
 pub returns-else-not-tell-clause-steps : goal.returns-else-not-tell-clause-steps
 returns-else-not-tell-clause-steps g c = λ call is.
-    let n = c.args.ready.now.normal in
-    let of = ancestor_under c.args.search.now.query.ancestor c.args.group c.requires.under in
+    let n = c.args.prepared.now.ready.normal in
+    let of = ancestor_under c.args.prepared.now.search.query.ancestor c.args.home.group c.requires.under in
     let ancestor = of.0 in
-    let search = c.args.search.now in
+    let search = c.args.prepared.now.search in
     let under = ancestor_is search n c.requires.ready.normal_is c.requires.lawful ∙ of.1 in
     let found = c.in-Ok.ensures.found ancestor under in
     let answer = c.in-Ok.answer in
-    found_steps_from g.J.Names.definitions c.args.store.now.shards g.J.Names.window c.args.number
-    (record { client = c.args.self.now.client; call = call }) search is c.args.self.now.seen n c.args.ready.now.window c.requires.ready
+    found_steps_from g.J.Names.definitions c.args.store.now.shards g.J.Names.window c.args.to.number
+    (record { client = c.args.self.now.client; call = call }) search is c.args.self.now.seen n c.args.prepared.now.ready.window
+    c.requires.ready
     c.requires.lawful _ _ _ c.self.view_is _ _ answer.results answer.seen _ _
     (group_shards g.J.Names.definitions g.J.Names.window c.args.store.now.shards c.touch_place-at.new.pass
-    c.strong_query_planned-asked.new.pass search.query.ancestor ancestor c.touch_place-at.result n c.args.ready.now.window answer.results
+    c.strong_query_planned-asked.new.pass search.query.ancestor ancestor c.touch_place-at.result n c.args.prepared.now.ready.window
+    answer.results
     answer.next answer.seen answer.beside of.1 found)
     (c.tell.ensures.told c.if-not-tell.false ∙ ap (λ b. c.self.inside.text.bytes ++ reply_text (record {
       client = c.self.inside.client;
-      line = c.args.number;
+      line = c.args.to.number;
       body = b;
     })) c.in-Ok-place_body.ensures.body) (c.in-Ok.ensures.steps_bounded ancestor under)
 
 pub expire-requires-clause-inside : goal.expire-requires-clause-inside
 expire-requires-clause-inside g c =
-    let of = ancestor_under c.args.search.now.query.ancestor c.args.group c.requires.under in
+    let of = ancestor_under c.args.prepared.now.search.query.ancestor c.args.home.group c.requires.under in
     let ancestor = of.0 in
-    let under = ancestor_is c.args.search.now c.args.ready.now.normal c.requires.ready.normal_is c.requires.lawful ∙ of.1 in
+    let under = ancestor_is c.args.prepared.now.search c.args.prepared.now.ready.normal c.requires.ready.normal_is c.requires.lawful ∙
+    of.1 in
     let gone = subst (λ e. WhereExpired (λ x. IsExpired c.args.store.now.shards g.J.Names.window c.touch_place-at.new.pass
     c.strong_query_planned-asked.new.pass (root_of ancestor) c.touch_place-at.result x.snapshot x.applied x.commit) e)
     c.in-Expired.is (c.in-Err.ensures.expired ancestor under) in
@@ -162,10 +172,10 @@ returns-in-NoMemory-clause-replied g c = λ call is.
 
 pub returns-in-Expired-clause-replied : goal.returns-in-Expired-clause-replied
 returns-in-Expired-clause-replied g c = λ call is.
-    let n = c.args.ready.now.normal in
-    let of = ancestor_under c.args.search.now.query.ancestor c.args.group c.requires.under in
+    let n = c.args.prepared.now.ready.normal in
+    let of = ancestor_under c.args.prepared.now.search.query.ancestor c.args.home.group c.requires.under in
     let ancestor = of.0 in
-    let search = c.args.search.now in
+    let search = c.args.prepared.now.search in
     let shards = c.args.store.now.shards in
     let under = ancestor_is search n c.requires.ready.normal_is c.requires.lawful ∙ of.1 in
     let had = c.self.inside.transaction.transaction in
@@ -176,11 +186,11 @@ returns-in-Expired-clause-replied g c = λ call is.
     let expired = c.in-Expired.expired in
     let within = within_parts _ _ c.self.view_is c.requires.within in
     let ready = subst (λ (v : SessionParts). IsReady g.J.Names.definitions (is_some v.seen.transaction) (search_parts search) n
-    c.args.ready.now.window) (sym c.self.view_is) c.requires.ready in
+    c.args.prepared.now.ready.window) (sym c.self.view_is) c.requires.ready in
     let allowed = subst (λ k. group_refusal had (Some k) ≡ None) of.2
-    (subst (λ (v : SessionParts). group_refusal v.seen.transaction (Some c.args.group) ≡ None) (sym c.self.view_is)
+    (subst (λ (v : SessionParts). group_refusal v.seen.transaction (Some c.args.home.group) ≡ None) (sym c.self.view_is)
     c.requires.allowed) in
-    let asked = asked_at had has c.self.inside.seen c.self.inside.pass p at c.args.group
+    let asked = asked_at had has c.self.inside.seen c.self.inside.pass p at c.args.home.group
     (root_of ancestor) c.make_room.ensures.same of.2 within c.touch_place-at.ensures.stands in
     let numbered = c.requires.shard ∙ ap (λ k. shard_of k c.args.store.now.shards) of.2 in
     let later = within_same had had c.self.inside.seen c.self.inside.pass p refl c.touch_place-at.ensures.read within in
@@ -194,18 +204,19 @@ returns-in-Expired-clause-replied g c = λ call is.
     (within_same had has c.self.inside.seen c.self.inside.pass c.self.inside.pass c.make_room.ensures.same (read_itself _) within) h
     gone.inside
     (expired_commit g.J.Names.definitions shards g.J.Names.window (with_transaction had c.self.inside.seen) c.self.inside.pass p q
-    (root_of ancestor) at expired.snapshot expired.applied expired.commit c.args.shard numbered gone)
-    (gone_told g.J.Names.definitions shards g.J.Names.window c.args.number (record { client = c.args.self.now.client; call = call }) search
-    is (with_transaction had c.self.inside.seen) n c.args.ready.now.window ready c.requires.lawful p q ancestor at later of.1
-    allowed asked c.self.inside.pass has c.self.inside.seen c.args.shard expired.snapshot expired.applied expired.commit
+    (root_of ancestor) at expired.snapshot expired.applied expired.commit c.args.home.shard numbered gone)
+    (gone_told g.J.Names.definitions shards g.J.Names.window c.args.to.number (record { client = c.args.self.now.client; call = call })
+    search
+    is (with_transaction had c.self.inside.seen) n c.args.prepared.now.ready.window ready c.requires.lawful p q ancestor at later of.1
+    allowed asked c.self.inside.pass has c.self.inside.seen c.args.home.shard expired.snapshot expired.applied expired.commit
     c.touch_place-at.ensures.read same numbered inside gone))
 
 pub returns-in-Expired-clause-steps : goal.returns-in-Expired-clause-steps
 returns-in-Expired-clause-steps g c = λ call is.
-    let n = c.args.ready.now.normal in
-    let of = ancestor_under c.args.search.now.query.ancestor c.args.group c.requires.under in
+    let n = c.args.prepared.now.ready.normal in
+    let of = ancestor_under c.args.prepared.now.search.query.ancestor c.args.home.group c.requires.under in
     let ancestor = of.0 in
-    let search = c.args.search.now in
+    let search = c.args.prepared.now.search in
     let shards = c.args.store.now.shards in
     let under = ancestor_is search n c.requires.ready.normal_is c.requires.lawful ∙ of.1 in
     let p = c.touch_place-at.new.pass in
@@ -213,13 +224,13 @@ returns-in-Expired-clause-steps g c = λ call is.
     let at = c.touch_place-at.result in
     let expired = c.in-Expired.expired in
     let steps = c.strong_query_planned-asked.new.steps in
-    let w = c.args.ready.now.window in
+    let w = c.args.prepared.now.ready.window in
     let gone = subst (λ e. WhereExpired (λ x. IsExpired shards g.J.Names.window p q (root_of ancestor) at x.snapshot x.applied x.commit) e)
     c.in-Expired.is (c.in-Err.ensures.expired ancestor under) in
     let bound = subst (λ e. WhereExpired (λ x. steps ≤ c.args.steps.now + search_bound n w (most_of n w)
     (snapshot_of g.J.Names.definitions g.J.Names.window (list_of q.lists (shard_of (root_of ancestor) shards)) x.snapshot ∷ [])) e)
     c.in-Expired.is (c.in-Err.ensures.steps_gone ancestor under) in
-    gone_steps_from g.J.Names.definitions shards g.J.Names.window c.args.number (record { client = c.args.self.now.client; call = call })
+    gone_steps_from g.J.Names.definitions shards g.J.Names.window c.args.to.number (record { client = c.args.self.now.client; call = call })
     search is c.args.self.now.seen n w c.requires.ready c.requires.lawful _ _ _ c.self.view_is _ _ p q ancestor at expired.snapshot
     expired.applied expired.commit of.1 (c.expire.ensures.pass gone.place gone.inside) gone
     (c.expire.ensures.says gone.place gone.inside) bound

@@ -17,7 +17,7 @@ pub get_in-requires-clause-shard : goal.get_in-requires-clause-shard
 get_in-requires-clause-shard g c = c.in-Ok.ensures.shard ∙ ap (shard_of (root_of c.args.key.now)) c.shards.ensures.value
 
 pub get_in-requires-clause-below : goal.get_in-requires-clause-below
-get_in-requires-clause-below g c = subst (λ n. c.in-Ok.shard < n) c.shards.ensures.value c.in-Ok.ensures.below
+get_in-requires-clause-below g c = subst (λ n. c.in-Ok.home.shard < n) c.shards.ensures.value c.in-Ok.ensures.below
 
 pub returns-then-not-tell : goal.returns-then-not-tell
 returns-then-not-tell g c =
@@ -49,8 +49,8 @@ say_no_memory-requires-in-Err-NoMemory-clause-within g c =
 pub returns-else-not-tell : goal.returns-else-not-tell
 returns-else-not-tell g c =
     let group = root_of c.args.key.now in
-    let named : c.in-Ok.group ≡ group = c.in-Ok.ensures.group in
-    let numbered : c.in-Ok.shard ≡ shard_of group c.args.store.now.shards =
+    let named : c.in-Ok.home.group ≡ group = c.in-Ok.ensures.group in
+    let numbered : c.in-Ok.home.shard ≡ shard_of group c.args.store.now.shards =
     c.in-Ok.ensures.shard ∙ ap (shard_of group) c.shards.ensures.value in
     let within = within_parts _ _ c.self.view_is c.requires.within in
     let is = c.in-Ok-get_in.ensures.got in
@@ -60,20 +60,20 @@ returns-else-not-tell g c =
     c.args.key.now c.touch_place-at.result within
     (unrefused_parts g.J.Names.definitions _ _ (call.Get c.args.key.now) c.self.view_is c.requires.unrefused) c.touch_place-at.ensures.read
     (asked_at c.self.inside.transaction.transaction c.make_room.new.self.transaction c.self.inside.seen c.self.inside.pass
-    c.touch_place-at.new.pass c.touch_place-at.result c.in-Ok.group group c.make_room.ensures.same named within
+    c.touch_place-at.new.pass c.touch_place-at.result c.in-Ok.home.group group c.make_room.ensures.same named within
     c.touch_place-at.ensures.stands)
     c.in-Ok-get_in.got.entity c.in-Ok-get_in.got.place c.in-Ok-get_in.got.entries is refl
     (group_seen w c.self.inside.seen c.see_entries.new.self c.self.inside.transaction.transaction c.touch.new.self.transaction
-    c.make_room.new.self.transaction c.in-Ok.group group c.in-Ok-get_in.got.place c.in-Ok.shard c.in-Ok-get_in.got.entries
+    c.make_room.new.self.transaction c.in-Ok.home.group group c.in-Ok-get_in.got.place c.in-Ok.home.shard c.in-Ok-get_in.got.entries
     c.make_room.ensures.same named numbered is.read.entries_are c.touch.ensures
-    (c.see_entries.ensures ∙ ap (saw_entries c.in-Ok.shard c.in-Ok-get_in.got.entries) c.see_place.ensures))
+    (c.see_entries.ensures ∙ ap (saw_entries c.in-Ok.home.shard c.in-Ok-get_in.got.entries) c.see_place.ensures))
     (c.tell.ensures.told c.if-not-tell.false) c.tell.ensures.kept)
 
 pub returns-in-Err-Expired : goal.returns-in-Err-Expired
 returns-in-Err-Expired g c =
     let group = root_of c.args.key.now in
-    let named : c.in-Ok.group ≡ group = c.in-Ok.ensures.group in
-    let numbered : c.in-Ok.shard ≡ shard_of group c.args.store.now.shards =
+    let named : c.in-Ok.home.group ≡ group = c.in-Ok.ensures.group in
+    let numbered : c.in-Ok.home.shard ≡ shard_of group c.args.store.now.shards =
     c.in-Ok.ensures.shard ∙ ap (shard_of group) c.shards.ensures.value in
     let has = c.make_room.new.self.transaction in
     let seen = c.self.inside.seen in
@@ -92,9 +92,9 @@ returns-in-Err-Expired g c =
     (c.expire.ensures.replied c.self.inside.pass is.place _ _ within
     (read_through c.self.inside.pass p c.get_in.new.pass c.touch_place-at.ensures.read c.in-Err-Expired.ensures.read) is.inside
     (expired_commit g.J.Names.definitions c.args.store.now.shards g.J.Names.window (with_transaction has seen) c.self.inside.pass p
-    c.get_in.new.pass group c.touch_place-at.result x.snapshot x.applied x.commit c.in-Ok.shard numbered is)
+    c.get_in.new.pass group c.touch_place-at.result x.snapshot x.applied x.commit c.in-Ok.home.shard numbered is)
     (expired_said g.J.Names.definitions c.args.store.now.shards g.J.Names.window (with_transaction has seen) c.self.inside.pass p
-    c.get_in.new.pass group c.touch_place-at.result x.snapshot x.applied x.commit c.in-Ok.shard numbered is c.args.self.now.client
+    c.get_in.new.pass group c.touch_place-at.result x.snapshot x.applied x.commit c.in-Ok.home.shard numbered is c.args.self.now.client
     c.args.key.now refl within c.touch_place-at.ensures.read unrefused c.touch_place-at.ensures.inside asked))
 
 pub returns-in-Err-NoMemory : goal.returns-in-Err-NoMemory

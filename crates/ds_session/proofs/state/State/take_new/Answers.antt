@@ -1,4 +1,4 @@
-use Rattle.std.proofs.Common.{◌≡◌, ℕ, List, ◌++◌, refl, ap, sym, ◌∙◌, subst, None}
+use Rattle.std.proofs.Common.{◌≡◌, ℕ, List, ◌++◌, refl, ap, arith, sym, ◌∙◌, subst, None}
 use Rattle.std.specs.Prelude.{IsTrue, is_some, true, unwrap_or}
 use Rattle.ds_base.specs.declared.key.Elem.{Elem}
 use Rattle.ds_entity.specs.Entities.{EntityParts}
@@ -13,6 +13,7 @@ use Rattle.ds_model.specs.Groups.{place_in, with_transaction}
 use Rattle.ds_model.specs.Refusals.{refusal_of}
 use Rattle.ds_model.specs.Sessions.{next_above}
 use Rattle.ds_protocol.specs.Transactions.{MayWrite}
+use Rattle.ds_output.specs.Room.{HasRoomToTell}
 use Rattle.ds_session.specs.Sessions.{SessionParts}
 use Rattle.ds_session.proofs.GrowthLaws.{read_itself, read_through}
 use Rattle.ds_session.proofs.IdLaws.{read_next}
@@ -45,6 +46,14 @@ say_next-requires-clause-within g c =
     (read_next c.touch-looked.new.pass c.issue.new.pass c.in-Err.refused.next c.in-Err.ensures.exhausted.0) in
     within_same c.self.inside.transaction.transaction c.prepare_new.new.transaction.transaction c.self.inside.seen c.self.inside.pass
     c.issue.new.pass c.prepare_new.ensures.same h (within_parts _ _ c.self.view_is c.requires.within)
+
+pub tell_last-requires : goal.tell_last-requires
+tell_last-requires g c =
+    let id = c.in-Ok-issue.id in
+    let place = c.place_or-place.result in
+    let key = c.numbered-entity.ensures.key ∙ ap (λ (e : EntityParts). renumbered e.key id) c.in-Ok.ensures.entity in
+    subst (λ (k : KeyParts). HasRoomToTell (body.Put k (at.Place place)) c.args.keep c.prepare_new.new.text.spare) (sym key)
+    (c.in-Ok.ensures.suffices id (at.Place place) (omega arith) (omega arith))
 
 pub returns-in-Ok-issue : goal.returns-in-Ok-issue
 returns-in-Ok-issue g c =

@@ -4,10 +4,15 @@ use Rattle.ds_model.specs.Answers.{commit_of}
 use Rattle.ds_model.specs.Groups.{with_transaction}
 use Rattle.ds_model.specs.Sessions.{Session, Transaction}
 use Rattle.ds_store.specs.Answered.{IsAppended}
+use Rattle.ds_output.specs.Room.{HasRoomForCommit}
 use Rattle.ds_session.specs.Sessions.{SessionParts}
 use Rattle.ds_session.proofs.StateLaws.{told_from, unrefused_parts, within_parts}
 use Rattle.ds_session.proofs.TransactionLaws.{committed}
 use Rattle.ds_session.proofs.state.State.tell_commit.Goals as goal
+
+pub tell_last-requires : goal.tell_last-requires
+tell_last-requires g c =
+    subst (λ (v : SessionParts). HasRoomForCommit c.args.keep v.room) (sym c.self.view_is) c.requires c.args.commit c.ranges.commit.fits
 
 pub returns : goal.returns
 returns g c = λ p t shards within inside unrefused done.
