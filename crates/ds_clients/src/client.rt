@@ -13,7 +13,7 @@ use ds_indexdef::Defs;
 use ds_io::{Gate, Steps};
 use ds_protocol::Watermark;
 use ds_session::Session;
-use ds_store::{Names, Pass, Store};
+use ds_store::{Ledgers, Names, Pass, Store};
 use std::marker::{Brand, Model};
 use std::sync::Wait;
 use std::sync::ledger::{Blank, Ledger};
@@ -29,6 +29,8 @@ pub struct Client<J: Names> {
     session: Session<J>,
     missed: Missed,
     own: Vec<Asked>,
+    /// On one of these the steps count that its lines take.
+    ledgers: Ledgers<J>,
 }
 
 impl<J: Names> Model for Client<J> {
@@ -44,7 +46,7 @@ impl<J: Names> Model for Client<J> {
 
 impl<J: Names> Client<J> {
     /// A client without lines, whose session has missed nothing.
-    pub(crate) fn new(session: Session<J>, missed: Missed) -> Client<J>
+    pub(crate) fn new(session: Session<J>, missed: Missed, ledgers: Ledgers<J>) -> Client<J>
         requires { missed ≡ nothing_seen (length session.seen.counts) }
         ensures session { result.session ≡ session }
         ensures own { result.own ≡ [] }
@@ -54,6 +56,7 @@ impl<J: Names> Client<J> {
             session,
             missed,
             own,
+            ledgers,
         }
     }
 
@@ -139,13 +142,14 @@ impl<J: Names> Client<J> {
             session,
             missed: _missed,
             own: _own,
+            ledgers: _ledgers,
         } = self;
         session.end()
     }
 
-    /// The client over another store, with a pass of it that has seen no less than its session's; and the pass that this one had. It takes
-    /// no memory.
-    pub(crate) fn moved<K: Names>(self, pass: Pass<K>) -> (Client<K>, Pass<J>)
+    /// The client over another store, with ledgers of it, and a pass that has seen no less than its session's; and the pass that this one
+    /// had. It takes no memory.
+    pub(crate) fn moved<K: Names>(self, pass: Pass<K>, ledgers: Ledgers<K>) -> (Client<K>, Pass<J>)
         requires { IsNoLower self.session.pass pass }
         ensures session { result.0.session ≡ record self.session { pass = pass } }
         ensures old { result.1 ≡ self.session.pass }
@@ -154,12 +158,14 @@ impl<J: Names> Client<J> {
             session,
             missed,
             own,
+            ledgers: _ledgers,
         } = self;
         let (session, old) = session.moved(pass);
         let client = Client {
             session,
             missed,
             own,
+            ledgers,
         };
         (client, old)
     }
@@ -179,7 +185,7 @@ impl<J: Names> Client<J> {
         let own = std::mem::replace(&mut self.own, Vec::new(self.session.alloc()));
         self.missed.pass_on(rt, store, &mut self.session);
         answer_own::<J, R, H, G, Brand>(
-            Blank::new(1),
+            self.ledgers.blank(),
             rt,
             store,
             defs,
@@ -203,6 +209,7 @@ fn answer_own<J: Names, R: Threads + Wait + Sync, H: Wait + Drop, G: Gate, L: Le
     requires name { blank.name ≡ L.name }
     requires parts { blank.parts ≡ L.parts }
     requires counts { 0 < blank.parts }
+    requires ledger { L.parts ≡ J.ledger }
     requires ready { IsReady store.now.shards session.old own.items }
     requires definitions { defs.now ≡ J.definitions }
     ensures { HasAnsweredOwn J.definitions store.now.shards (Some J.window) session.old own.items session.new }

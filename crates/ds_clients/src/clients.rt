@@ -24,7 +24,7 @@ use ds_output::Texts;
 use ds_protocol::Watermark;
 use ds_rounds::Round;
 use ds_session::Session;
-use ds_store::{Names, Pass};
+use ds_store::{Ledgers, Names, Pass};
 use std::alloc::{AllocError, Global};
 
 /// How many clients there are.
@@ -61,6 +61,7 @@ pub(crate) fn seated<J: Names>(
     seen: Vec<Watermark>,
     missed: Vec<Missed>,
     passes: &mut Vec<Pass<J>>,
+    ledgers: &Ledgers<J>,
 ) -> Vec<Client<J>>
     requires seen { seen.items ≡ first_sessions shards }
     requires missed { All (λ m. m ≡ no_counts shards) missed.items × (vec_len missed ≡ greatest_client + 1) }
@@ -77,7 +78,7 @@ pub(crate) fn seated<J: Names>(
     for mark in seen {
         let session = Session::first(alloc, passes.take_last(), client, mark);
         let none = missed.take_last();
-        clients.push_reserved(Client::new(session, none));
+        clients.push_reserved(Client::new(session, none, ledgers.again()));
         client += 1;
     }
     clients

@@ -10,7 +10,7 @@ ghost use Rattle.ds_store.specs.Passes.{HasRead};
 use crate::client::Client;
 use crate::clients::CLIENTS;
 use crate::rounds::Sessions;
-use ds_store::{Names, Pass, Store};
+use ds_store::{Ledgers, Names, Pass, Store};
 use std::sync::Wait;
 
 impl<J: Names> Sessions<J> {
@@ -24,12 +24,14 @@ impl<J: Names> Sessions<J> {
     }
 
     /// The sessions over another store: each takes the last of its passes that is left, all of which have done nothing and have seen no
-    /// less than the pass that the session had. Open transactions go on. The passes that they had are put behind `old`, which has room for
-    /// them. A refusal means out of memory, changes neither list, and hands the sessions back.
+    /// less than the pass that the session had, and its lines count on these ledgers of that store. Open transactions go on. The passes
+    /// that they had are put behind `old`, which has room for them. A refusal means out of memory, changes neither list, and hands the
+    /// sessions back.
     pub fn moved<K: Names>(
         self,
         passes: &mut Vec<Pass<K>>,
         old: &mut Vec<Pass<J>>,
+        ledgers: &Ledgers<K>,
     ) -> Result<Sessions<K>, Sessions<J>>
         requires many { greatest_client + 1 ≤ vec_len passes.old }
         requires room { vec_len old.old + (greatest_client + 1) ≤ vec_capacity old.old }
@@ -48,7 +50,7 @@ impl<J: Names> Sessions<J> {
         let Ok(room) = Vec::with_capacity(alloc, CLIENTS) else {
             return Err(Sessions { clients, alloc });
         };
-        let clients = moved_clients(room, clients, passes, old);
+        let clients = moved_clients(room, clients, passes, old, ledgers);
         Ok(Sessions { clients, alloc })
     }
 }
@@ -59,6 +61,7 @@ fn moved_clients<J: Names, K: Names>(
     clients: Vec<Client<J>>,
     passes: &mut Vec<Pass<K>>,
     old: &mut Vec<Pass<J>>,
+    ledgers: &Ledgers<K>,
 ) -> Vec<Client<K>>
     requires room { (room.items ≡ []) × (vec_len clients ≤ vec_capacity room) }
     requires many { vec_len clients ≤ vec_len passes.old }
@@ -73,7 +76,7 @@ fn moved_clients<J: Names, K: Names>(
 {
     let mut moved = room;
     for client in clients {
-        let (client, pass) = client.moved(passes.take_last());
+        let (client, pass) = client.moved(passes.take_last(), ledgers.again());
         moved.push_reserved(client);
         old.push_reserved(pass);
     }

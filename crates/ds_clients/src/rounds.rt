@@ -19,7 +19,7 @@ use ds_indexdef::Defs;
 use ds_io::Gate;
 use ds_output::{Unsent, no_texts};
 use ds_rounds::Round;
-use ds_store::{Names, Pass, Store};
+use ds_store::{Ledgers, Names, Pass, Store};
 use std::alloc::Global;
 use std::marker::Model;
 use std::sync::Wait;
@@ -47,11 +47,12 @@ impl<J: Names> Model for Sessions<J> {
 
 impl<J: Names> Sessions<J> {
     /// A session for each client, which has seen nothing. They take the last sixteen of these passes, and leave the others, with the room
-    /// that the passes had. A refusal means out of memory, and leaves all passes.
+    /// that the passes had. The steps that their lines take count on these ledgers. A refusal means out of memory, and leaves all passes.
     pub fn make(
         alloc: Global,
         shards: u32,
         passes: &mut Vec<Pass<J>>,
+        ledgers: &Ledgers<J>,
     ) -> Result<Sessions<J>, NoMemory>
         requires many { greatest_client + 1 ≤ vec_len passes.old }
         requires new { All (λ p. p ≡ nothing_seen shards) passes.old.items }
@@ -64,7 +65,7 @@ impl<J: Names> Sessions<J> {
         let missed = none_missed(alloc, shards)?;
         let clients = Vec::with_capacity(alloc, CLIENTS)?;
         Ok(Sessions {
-            clients: seated(alloc, shards, clients, seen, missed, passes),
+            clients: seated(alloc, shards, clients, seen, missed, passes, ledgers),
             alloc,
         })
     }

@@ -247,6 +247,7 @@ fn move_over<
     let Cut {
         store: second,
         passes: later,
+        ledgers,
         place,
     } = cut;
     let Old {
@@ -257,7 +258,7 @@ fn move_over<
     passes.push_reserved(feeder);
     let mut later = later.into_vec();
     let loader = later.take_last();
-    match sessions.moved(&mut later, &mut passes) {
+    match sessions.moved(&mut later, &mut passes, &ledgers) {
         Ok(sessions) => {
             let _closed = store.close(host.rt, Passes::from(passes));
             run_later(

@@ -55,7 +55,7 @@ pub(crate) fn run_opened<
     output: &mut O,
     gate: &G,
 ) -> KeptRun
-    requires names { AreNamesOf origin.opened J.journal J.shards J.commits J.ids J.definitions J.window }
+    requires names { AreNamesOf origin.opened J.journal J.shards J.commits J.ids J.definitions J.window J.ledger }
     requires begun { AreBegun origin.opened }
     requires passes { greatest_client + 2 ≤ origin.opened.passes }
     requires definitions { origin.defs ≡ origin.opened.definitions }

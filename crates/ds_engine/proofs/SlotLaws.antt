@@ -1,6 +1,6 @@
 -- Slots that are entered and left, and what the newest snapshots of their shards tell.
 use Rattle.std.proofs.Common.{◌≡◌, ℕ, ◌≤◌, Option, Some, List, [], ◌∷◌, length, map, refl, ap, sym, ◌∙◌, subst}
-use Rattle.std.specs.Prelude.{All, max}
+use Rattle.std.specs.Prelude.{All, IfSome, None, fold, max}
 use Rattle.std.proofs.Math.Seq.{take-length}
 use Rattle.std.proofs.lemmas.List.{length-map}
 use Rattle.std.proofs.lemmas.List.Elements.{All-head, All-tail, All-nil, All-cons}
@@ -14,8 +14,8 @@ use Rattle.ds_hub.specs.Holding.{IsFold, Slotted, hub_in, known_in, out_of}
 use Rattle.ds_hub.specs.Logs.{told_by}
 use Rattle.ds_indexdef.specs.declared.IndexDef.{IndexDef}
 use Rattle.ds_log.specs.declared.Entry.{Entry}
-use Rattle.ds_shard.specs.declared.state.ShardState.{ShardState}
-use Rattle.ds_shard.specs.Shards.{EntriesAreKept, ShardParts, absorbed, empty, shard_of_entries}
+use Rattle.ds_shard.specs.Shards.{EntriesAreKept, ShardParts, absorbed, shard_of_entries}
+use Rattle.ds_shard.specs.States.{StateParts, begun, state_after}
 use Rattle.ds_model.specs.Sessions.{counted_place, last_commit}
 use Rattle.ds_model.specs.Views.{global_view}
 use Rattle.ds_engine.specs.Counted.{FindsGlobally, HasBegun, IsCounted, greatest_last}
@@ -36,17 +36,17 @@ module _ {T E S : Type 0} where
   as_many new old same = sym (length-map new hub_in) ∙ ap length same ∙ length-map old hub_in
 
 -- where the hubs are the same they begin as before
-pub begun-same : (definitions : List IndexDef) (kept : ℕ) (old new : List (Slotted ShardParts Entry ShardState))
-    → map hub_in new ≡ map hub_in old → All (HasBegun definitions kept) old → All (HasBegun definitions kept) new
-begun-same definitions kept old [] same all = All-nil (HasBegun definitions kept)
-begun-same definitions kept [] (s ∷ new) same all = absurd (none same) where
+pub begun-same : (ledger : ℕ) (definitions : List IndexDef) (kept : ℕ) (old new : List (Slotted StateParts Entry StateParts))
+    → map hub_in new ≡ map hub_in old → All (HasBegun ledger definitions kept) old → All (HasBegun ledger definitions kept) new
+begun-same ledger definitions kept old [] same all = All-nil (HasBegun ledger definitions kept)
+begun-same ledger definitions kept [] (s ∷ new) same all = absurd (none same) where
   none : hub_in s ∷ map hub_in new ≡ [] → ⊥
   none e = cc
-begun-same definitions kept (o ∷ old) (s ∷ new) same all =
+begun-same ledger definitions kept (o ∷ old) (s ∷ new) same all =
     let first : hub_in s ≡ hub_in o = cc in
     let rest : map hub_in new ≡ map hub_in old = cc in
-    All-cons (HasBegun definitions kept) s new (ap (λ h. h.1) first ∙ All-head (HasBegun definitions kept) o old all)
-    (begun-same definitions kept old new rest (All-tail (HasBegun definitions kept) o old all))
+    All-cons (HasBegun ledger definitions kept) s new (ap (λ h. h.1) first ∙ All-head (HasBegun ledger definitions kept) o old all)
+    (begun-same ledger definitions kept old new rest (All-tail (HasBegun ledger definitions kept) o old all))
 
 -- the counts of the newest snapshots
 pub counts-newest : (definitions : List IndexDef) (kept : ℕ) (lists : List (List Entry))
@@ -72,11 +72,24 @@ definitions-newest law definitions kept some (entries ∷ lists) =
 
 -- ---- what a slot shows
 
-pub fold_is : (definitions : List IndexDef) (kept : ℕ) (start : Option ShardParts) (entries : List Entry) (s : ShardParts)
-    → start ≡ Some (empty definitions kept) → IsFold (told_by (λ (told : Entry). told) absorbed) start entries s
-    → s ≡ shard_of_entries definitions kept entries
-fold_is definitions kept start entries s begun folded =
-    subst (λ o. IsFold (told_by (λ (told : Entry). told) absorbed) o entries s) begun folded
+states_from : (s : StateParts) (entries : List Entry) → fold state_after s entries
+    ≡ record { ledger = s.ledger; shard = fold absorbed s.shard entries }
+states_from s [] = refl
+states_from s (entry ∷ entries) = states_from (state_after s entry) entries
+
+-- the shard of these entries, on the ledgers that it began with
+pub fold_is : (ledger : ℕ) (definitions : List IndexDef) (kept : ℕ) (start : Option StateParts) (entries : List Entry) (s : StateParts)
+    → start ≡ Some (begun ledger definitions kept) → IsFold (told_by (λ (told : Entry). told) state_after) start entries s
+    → s ≡ record { ledger = ledger; shard = shard_of_entries definitions kept entries }
+fold_is ledger definitions kept start entries s begins folded =
+    subst (λ o. IsFold (told_by (λ (told : Entry). told) state_after) o entries s) begins folded
+    ∙ states_from (begun ledger definitions kept) entries
+
+-- a slot that is entered shows a shard on the ledgers with which its hub began
+pub on_ledger : (parts : ℕ) (start : Option StateParts) (entries : List Entry) (s : StateParts) → IfSome start (λ b. b.ledger ≡ parts)
+    → IsFold (told_by (λ (told : Entry). told) state_after) start entries s → parts ≡ s.ledger
+on_ledger parts None entries s begins folded = absurd folded
+on_ledger parts (Some b) entries s begins folded = sym (ap (λ (x : StateParts). x.ledger) (folded ∙ states_from b entries) ∙ begins)
 
 pub window_is : EntriesAreKept → (definitions : List IndexDef) (kept : ℕ) → 1 ≤ kept → (entries : List Entry) (s : ShardParts)
     → s ≡ shard_of_entries definitions kept entries → 1 ≤ s.window

@@ -11,17 +11,17 @@ use Rattle.ds_hub.specs.Growing.{AreLonger}
 use Rattle.ds_hub.specs.Holding.{Slotted}
 use Rattle.ds_log.specs.declared.Commit.{Commit}
 use Rattle.ds_log.specs.declared.Entry.{Entry}
-use Rattle.ds_shard.specs.declared.state.ShardState.{ShardState}
-use Rattle.ds_shard.specs.Shards.{ShardParts, empty}
+use Rattle.ds_shard.specs.States.{StateParts, begun}
 use Rattle.ds_model.specs.Sessions.{counted_place}
 use Rattle.ds_model.specs.Views.{global_view}
 use Rattle.ds_model.specs.Worlds.{shard_lists}
 use Rattle.ds_engine.specs.Searches.{IsResultOf}
 use Rattle.ds_engine.specs.Snapshots.{SnapshotParts}
 
--- the slot is of a hub that begins with a shard that has absorbed nothing, with these definitions and so many stamps kept
-abbrev pub HasBegun : List IndexDef → ℕ → Slotted ShardParts Entry ShardState → Type 0
-HasBegun definitions kept slot = slot.start ≡ Some (empty definitions kept)
+-- The slot is of a hub that begins with a shard that has absorbed nothing, with these definitions and so many stamps kept, which is read on
+-- ledgers of so many parts.
+abbrev pub HasBegun : ℕ → List IndexDef → ℕ → Slotted StateParts Entry StateParts → Type 0
+HasBegun ledger definitions kept slot = slot.start ≡ Some (begun ledger definitions kept)
 
 -- the greatest commit of the last entries
 abbrev pub greatest_last : List SnapshotParts → ℕ

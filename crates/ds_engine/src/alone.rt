@@ -28,7 +28,7 @@ use std::sync::ledger::Ledger;
 /// before the offset are counted and not kept. A refusal means out of memory.
 pub(crate) fn page_alone<L: Ledger>(
     alloc: Global,
-    snapshot: &ShardSnapshot<'_>,
+    snapshot: &ShardSnapshot<'_, L>,
     normal: &Normal,
     window: &Window,
     defs: &Defs,
@@ -55,7 +55,7 @@ pub(crate) fn page_alone<L: Ledger>(
 /// The first results of the branch in the shard, those behind the first `skip`, and if asked for the places of all.
 pub(crate) fn rows_behind<L: Ledger>(
     alloc: Global,
-    snapshot: &ShardSnapshot<'_>,
+    snapshot: &ShardSnapshot<'_, L>,
     window: &Window,
     defs: &Defs,
     branch: &Branch,

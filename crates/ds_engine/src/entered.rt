@@ -1,20 +1,25 @@
 //! Shards that a reader has entered.
-ghost use Rattle.std.specs.Prelude.{IfOk};
-ghost use Rattle.ds_hub.specs.Holding.{IsFold};
-ghost use Rattle.ds_hub.specs.Logs.{told_by};
-ghost use Rattle.ds_log.specs.declared.Entry.{Entry};
-ghost use Rattle.ds_shard.specs.Shards.{absorbed};
+ghost use Rattle.std.specs.Prelude.{◌≡◌, ℕ, List, IfOk, IfSome};
+ghost use Rattle.ds_indexdef.specs.declared.IndexDef.{IndexDef};
+ghost use Rattle.ds_shard.specs.Shards.{shard_of_entries};
+ghost use Rattle.ds_engine.specs.Counted.{HasBegun};
 
 use ds_base::NoMemory;
 use ds_hub::Slot;
 use ds_log::Entry;
-use ds_shard::ShardState;
+use ds_shard::{ShardState, ShardTables};
 use std::alloc::AllocError;
+use std::sync::ledger::Ledger;
 
-/// The shard that a slot has entered: all that is known of it is absorbed. A refusal is that the slot isn't entered, which it is wherever a
-/// store let its reader stand: only the slot knows.
-pub fn state_in(slot: &Slot<Entry, ShardState>) -> Result<&ShardState, NoMemory>
-    ensures { IfOk result (λ state. IsFold (told_by (λ (told : Entry). told) absorbed) slot.now.start slot.now.known state.now.shard) }
+/// The shard that a slot has entered, read on one of its ledgers: all that is known of it is absorbed. A refusal is that the slot isn't
+/// entered, which it is wherever a store let its reader stand: only the slot knows.
+pub fn shard_in<L: Ledger>(slot: &Slot<Entry, ShardState>) -> Result<ShardTables<'_, L>, NoMemory>
+    requires ledger { IfSome slot.now.start (λ begins. begins.ledger ≡ L.parts) }
+    ensures { IfOk result (λ shard. (definitions : List IndexDef) (kept : ℕ) → HasBegun L.parts definitions kept slot.now
+        → shard ≡ shard_of_entries definitions kept slot.now.known) }
 {
-    slot.state().ok_or(AllocError)
+    match slot.state() {
+        Some(state) => Ok(state.tables::<L>()),
+        None => Err(AllocError),
+    }
 }

@@ -7,7 +7,7 @@ ghost use Rattle.ds_engine.specs.Plans.{ArePlansFor};
 ghost use Rattle.ds_engine.specs.Searches.{most_of, search_bound};
 ghost use Rattle.ds_engine.specs.Snapshots.{snapshot_of};
 
-use crate::entered::state_in;
+use crate::entered::shard_in;
 use crate::searching::{Found, search};
 use crate::snapshot::ShardSnapshot;
 use ds_base::NoMemory;
@@ -51,7 +51,7 @@ pub fn query_slot<L: Ledger>(
     requires lawful { IsLawfulNormal normal.now }
     requires placeless { SuitsSeveral normal.now.several window.now }
     requires plans { ArePlansFor defs.now normal.now.branches plans.now }
-    requires begun { HasBegun defs.now kept slot.now }
+    requires begun { HasBegun L.parts defs.now kept slot.now }
     requires kept { 1 ≤ kept }
     requires stamp { stamp ≤ length slot.now.known }
     ensures found { IfOk result (IsGroupFound slot.now.known kept stamp normal.now window.now) }
@@ -59,10 +59,9 @@ pub fn query_slot<L: Ledger>(
         + search_bound normal.now window.now (most_of normal.now window.now) (snapshot_of defs.now kept slot.now.known stamp ∷ []))
         + look_ups_of q.select f) normal.now.branches) }
 {
-    let state = state_in(slot)?;
+    let shard = shard_in::<L>(slot)?;
     entries_are_kept();
-    let shard = &state.shard;
-    match ShardSnapshot::of(shard, stamp, kept) {
+    match ShardSnapshot::of(&shard, stamp, kept) {
         Some(snapshot) => {
             let found = search(alloc, &[snapshot], normal, window, defs, plans, steps)?;
             Ok(GroupFound::There(found))

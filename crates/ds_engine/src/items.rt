@@ -23,7 +23,7 @@ use std::sync::ledger::Ledger;
 /// projected columns. The keys are moved, and an entity shares its properties. A refusal means out of memory.
 pub(crate) fn items<L: Ledger>(
     alloc: Global,
-    snapshots: &[ShardSnapshot<'_>],
+    snapshots: &[ShardSnapshot<'_, L>],
     columns: &Columns,
     select: &Select,
     rows: RowList,
@@ -45,7 +45,7 @@ pub(crate) fn items<L: Ledger>(
 
 fn item<L: Ledger>(
     alloc: Global,
-    snapshots: &[ShardSnapshot<'_>],
+    snapshots: &[ShardSnapshot<'_, L>],
     columns: &Columns,
     select: &Select,
     row: Row,
@@ -75,7 +75,7 @@ fn item<L: Ledger>(
 /// The entity of a key in the shard of its group.
 fn entity<L: Ledger>(
     alloc: Global,
-    snapshots: &[ShardSnapshot<'_>],
+    snapshots: &[ShardSnapshot<'_, L>],
     key: &Key,
     steps: &mut Steps<L>,
 ) -> Result<Option<Entity>, NoMemory>

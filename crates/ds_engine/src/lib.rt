@@ -36,7 +36,7 @@ mod wide;
 
 pub use answer::Answer;
 pub use ds_branch::EngineRefused;
-pub use entered::state_in;
+pub use entered::shard_in;
 pub use group::{GroupFound, query_slot};
 pub use planning::plans_of;
 pub use searching::{Found, search};

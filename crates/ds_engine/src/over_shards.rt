@@ -30,7 +30,7 @@ use std::sync::ledger::Ledger;
 /// put in order, and the rows of the page alone are read. A refusal means out of memory.
 pub(crate) fn page_over_shards<L: Ledger>(
     alloc: Global,
-    snapshots: &[ShardSnapshot<'_>],
+    snapshots: &[ShardSnapshot<'_, L>],
     normal: &Normal,
     window: &Window,
     defs: &Defs,

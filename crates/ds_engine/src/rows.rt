@@ -22,7 +22,7 @@ use std::sync::ledger::Ledger;
 /// query, each with its place there. A refusal means out of memory.
 pub(crate) fn put_shard_rows<L: Ledger>(
     alloc: Global,
-    snapshot: &ShardSnapshot<'_>,
+    snapshot: &ShardSnapshot<'_, L>,
     normal: &Normal,
     window: &Window,
     defs: &Defs,
@@ -75,7 +75,7 @@ pub(crate) fn put_rows(list: RowList, rows: &mut Vec<Row>) -> Result<(), NoMemor
 /// What a branch gives of a shard.
 fn branch_rows<L: Ledger>(
     alloc: Global,
-    snapshot: &ShardSnapshot<'_>,
+    snapshot: &ShardSnapshot<'_, L>,
     normal: &Normal,
     window: &Window,
     defs: &Defs,

@@ -42,7 +42,7 @@ pub struct Found {
 /// refusal means out of memory.
 pub fn search<L: Ledger>(
     alloc: Global,
-    snapshots: &[ShardSnapshot<'_>],
+    snapshots: &[ShardSnapshot<'_, L>],
     normal: &Normal,
     window: &Window,
     defs: &Defs,
@@ -77,7 +77,7 @@ pub fn search<L: Ledger>(
 /// The same of one branch. Over several shards each gives the places of its rows, and the rows of the page alone are read.
 fn search_single<L: Ledger>(
     alloc: Global,
-    snapshots: &[ShardSnapshot<'_>],
+    snapshots: &[ShardSnapshot<'_, L>],
     normal: &Normal,
     window: &Window,
     defs: &Defs,
@@ -108,7 +108,7 @@ fn search_single<L: Ledger>(
 /// The same of one branch over one shard, which gives its results in their order, each once.
 fn search_alone<L: Ledger>(
     alloc: Global,
-    snapshots: &[ShardSnapshot<'_>],
+    snapshots: &[ShardSnapshot<'_, L>],
     normal: &Normal,
     window: &Window,
     defs: &Defs,
@@ -144,7 +144,7 @@ fn search_alone<L: Ledger>(
 /// The page of what the shards gave, and what is told of its rows.
 pub(crate) fn page_of<L: Ledger>(
     alloc: Global,
-    snapshots: &[ShardSnapshot<'_>],
+    snapshots: &[ShardSnapshot<'_, L>],
     normal: &Normal,
     window: &Window,
     rows: Vec<Row>,
@@ -167,7 +167,7 @@ pub(crate) fn page_of<L: Ledger>(
 /// What is told of the rows of a page.
 fn told<L: Ledger>(
     alloc: Global,
-    snapshots: &[ShardSnapshot<'_>],
+    snapshots: &[ShardSnapshot<'_, L>],
     normal: &Normal,
     page: RowPage,
     steps: &mut Steps<L>,
@@ -196,9 +196,9 @@ fn told<L: Ledger>(
 }
 
 /// The page of rows in any order. Where one branch is asked no result is given twice, as each is of one shard.
-fn page_of_all(
+fn page_of_all<L: Ledger>(
     alloc: Global,
-    snapshots: &[ShardSnapshot<'_>],
+    snapshots: &[ShardSnapshot<'_, L>],
     normal: &Normal,
     window: &Window,
     rows: Vec<Row>,

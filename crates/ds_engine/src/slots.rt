@@ -23,7 +23,8 @@ use ds_planner::ScanPlan;
 use ds_query::{Normal, Window};
 use ds_shard::{ShardState, entries_are_kept};
 use std::alloc::{AllocError, Global};
-use std::sync::ledger::Ledger;
+use std::marker::Brand;
+use std::sync::ledger::{Blank, Ledger};
 use std::thread::Threads;
 
 /// Enters all shards, answers a query there, and leaves them. The answer counts all entries that the slots then know. A refusal is want of
@@ -41,7 +42,7 @@ pub fn query_slots<L: Ledger>(
     requires lawful { IsLawfulNormal normal.now }
     requires placeless { SuitsSeveral normal.now.several window.now }
     requires plans { ArePlansFor defs.now normal.now.branches plans.now }
-    requires begun { All (HasBegun defs.now kept) slots.old }
+    requires begun { All (HasBegun L.parts defs.now kept) slots.old }
     requires kept { 1 ≤ kept }
     requires some { 1 ≤ length slots.old }
     requires few { length slots.old ≤ most_shards }
@@ -59,7 +60,8 @@ pub fn query_slots<L: Ledger>(
     answer
 }
 
-/// The same, where the shards are scanned at once and no steps are counted.
+/// The same, where the shards are scanned at once and no steps are counted: each scan counts on a ledger of its own, with so many parts as
+/// those of the shards have.
 pub fn query_slots_wide<R: Threads + Sync, G: Gate + Sync>(
     rt: &R,
     alloc: Global,
@@ -70,12 +72,14 @@ pub fn query_slots_wide<R: Threads + Sync, G: Gate + Sync>(
     window: &Window,
     plans: &[ScanPlan],
     gate: &G,
+    ledger: u64,
 ) -> Result<Answer, NoMemory>
     requires lawful { IsLawfulNormal normal.now }
     requires placeless { SuitsSeveral normal.now.several window.now }
     requires plans { ArePlansFor defs.now normal.now.branches plans.now }
-    requires begun { All (HasBegun defs.now kept) slots.old }
+    requires begun { All (HasBegun ledger defs.now kept) slots.old }
     requires kept { 1 ≤ kept }
+    requires ledger { 1 ≤ ledger }
     requires some { 1 ≤ length slots.old }
     requires few { length slots.old ≤ most_shards }
     ensures hubs { map hub_in slots.new ≡ map hub_in slots.old }
@@ -84,7 +88,19 @@ pub fn query_slots_wide<R: Threads + Sync, G: Gate + Sync>(
     ensures found { IfOk result (λ a. FindsGlobally (map known_in slots.new) normal.now window.now a.results a.next) }
 {
     enter(slots)?;
-    let answer = answer_wide(rt, alloc, slots, defs, kept, normal, window, plans, gate);
+    let answer = answer_wide::<Brand, R, G>(
+        Blank::new(ledger),
+        rt,
+        alloc,
+        slots,
+        defs,
+        kept,
+        normal,
+        window,
+        plans,
+        gate,
+        ledger,
+    );
     leave(slots);
     answer
 }
@@ -126,7 +142,7 @@ fn answer<L: Ledger>(
     requires placeless { SuitsSeveral normal.now.several window.now }
     requires plans { ArePlansFor defs.now normal.now.branches plans.now }
     requires inside { All (λ slot. IsTrue (is_inside slot)) slots.now }
-    requires begun { All (HasBegun defs.now kept) slots.now }
+    requires begun { All (HasBegun L.parts defs.now kept) slots.now }
     requires kept { 1 ≤ kept }
     requires some { 1 ≤ length slots.now }
     requires few { length slots.now ≤ most_shards }
@@ -150,7 +166,8 @@ fn answer<L: Ledger>(
     counted(alloc, snapshots.as_slice(), found)
 }
 
-fn answer_wide<R: Threads + Sync, G: Gate + Sync>(
+fn answer_wide<L: Ledger + Send + Sync, R: Threads + Sync, G: Gate + Sync>(
+    blank: Blank,
     rt: &R,
     alloc: Global,
     slots: &[Slot<Entry, ShardState>],
@@ -160,18 +177,23 @@ fn answer_wide<R: Threads + Sync, G: Gate + Sync>(
     window: &Window,
     plans: &[ScanPlan],
     gate: &G,
+    ledger: u64,
 ) -> Result<Answer, NoMemory>
+    requires name { blank.name ≡ L.name }
+    requires parts { blank.parts ≡ L.parts }
+    requires ledger { (ledger ≡ L.parts) × (1 ≤ ledger) }
     requires lawful { IsLawfulNormal normal.now }
     requires placeless { SuitsSeveral normal.now.several window.now }
     requires plans { ArePlansFor defs.now normal.now.branches plans.now }
     requires inside { All (λ slot. IsTrue (is_inside slot)) slots.now }
-    requires begun { All (HasBegun defs.now kept) slots.now }
+    requires begun { All (HasBegun L.parts defs.now kept) slots.now }
     requires kept { 1 ≤ kept }
     requires some { 1 ≤ length slots.now }
     requires few { length slots.now ≤ most_shards }
     ensures counted { IfOk result (λ a. IsCounted (map known_in slots.now) a.seen a.beside) }
     ensures found { IfOk result (λ a. FindsGlobally (map known_in slots.now) normal.now window.now a.results a.next) }
 {
+    let mut steps = Steps::<L>::new(blank);
     let snapshots = snapshots_of(alloc, slots, defs, kept)?;
     entries_are_kept();
     let found = search_wide(
@@ -183,19 +205,21 @@ fn answer_wide<R: Threads + Sync, G: Gate + Sync>(
         defs,
         plans,
         gate,
+        ledger,
+        &mut steps,
     )?;
     counted(alloc, snapshots.as_slice(), found)
 }
 
 /// The shards that are entered, each with all that it has absorbed. A refusal means out of memory.
-fn snapshots_of<'a>(
+fn snapshots_of<'a, L: Ledger>(
     alloc: Global,
     slots: &'a [Slot<Entry, ShardState>],
     defs: &Defs,
     kept: u64,
-) -> Result<Vec<ShardSnapshot<'a>>, NoMemory>
+) -> Result<Vec<ShardSnapshot<'a, L>>, NoMemory>
     requires inside { All (λ slot. IsTrue (is_inside slot)) slots.now }
-    requires begun { All (HasBegun defs.now kept) slots.now }
+    requires begun { All (HasBegun L.parts defs.now kept) slots.now }
     requires kept { 1 ≤ kept }
     ensures { IfOk result (λ s. s.items ≡ newest defs.now kept (map known_in slots.now)) }
 {
@@ -207,9 +231,13 @@ fn snapshots_of<'a>(
 }
 
 /// A shard that is entered, with all that it has absorbed.
-fn snapshot_of<'a>(slot: &'a Slot<Entry, ShardState>, defs: &Defs, kept: u64) -> ShardSnapshot<'a>
+fn snapshot_of<'a, L: Ledger>(
+    slot: &'a Slot<Entry, ShardState>,
+    defs: &Defs,
+    kept: u64,
+) -> ShardSnapshot<'a, L>
     requires inside { IsTrue (is_inside slot.now) }
-    requires begun { HasBegun defs.now kept slot.now }
+    requires begun { HasBegun L.parts defs.now kept slot.now }
     requires kept { 1 ≤ kept }
     ensures { result ≡ newest_of defs.now kept slot.now.known }
 {
@@ -217,11 +245,16 @@ fn snapshot_of<'a>(slot: &'a Slot<Entry, ShardState>, defs: &Defs, kept: u64) ->
         unreachable!()
     };
     entries_are_kept();
-    ShardSnapshot::newest(&state.shard)
+    let shard = state.tables::<L>();
+    ShardSnapshot::newest(&shard)
 }
 
 /// What was found, with the counts of the snapshots, and the greatest commit of their last entries.
-fn counted(alloc: Global, snapshots: &[ShardSnapshot<'_>], found: Found) -> Result<Answer, NoMemory>
+fn counted<L: Ledger>(
+    alloc: Global,
+    snapshots: &[ShardSnapshot<'_, L>],
+    found: Found,
+) -> Result<Answer, NoMemory>
     ensures results { IfOk result (λ a. a.results ≡ found.results) }
     ensures next { IfOk result (λ a. a.next ≡ found.next) }
     ensures seen { IfOk result (λ a. a.seen ≡ Seen.Counts (map (λ s. s.stamp) snapshots.now)) }
@@ -236,7 +269,10 @@ fn counted(alloc: Global, snapshots: &[ShardSnapshot<'_>], found: Found) -> Resu
     })
 }
 
-fn counts_of(alloc: Global, snapshots: &[ShardSnapshot<'_>]) -> Result<Counts, NoMemory>
+fn counts_of<L: Ledger>(
+    alloc: Global,
+    snapshots: &[ShardSnapshot<'_, L>],
+) -> Result<Counts, NoMemory>
     ensures { IfOk result (λ counts. counts ≡ map (λ s. s.stamp) snapshots.now) }
 {
     let mut counts = Vec::with_capacity(alloc, snapshots.len())?;
@@ -246,7 +282,7 @@ fn counts_of(alloc: Global, snapshots: &[ShardSnapshot<'_>]) -> Result<Counts, N
     Ok(Counts::from(counts))
 }
 
-fn greatest_last(snapshots: &[ShardSnapshot<'_>]) -> u64
+fn greatest_last<L: Ledger>(snapshots: &[ShardSnapshot<'_, L>]) -> u64
     ensures { result ≡ greatest_last snapshots.now }
 {
     let mut greatest = 0;

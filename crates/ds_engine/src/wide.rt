@@ -26,17 +26,21 @@ use std::thread::{self, Threads};
 type Lane = Option<RowList>;
 
 /// What `search` finds, where each shard is scanned in a thread of its own as far as threads can be made. The gate is called before and
-/// after each shard's scan, with the shard's number and line 0. The steps aren't counted. A refusal means out of memory.
-pub fn search_wide<R: Threads + Sync, G: Gate + Sync>(
+/// after each shard's scan, with the shard's number and line 0. Each scan counts on a ledger of its own, with as many parts as that of the
+/// snapshots; so no steps are told but those of the look-ups. A refusal means out of memory.
+pub fn search_wide<L: Ledger + Send + Sync, R: Threads + Sync, G: Gate + Sync>(
     rt: &R,
     alloc: Global,
-    snapshots: &[ShardSnapshot<'_>],
+    snapshots: &[ShardSnapshot<'_, L>],
     normal: &Normal,
     window: &Window,
     defs: &Defs,
     plans: &[ScanPlan],
     gate: &G,
+    ledger: u64,
+    steps: &mut Steps<L>,
 ) -> Result<Found, NoMemory>
+    requires ledger { (ledger ≡ L.parts) × (1 ≤ ledger) }
     requires lawful { IsLawfulNormal normal.now }
     requires placeless { SuitsSeveral normal.now.several window.now }
     requires some { 1 ≤ length snapshots.now }
@@ -56,10 +60,11 @@ pub fn search_wide<R: Threads + Sync, G: Gate + Sync>(
         defs,
         plans,
         gate,
+        ledger,
         lanes.as_mut_slice(),
     );
     let rows = joined(alloc, snapshots, normal, window, lanes)?;
-    page_uncounted(alloc, snapshots, normal, window, rows)
+    page_of(alloc, snapshots, normal, window, rows, steps)
 }
 
 fn empty_lanes(alloc: Global, many: usize) -> Result<Vec<Lane>, NoMemory>
@@ -73,17 +78,19 @@ fn empty_lanes(alloc: Global, many: usize) -> Result<Vec<Lane>, NoMemory>
 }
 
 /// Fills each lane by a scan of its shard.
-fn scan_all<R: Threads + Sync, G: Gate + Sync>(
+fn scan_all<L: Ledger + Send + Sync, R: Threads + Sync, G: Gate + Sync>(
     rt: &R,
     alloc: Global,
-    snapshots: &[ShardSnapshot<'_>],
+    snapshots: &[ShardSnapshot<'_, L>],
     normal: &Normal,
     window: &Window,
     defs: &Defs,
     plans: &[ScanPlan],
     gate: &G,
+    ledger: u64,
     lanes: &mut [Lane],
 )
+    requires ledger { (ledger ≡ L.parts) × (1 ≤ ledger) }
     requires lawful { IsLawfulNormal normal.now }
     requires few { length snapshots.now ≤ most_shards }
     requires definitions { All (λ s. defs.now ≡ s.shard.definitions) snapshots.now }
@@ -95,63 +102,85 @@ fn scan_all<R: Threads + Sync, G: Gate + Sync>(
 {
     let scan = |shard: usize, lane: &mut Lane|
         requires { (shard < length snapshots.now) × (length snapshots.now ≤ most_shards) × IsLawfulNormal normal.now
-            × All (λ s. defs.now ≡ s.shard.definitions) snapshots.now × ArePlansFor defs.now normal.now.branches plans.now }
+            × All (λ s. defs.now ≡ s.shard.definitions) snapshots.now × ArePlansFor defs.now normal.now.branches plans.now
+            × (ledger ≡ L.parts) × (1 ≤ ledger) }
         ensures { (s : SnapshotParts) → IsLaneOf normal.entry.now window.entry.now (slice_index_or snapshots.entry.now shard s) lane.new }
     {
         gate.before(shard as u32, 0);
-        *lane = lane_of(alloc, &snapshots[shard], normal, window, defs, plans);
+        *lane = lane_of(
+            alloc,
+            &snapshots[shard],
+            normal,
+            window,
+            defs,
+            plans,
+            ledger,
+        );
         gate.after(shard as u32, 0);
     };
     thread::for_each_mut(rt, lanes, snapshots.len(), &scan);
 }
 
 /// What one shard gives.
-fn lane_of(
+fn lane_of<L: Ledger>(
     alloc: Global,
-    snapshot: &ShardSnapshot<'_>,
+    snapshot: &ShardSnapshot<'_, L>,
     normal: &Normal,
     window: &Window,
     defs: &Defs,
     plans: &[ScanPlan],
+    ledger: u64,
 ) -> Lane
+    requires ledger { (ledger ≡ L.parts) × (1 ≤ ledger) }
     requires lawful { IsLawfulNormal normal.now }
     requires definitions { defs.now ≡ snapshot.now.shard.definitions }
     requires plans { ArePlansFor defs.now normal.now.branches plans.now }
     ensures { IsLaneOf normal.now window.now snapshot.now result }
 {
-    scanned::<Brand>(Blank::new(1), alloc, snapshot, normal, window, defs, plans).ok()
+    scanned::<L, Brand>(
+        Blank::new(ledger),
+        alloc,
+        snapshot,
+        normal,
+        window,
+        defs,
+        plans,
+    )
+    .ok()
 }
 
 /// What one shard gives, by steps on the ledger that the blank becomes.
-fn scanned<L: Ledger>(
+fn scanned<L: Ledger, M: Ledger>(
     blank: Blank,
     alloc: Global,
-    snapshot: &ShardSnapshot<'_>,
+    snapshot: &ShardSnapshot<'_, L>,
     normal: &Normal,
     window: &Window,
     defs: &Defs,
     plans: &[ScanPlan],
 ) -> Result<RowList, NoMemory>
-    requires name { blank.name ≡ L.name }
-    requires parts { blank.parts ≡ L.parts }
+    requires name { blank.name ≡ M.name }
+    requires parts { blank.parts ≡ M.parts }
     requires some { 1 ≤ blank.parts }
+    requires same { M.parts ≡ L.parts }
     requires lawful { IsLawfulNormal normal.now }
     requires definitions { defs.now ≡ snapshot.now.shard.definitions }
     requires plans { ArePlansFor defs.now normal.now.branches plans.now }
     ensures { IfOk result (AreLaneRows normal.now window.now snapshot.now) }
 {
-    let mut steps = Steps::<L>::new(blank);
+    let mut steps = Steps::<M>::new(blank);
+    let snapshot = snapshot.counting_on::<M>();
     let mut rows = Vec::new(alloc);
     put_shard_rows(
-        alloc, snapshot, normal, window, defs, plans, &mut rows, &mut steps,
+        alloc, &snapshot, normal, window, defs, plans, &mut rows, &mut steps,
     )?;
     Ok(RowList::from(rows))
 }
 
 /// The rows of all lanes, one behind the other. They are moved.
-fn joined(
+fn joined<L: Ledger>(
     alloc: Global,
-    snapshots: &[ShardSnapshot<'_>],
+    snapshots: &[ShardSnapshot<'_, L>],
     normal: &Normal,
     window: &Window,
     lanes: Vec<Lane>,
@@ -169,48 +198,4 @@ fn joined(
         put_rows(list, &mut rows)?;
     }
     Ok(rows)
-}
-
-/// The page of what the shards gave, by look-ups that aren't counted.
-fn page_uncounted(
-    alloc: Global,
-    snapshots: &[ShardSnapshot<'_>],
-    normal: &Normal,
-    window: &Window,
-    rows: Vec<Row>,
-) -> Result<Found, NoMemory>
-    requires lawful { IsLawfulNormal normal.now }
-    requires placeless { SuitsSeveral normal.now.several window.now }
-    requires some { 1 ≤ length snapshots.now }
-    requires few { length snapshots.now ≤ most_shards }
-    requires rows { rows.items ≡ map (placed normal.now.merged) (rows_of_shards normal.now window.now (map entities_in snapshots.now)) }
-    requires placed { All (IsPlaced normal.now.merged) rows.items }
-    ensures found { AreOfShards (length (map entities_in snapshots.now)) 0 (map entities_in snapshots.now)
-        → IfOk result (λ f. IsResultOf normal.now window.now (all_entities (map entities_in snapshots.now)) f.results f.next) }
-{
-    page_by::<Brand>(Blank::new(1), alloc, snapshots, normal, window, rows)
-}
-
-fn page_by<L: Ledger>(
-    blank: Blank,
-    alloc: Global,
-    snapshots: &[ShardSnapshot<'_>],
-    normal: &Normal,
-    window: &Window,
-    rows: Vec<Row>,
-) -> Result<Found, NoMemory>
-    requires name { blank.name ≡ L.name }
-    requires parts { blank.parts ≡ L.parts }
-    requires a_part { 1 ≤ blank.parts }
-    requires lawful { IsLawfulNormal normal.now }
-    requires placeless { SuitsSeveral normal.now.several window.now }
-    requires some { 1 ≤ length snapshots.now }
-    requires few { length snapshots.now ≤ most_shards }
-    requires rows { rows.items ≡ map (placed normal.now.merged) (rows_of_shards normal.now window.now (map entities_in snapshots.now)) }
-    requires placed { All (IsPlaced normal.now.merged) rows.items }
-    ensures found { AreOfShards (length (map entities_in snapshots.now)) 0 (map entities_in snapshots.now)
-        → IfOk result (λ f. IsResultOf normal.now window.now (all_entities (map entities_in snapshots.now)) f.results f.next) }
-{
-    let mut steps = Steps::<L>::new(blank);
-    page_of(alloc, snapshots, normal, window, rows, &mut steps)
 }

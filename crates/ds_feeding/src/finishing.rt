@@ -9,7 +9,7 @@ use crate::refused::ReindexRefused;
 use crate::reindex::Reindex;
 use ds_base::NoMemory;
 use ds_base::limits::MAX_COMMITS;
-use ds_store::{Closed, Made, Names, Pass, Passes, Store, Tail};
+use ds_store::{Closed, Ledgers, Made, Names, Pass, Passes, Store, Tail};
 use std::sync::Wait;
 
 /// The second store, and what belongs to it.
@@ -19,6 +19,8 @@ pub struct Cut<K: Names, H: Wait + Drop> {
     pub store: Store<K, H>,
     /// All its passes, the one that fed it last.
     pub passes: Passes<K>,
+    /// On these the steps count that calls of the store take.
+    pub ledgers: Ledgers<K>,
     /// How many commits the old store had.
     pub place: u64,
 }
@@ -87,12 +89,14 @@ impl<K: Names, H: Wait + Drop> Reindex<K, H> {
         let Made {
             store,
             tail: _tail,
+            ledgers,
             passes,
         } = loading.share();
         match all_caught_up(rt, alloc, &store, passes, pass) {
             Ok(passes) => Ok(Cut {
                 store,
                 passes,
+                ledgers,
                 place,
             }),
             Err(refused) => {
@@ -114,6 +118,7 @@ impl<K: Names, H: Wait + Drop> Reindex<K, H> {
         let Made {
             store,
             tail: _tail,
+            ledgers: _ledgers,
             passes,
         } = loading.share();
         store.close(rt, passes)

@@ -54,7 +54,7 @@ impl<K: Names, H: Wait + Drop> Reindex<K, H> {
     /// Makes the second store of what was opened, whose names these are; the definitions are those that it was opened with. One of its
     /// passes feeds it. A refusal means out of memory.
     pub fn make(alloc: Global, opened: Opened<H>, defs: Defs) -> Result<Reindex<K, H>, NoMemory>
-        requires names { AreNamesOf opened K.journal K.shards K.commits K.ids K.definitions K.window }
+        requires names { AreNamesOf opened K.journal K.shards K.commits K.ids K.definitions K.window K.ledger }
         requires begun { AreBegun opened }
         requires definitions { defs ≡ K.definitions }
         ensures { IfOk result (λ r. r ≡ record {

@@ -17,7 +17,7 @@ use ds_clients::{Rounds, Sessions};
 use ds_journal::Draft;
 use ds_log::{Commit, Journal};
 use ds_serving::{Begun, begin};
-use ds_store::{Loading, Made, Names, Opened, Pass, Passes, Store, Tail};
+use ds_store::{Ledgers, Loading, Made, Names, Opened, Pass, Passes, Store, Tail};
 use std::alloc::{AllocError, Global};
 use std::sync::Wait;
 
@@ -49,7 +49,7 @@ pub fn restore<J: Names, R: Wait, H: Wait + Drop>(
     journal: Journal,
     next: u64,
 ) -> Result<Ready<J, H>, NoMemory>
-    requires names { AreNamesOf opened J.journal J.shards J.commits J.ids J.definitions J.window }
+    requires names { AreNamesOf opened J.journal J.shards J.commits J.ids J.definitions J.window J.ledger }
     requires begun { AreBegun opened }
     requires passes { greatest_client + 2 ≤ opened.passes }
     requires history { IsHistory (record { journal = journal; next = next }) }
@@ -107,8 +107,13 @@ fn make_ready<J: Names, R: Wait, H: Wait + Drop>(
     let place = loading.len();
     let next = loading.next();
     let (made, others) = share_apart(loading)?;
-    let clients = begin_clients(alloc, &made.store, others, place, next)?;
-    let Loaded { store, pass, tail } = made;
+    let clients = begin_clients(alloc, &made.store, others, &made.ledgers, place, next)?;
+    let Loaded {
+        store,
+        pass,
+        tail,
+        ledgers: _ledgers,
+    } = made;
     let Clients { begun, counts } = clients;
     let Begun {
         sessions,
@@ -133,6 +138,7 @@ struct Loaded<J: Names, H: Wait + Drop> {
     /// The pass that loaded.
     pass: Pass<J>,
     tail: Tail<J>,
+    ledgers: Ledgers<J>,
 }
 
 /// Shares a loaded store. The pass that loaded it stands apart from the others. A refusal means out of memory.
@@ -146,10 +152,17 @@ fn share_apart<J: Names, H: Wait + Drop>(
     let Made {
         store,
         tail,
+        ledgers,
         passes,
     } = loading.share();
     let (pass, others) = last_apart(passes)?;
-    Ok((Loaded { store, pass, tail }, others))
+    let loaded = Loaded {
+        store,
+        pass,
+        tail,
+        ledgers,
+    };
+    Ok((loaded, others))
 }
 
 /// What the clients of a run begin with.
@@ -166,6 +179,7 @@ fn begin_clients<J: Names, H: Wait + Drop>(
     alloc: Global,
     store: &Store<J, H>,
     passes: Passes<J>,
+    ledgers: &Ledgers<J>,
     place: u64,
     next: u64,
 ) -> Result<Clients<J>, NoMemory>
@@ -186,7 +200,7 @@ fn begin_clients<J: Names, H: Wait + Drop>(
     ensures all { IfOk result (λ c. vec_len c.begun.passes + (greatest_client + 1) ≡ length passes) }
     ensures room { IfOk result (λ c. length passes + 1 ≤ vec_capacity c.begun.passes) }
 {
-    let mut begun = begin_with_room(alloc, store.shards(), passes)?;
+    let mut begun = begin_with_room(alloc, store.shards(), passes, ledgers)?;
     begun.sessions.begin_behind(store, place, next)?;
     let counts = Counts::from(vec![in alloc; 0u64; store.shards() as usize]?);
     Ok(Clients { begun, counts })
@@ -197,6 +211,7 @@ fn begin_with_room<J: Names>(
     alloc: Global,
     shards: u32,
     passes: Passes<J>,
+    ledgers: &Ledgers<J>,
 ) -> Result<Begun<J>, NoMemory>
     requires enough { greatest_client + 1 ≤ length passes }
     requires new { All (λ p. p ≡ nothing_seen shards) passes }
@@ -206,7 +221,7 @@ fn begin_with_room<J: Names>(
     ensures all { IfOk result (λ b. vec_len b.passes + (greatest_client + 1) ≡ length passes) }
     ensures room { IfOk result (λ b. length passes + 1 ≤ vec_capacity b.passes) }
 {
-    let mut begun = begin(alloc, shards, passes)?;
+    let mut begun = begin(alloc, shards, passes, ledgers)?;
     begun.passes.reserve(PASSES)?;
     Ok(begun)
 }

@@ -44,7 +44,7 @@ pub(crate) fn run_opened<
     output: &mut O,
     gate: &G,
 ) -> Run
-    requires names { AreNamesOf opened J.journal J.shards J.commits J.ids J.definitions J.window }
+    requires names { AreNamesOf opened J.journal J.shards J.commits J.ids J.definitions J.window J.ledger }
     requires begun { AreBegun opened }
     requires passes { greatest_client + 1 ≤ opened.passes }
     requires definitions { defs.now ≡ opened.definitions }
@@ -85,9 +85,10 @@ fn run_made<
     let Made {
         store,
         tail: _tail,
+        ledgers,
         passes,
     } = made;
-    match begin(alloc, store.shards(), passes) {
+    match begin(alloc, store.shards(), passes, &ledgers) {
         Ok(begun) => run_begun(rt, alloc, Ready { store, begun }, defs, input, output, gate),
         Err(_) => nothing_run(alloc, Status::NoMemory),
     }

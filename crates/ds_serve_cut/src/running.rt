@@ -43,7 +43,7 @@ pub(crate) fn run_opened<
     input: &mut I,
     output: &mut O,
 ) -> CutRun
-    requires names { AreNamesOf opened J.journal J.shards J.commits J.ids J.definitions J.window }
+    requires names { AreNamesOf opened J.journal J.shards J.commits J.ids J.definitions J.window J.ledger }
     requires begun { AreBegun opened }
     requires given { (length opened.shards ≡ plan.now.shards) × (opened.definitions ≡ plan.now.first.now)
         × (opened.window ≡ plan.now.window) × (opened.passes ≡ plan.now.passes) }
@@ -91,7 +91,7 @@ fn run_both<
     requires first { (made.store.shards ≡ plan.now.shards) × (length J.shards ≡ plan.now.shards)
         × (J.definitions ≡ plan.now.first.now) × (J.window ≡ plan.now.window) × (made.store.passes ≡ plan.now.passes) }
     requires new { made.passes ≡ replicate plan.now.passes (nothing_seen plan.now.shards) }
-    requires names { AreNamesOf second K.journal K.shards K.commits K.ids K.definitions K.window }
+    requires names { AreNamesOf second K.journal K.shards K.commits K.ids K.definitions K.window K.ledger }
     requires begun { AreBegun second }
     requires given { (length second.shards ≡ plan.now.shards) × (second.definitions ≡ plan.now.second.now)
         × (second.window ≡ plan.now.window) × (second.passes ≡ plan.now.passes) }
@@ -141,6 +141,7 @@ fn run_made<
     let Made {
         store,
         tail,
+        ledgers,
         passes,
     } = made;
     let stores = Stores {
@@ -148,7 +149,7 @@ fn run_made<
         tail,
         reindex,
     };
-    match begin(host.alloc, plan.shards, passes) {
+    match begin(host.alloc, plan.shards, passes, &ledgers) {
         Ok(begun) => run_begun(host, plan, stores, begun, input, output),
         Err(_) => nothing_run(host.alloc, CutStatus::Served(Status::NoMemory)),
     }
@@ -160,7 +161,7 @@ fn second_store<K: Names, H: Wait + Drop>(
     opened: Opened<H>,
     defs: &Defs,
 ) -> Result<Reindex<K, H>, NoMemory>
-    requires names { AreNamesOf opened K.journal K.shards K.commits K.ids K.definitions K.window }
+    requires names { AreNamesOf opened K.journal K.shards K.commits K.ids K.definitions K.window K.ledger }
     requires begun { AreBegun opened }
     requires definitions { opened.definitions ≡ defs.now }
     ensures { IfOk result (λ r. r ≡ record {

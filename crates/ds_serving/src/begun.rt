@@ -10,7 +10,7 @@ ghost use Rattle.ds_store.specs.Passes.{nothing_seen};
 use ds_base::NoMemory;
 use ds_clients::Sessions;
 use ds_rounds::Rounds;
-use ds_store::{Names, Pass, Passes};
+use ds_store::{Ledgers, Names, Pass, Passes};
 use std::alloc::Global;
 
 /// The sessions of a run, the passes of its appliers, and the reader of its input.
@@ -22,9 +22,14 @@ pub struct Begun<J: Names> {
     pub rounds: Rounds,
 }
 
-/// What a run begins with, of a store with so many shards, whose passes these are: the clients have the last sixteen of them, and appliers
-/// the others. A refusal means out of memory.
-pub fn begin<J: Names>(alloc: Global, shards: u32, passes: Passes<J>) -> Result<Begun<J>, NoMemory>
+/// What a run begins with, of a store with so many shards, whose passes and ledgers these are: the clients have the last sixteen passes,
+/// and appliers the others. A refusal means out of memory.
+pub fn begin<J: Names>(
+    alloc: Global,
+    shards: u32,
+    passes: Passes<J>,
+    ledgers: &Ledgers<J>,
+) -> Result<Begun<J>, NoMemory>
     requires enough { greatest_client + 1 ≤ length passes }
     requires new { All (λ p. p ≡ nothing_seen shards) passes }
     ensures rounds { IfOk result (λ b. b.rounds ≡ first_reader) }
@@ -35,7 +40,7 @@ pub fn begin<J: Names>(alloc: Global, shards: u32, passes: Passes<J>) -> Result<
 {
     let mut passes = passes.into_vec();
     let rounds = Rounds::make(alloc)?;
-    let sessions = Sessions::make(alloc, shards, &mut passes)?;
+    let sessions = Sessions::make(alloc, shards, &mut passes, ledgers)?;
     Ok(Begun {
         sessions,
         passes,

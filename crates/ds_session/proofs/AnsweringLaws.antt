@@ -102,6 +102,6 @@ pub no_steps : (definitions : List IndexDef) (window shards number client : ℕ)
     → new ≡ old → IsWithinSteps definitions window shards number (request_of client c) before after old new
 no_steps definitions window shards number client c before after old new same = by (search_of c) where
   by : (o : Option (Result Search Body)) → SearchSteps definitions window shards number c o before after old new
-  by None = same
+  by None = inl same
   by (Some (Err refusal)) = same
   by (Some (Ok search)) = inl same

@@ -1,6 +1,6 @@
--- How many steps the answer to a line takes: a line that asks no search takes none, and a search no more than its scans may take over the
--- lists that its pass has then seen, and one for each entity that is given.
-use Rattle.std.specs.Prelude.{◌≡◌, ◌⊎◌, ℕ, ◌+◌, ◌≤◌, ◌++◌, List, [], ◌∷◌, length, Option, Some, None, Result, Ok, Err}
+-- How many steps the answer to a line takes: a search no more than its scans may take over the lists that its pass has then seen, and one
+-- for each entity that is given; a get one, of its look-up; and every other line none.
+use Rattle.std.specs.Prelude.{◌≡◌, ◌⊎◌, ⊤, ℕ, ◌+◌, ◌≤◌, ◌++◌, List, [], ◌∷◌, length, Option, Some, None, Result, Ok, Err}
 use Rattle.ds_entity.specs.declared.results.Item.{Item}
 use Rattle.ds_entity.specs.declared.results.Seen.{Seen}
 use Rattle.ds_entity.specs.declared.results.Seen.TheVariants as looked
@@ -9,6 +9,7 @@ use Rattle.ds_indexdef.specs.declared.IndexDef.{IndexDef}
 use Rattle.ds_log.specs.Shards.{shard_of}
 use Rattle.ds_query.specs.Normals.{normal_form}
 use Rattle.ds_request.specs.declared.call.Call.{Call}
+use Rattle.ds_request.specs.declared.call.Call.TheVariants as call
 use Rattle.ds_request.specs.declared.call.Request.{Request}
 use Rattle.ds_reply.specs.declared.reply.Body.{Body}
 use Rattle.ds_reply.specs.declared.reply.Body.TheVariants as body
@@ -68,9 +69,17 @@ pub record GoneWithin (definitions : List IndexDef) (window shards number : ℕ)
   pub within : new ≤ old
       + most_scanned search places (shards_read definitions window shards after.pass search.query.ancestor (looked.Place m))
 
+abbrev pub IsGet : Call → Type 0
+IsGet (call.Get key) = ⊤
+IsGet _ = ⊥
+
+-- a call that searches for nothing takes no step, but a get, whose look-up takes one at most
+abbrev pub OtherSteps : Call → ℕ → ℕ → Type 0
+OtherSteps c old new = (new ≡ old) ⊎ (IsGet c × (new ≤ old + 1))
+
 -- The steps of what a call searches for. Where there was no memory no bound is told.
 abbrev pub SearchSteps : List IndexDef → ℕ → ℕ → ℕ → Call → Option (Result Search Body) → SessionParts → SessionParts → ℕ → ℕ → Type 0
-SearchSteps definitions window shards number c None before after old new = new ≡ old
+SearchSteps definitions window shards number c None before after old new = OtherSteps c old new
 SearchSteps definitions window shards number c (Some (Err refusal)) before after old new = new ≡ old
 SearchSteps definitions window shards number c (Some (Ok search)) before after old new =
     (new ≡ old)

@@ -41,6 +41,7 @@ impl<J: Names> State<J> {
         requires shard { IsTrue (has_shard store.now.shards call) }
         requires within { IsWithin self.old.seen self.old.pass }
         requires definitions { defs.now ≡ J.definitions }
+        requires ledger { L.parts ≡ J.ledger }
         requires room { to.keep + length (reply_text (no_memory_reply self.old.client to.number)) ≤ self.old.room }
         ensures replied { HasReplied J.definitions store.now.shards (Some J.window) self.old self.new to.number
             (request_of self.old.client call) to.keep }
@@ -78,6 +79,7 @@ impl<J: Names> State<J> {
         requires shard { IsTrue (has_shard store.now.shards (call_of operation)) }
         requires within { IsWithin self.old.seen self.old.pass }
         requires definitions { defs.now ≡ J.definitions }
+        requires ledger { L.parts ≡ J.ledger }
         requires room { to.keep + length (reply_text (no_memory_reply self.old.client to.number)) ≤ self.old.room }
         ensures replied { (call : Call) → IsOperationOf call operation
             → HasReplied J.definitions store.now.shards (Some J.window) self.old self.new to.number
@@ -110,6 +112,7 @@ impl<J: Names> State<J> {
         requires unrefused { refusal_of J.definitions self.old.seen (call_of operation) ≡ None }
         requires within { IsWithin self.old.seen self.old.pass }
         requires definitions { defs.now ≡ J.definitions }
+        requires ledger { L.parts ≡ J.ledger }
         requires room { to.keep + length (reply_text (no_memory_reply self.old.client to.number)) ≤ self.old.room }
         ensures replied { (call : Call) → IsOperationOf call operation
             → HasReplied J.definitions store.now.shards (Some J.window) self.old self.new to.number
@@ -130,7 +133,7 @@ impl<J: Names> State<J> {
                 to.keep,
             ),
             Operation::Get { key } => {
-                self.get(rt, store, to.number, &key, to.keep);
+                self.get(rt, store, to.number, &key, to.keep, steps);
                 drop(key);
             }
             Operation::Find(search) => {

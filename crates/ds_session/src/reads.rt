@@ -19,6 +19,7 @@ ghost use Rattle.ds_store.specs.Passes.{HasRead, PassParts};
 
 use crate::state::State;
 use ds_base::{Key, NoMemory};
+use ds_io::Steps;
 use ds_log::shard_of;
 use ds_output::tell;
 use ds_protocol::OpenTransaction;
@@ -26,6 +27,7 @@ use ds_reply::Body;
 use ds_store::{Expired, GetRefused, Got, Names, Pass, Store};
 use std::alloc::Global;
 use std::sync::Wait;
+use std::sync::ledger::Ledger;
 
 /// An entity group, by its root key, and its shard.
 #[derive(Drop)]
@@ -82,19 +84,22 @@ pub(crate) fn touched(at: Option<u64>) -> u64
 
 impl<J: Names> State<J> {
     /// Tells the entity of a key, if there is one, and the place at which it was read.
-    pub(crate) fn get<R: Wait, H: Wait + Drop>(
+    pub(crate) fn get<R: Wait, H: Wait + Drop, L: Ledger>(
         &mut self,
         rt: &R,
         store: &Store<J, H>,
         number: u64,
         key: &Key,
         keep: usize,
+        steps: &mut Steps<L>,
     )
         requires within { IsWithin self.old.seen self.old.pass }
         requires unrefused { refusal_of J.definitions self.old.seen (Call.Get key.now) ≡ None }
         requires room { keep + length (reply_text (no_memory_reply self.old.client number)) ≤ self.old.room }
-        ensures { HasReplied J.definitions store.now.shards (Some J.window) self.old self.new number
+        requires ledger { L.parts ≡ J.ledger }
+        ensures replied { HasReplied J.definitions store.now.shards (Some J.window) self.old self.new number
             (request_of self.old.client (Call.Get key.now)) keep }
+        ensures step { steps.new ≤ steps.old + 1 }
     {
         let Ok(home) = group_home(self.alloc, key, store.shards()) else {
             return self.say_no_memory(number, keep);
@@ -105,7 +110,7 @@ impl<J: Names> State<J> {
             return self.say_no_memory(number, keep);
         }
         let at = touch_place(rt, store, &mut self.pass, &self.transaction, &group);
-        match store.get_in(rt, &mut self.pass, shard, key, at) {
+        match store.get_in(rt, &mut self.pass, shard, key, at, steps) {
             Ok(got) => {
                 let Got {
                     entity,

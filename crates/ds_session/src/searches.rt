@@ -62,6 +62,7 @@ impl<J: Names> State<J> {
         requires within { IsWithin self.old.seen self.old.pass }
         requires definitions { defs.now ≡ J.definitions }
         requires lawful { IsLawfulSearch search }
+        requires ledger { L.parts ≡ J.ledger }
         requires room { to.keep + length (reply_text (no_memory_reply self.old.client to.number)) ≤ self.old.room }
         ensures replied { (call : Call) → IsSearchOf call search
             → HasReplied J.definitions store.now.shards (Some J.window) self.old self.new to.number
@@ -106,6 +107,7 @@ impl<J: Names> State<J> {
         requires lawful { IsLawfulNormal prepared.now.ready.normal }
         requires planned { ArePlansFor J.definitions prepared.now.ready.normal.branches prepared.now.ready.plans.items }
         requires placeless { SuitsSeveral prepared.now.ready.normal.several prepared.now.ready.window }
+        requires ledger { L.parts ≡ J.ledger }
         requires room { to.keep + length (reply_text (no_memory_reply self.old.client to.number)) ≤ self.old.room }
         ensures replied { (call : Call) → IsSearchOf call prepared.now.search
             → HasReplied J.definitions store.now.shards (Some J.window) self.old self.new to.number
@@ -151,6 +153,7 @@ impl<J: Names> State<J> {
         requires lawful { IsLawfulNormal prepared.now.ready.normal }
         requires planned { ArePlansFor J.definitions prepared.now.ready.normal.branches prepared.now.ready.plans.items }
         requires placeless { SuitsSeveral prepared.now.ready.normal.several prepared.now.ready.window }
+        requires ledger { L.parts ≡ J.ledger }
         requires room { to.keep + length (reply_text (no_memory_reply self.old.client to.number)) ≤ self.old.room }
         ensures replied { (call : Call) → IsSearchOf call prepared.now.search
             → HasReplied J.definitions store.now.shards (Some J.window) self.old self.new to.number
@@ -192,6 +195,7 @@ impl<J: Names> State<J> {
         requires lawful { IsLawfulNormal prepared.now.ready.normal }
         requires planned { ArePlansFor J.definitions prepared.now.ready.normal.branches prepared.now.ready.plans.items }
         requires placeless { SuitsSeveral prepared.now.ready.normal.several prepared.now.ready.window }
+        requires ledger { L.parts ≡ J.ledger }
         requires room { to.keep + length (reply_text (no_memory_reply self.old.client to.number)) ≤ self.old.room }
         ensures replied { (call : Call) → IsSearchOf call prepared.now.search
             → HasReplied J.definitions store.now.shards (Some J.window) self.old self.new to.number
@@ -263,6 +267,7 @@ fn query<J: Names, R: Threads + Sync, H: Wait + Drop, L: Ledger>(
     requires planned { ArePlansFor J.definitions ready.now.normal.branches ready.now.plans.items }
     requires wide { IsTrue wide → GoesWide ready.now.window store.now.shards pass.old }
     requires everywhere { ancestor_of ready.now.normal.branches ≡ None }
+    requires ledger { L.parts ≡ J.ledger }
     ensures counted { IfOk result (λ a. HasCounted pass.old pass.new a.seen a.beside) }
     ensures found { IfOk result (λ a. FindsGlobally pass.new.lists ready.now.normal ready.now.window a.results a.next) }
     ensures steps_bounded { IfOk result (λ a. All (λ q. steps.new ≤ (steps.old

@@ -152,7 +152,7 @@ impl<J: Names> Session<J> {
 
     /// Answers a line of this client: exactly one reply is put behind the text. There must be room for one that there was no memory, which
     /// it may use up. The store is that of the session's pass, and the definitions are the store's. A line that asks no search takes no
-    /// step.
+    /// step, but a get, whose look-up takes one at most.
     pub fn answer<R: Threads + Wait + Sync, H: Wait + Drop, L: Ledger>(
         &mut self,
         rt: &R,
@@ -165,6 +165,7 @@ impl<J: Names> Session<J> {
         requires line { IsWithinLimit line }
         requires own { client_of (asked store.now.shards) (handed line) ≡ self.old.client }
         requires definitions { defs.now ≡ J.definitions }
+        requires ledger { L.parts ≡ J.ledger }
         requires room { most_no_memory ≤ self.old.room }
         ensures answered { HasAnswered J.definitions store.now.shards (Some J.window) self.old self.new
             (record { number = number; content = handed line.entry } ∷ []) }
@@ -190,6 +191,7 @@ impl<J: Names> Session<J> {
         requires answerable { MayBeAnswered store.now.shards asked }
         requires own { asked.client ≡ self.old.client }
         requires definitions { defs.now ≡ J.definitions }
+        requires ledger { L.parts ≡ J.ledger }
         requires room { most_no_memory ≤ self.old.room }
         ensures answered { (line : NumberedLine) → Asks store.now.shards line asked
             → HasAnswered J.definitions store.now.shards (Some J.window) self.old self.new (line ∷ []) }

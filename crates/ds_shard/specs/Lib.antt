@@ -3,3 +3,4 @@ pub mod Histories
 pub mod Expiries
 pub mod Contents
 pub mod Shards
+pub mod States

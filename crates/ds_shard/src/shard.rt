@@ -10,7 +10,6 @@ ghost use Rattle.ds_shard.specs.Rows.{rows_of_versions};
 ghost use Rattle.ds_shard.specs.Shards.{floor_of, empty, absorbed, keeps};
 
 use crate::contents::Contents;
-use crate::tables::ShardTables;
 use ds_base::{Key, NoMemory, TryCopy};
 use ds_entity::Entity;
 use ds_indexdef::Defs;
@@ -18,7 +17,6 @@ use ds_log::Entry;
 use ds_table::TableView;
 use std::alloc::Global;
 use std::marker::Model;
-use std::sync::ledger::Ledger;
 
 /// One shard: how many log entries it has absorbed, the versions of its entities, and the table of their index rows. An entry's
 /// stamp is its number, from 1; the shard keeps what a window of stamps up to its count sees.
@@ -95,13 +93,6 @@ impl Shard {
         self.count = stamp;
         self.last = entry.commit;
         Ok(())
-    }
-
-    /// The shard as tables whose seeks and look-ups count on one ledger. It takes no memory.
-    pub fn tables<L: Ledger>(&self) -> ShardTables<'_, L>
-        ensures { result ≡ self.now }
-    {
-        ShardTables::new(self)
     }
 
     /// The table of rows at the stamp.

@@ -1,53 +1,86 @@
 //! A shard as the state of a hub.
 ghost use Rattle.std.specs.Prelude.{◌≡◌, ◌≤◌, IfOk};
-ghost use Rattle.ds_shard.specs.Shards.{empty};
+ghost use Rattle.ds_shard.specs.States.{begun};
 
 use crate::shard::Shard;
+use crate::tables::ShardTables;
 use ds_base::NoMemory;
 use ds_hub::Absorb;
 use ds_indexdef::Defs;
 use ds_log::Entry;
 use std::alloc::{AllocError, Global};
+use std::marker::Model;
+use std::sync::ledger::Ledger;
 
 /// The count at which no further entry is absorbed. No journal grows so long.
 const MOST_ENTRIES: u64 = 0x4000_0000_0000_0000;
 
-/// A shard as the state of a hub, which keeps two copies of it: each absorbs the same entries in the same order.
+/// A shard as the state of a hub, which keeps two copies of it: each absorbs the same entries in the same order. It lends no shard, and its
+/// tables on ledgers of its store alone: those that are cut into as many parts as it says.
+///
+/// Contracts see that number, and the shard.
 #[derive(Drop)]
 pub struct ShardState {
-    /// The shard.
-    pub shard: Shard,
+    shard: Shard,
+    ledger: u64,
+}
+
+impl Model for ShardState {
+    ghost use Rattle.ds_shard.specs.States.{StateParts};
+
+    ghost Value = { StateParts };
+
+    ghost view = { λ s. record { ledger = s.ledger; shard = s.shard } };
 }
 
 impl ShardState {
-    /// The two copies of a shard that has absorbed no entry, with these definitions and a window of 1 to 65,536 stamps. A refusal is
-    /// lack of memory.
+    /// The two copies of a shard that has absorbed no entry, with these definitions and a window of 1 to 65,536 stamps, whose seeks and
+    /// look-ups count on ledgers of so many parts. A refusal is lack of memory.
     pub fn make_both(
         alloc: Global,
         defs: &Defs,
         window: u64,
+        ledger: u64,
     ) -> Result<(ShardState, ShardState), NoMemory>
         requires least { 1 ≤ window }
         requires most { window ≤ 65536 }
-        ensures first { IfOk result (λ both. both.0.shard ≡ empty defs.now window) }
-        ensures second { IfOk result (λ both. both.1.shard ≡ empty defs.now window) }
+        ensures first { IfOk result (λ both. both.0 ≡ begun ledger defs.now window) }
+        ensures second { IfOk result (λ both. both.1 ≡ begun ledger defs.now window) }
     {
         let first = Shard::make(alloc, defs, window)?;
         let second = Shard::make(alloc, defs, window)?;
-        Ok((ShardState { shard: first }, ShardState { shard: second }))
+        Ok((
+            ShardState {
+                shard: first,
+                ledger,
+            },
+            ShardState {
+                shard: second,
+                ledger,
+            },
+        ))
+    }
+
+    /// The shard as tables whose seeks and look-ups count on one ledger of the store. A ledger that somebody opens for himself isn't known
+    /// to have as many parts, so nobody looks here without counting where he is asked to. It takes no memory.
+    pub fn tables<L: Ledger>(&self) -> ShardTables<'_, L>
+        requires ledger { L.parts ≡ self.now.ledger }
+        ensures { result ≡ self.now.shard }
+    {
+        ShardTables::new(&self.shard)
     }
 }
 
 impl Absorb<Entry> for ShardState {
-    ghost use Rattle.ds_shard.specs.Shards.{absorbed};
+    ghost use Rattle.ds_shard.specs.States.{state_after};
 
-    type State = Shard;
+    type State = ShardState;
 
     type Told = Entry;
 
-    ghost state = { λ s. s.shard };
+    ghost state = { λ s. s };
 
-    ghost applied = { absorbed };
+    ghost applied = { state_after };
 
     ghost asks = { λ told. told };
 

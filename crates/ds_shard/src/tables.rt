@@ -35,6 +35,30 @@ impl<'a, L> ShardTables<'a, L> {
     }
 }
 
+impl<'a, L: Ledger> ShardTables<'a, L> {
+    /// How many entries the shard has absorbed: the stamp of the last one. It takes no memory.
+    pub fn count(&self) -> u64
+        ensures { result ≡ self.now.count }
+    {
+        self.shard.count()
+    }
+
+    /// The commit of the last entry that the shard has absorbed, 0 where there is none. It takes no memory.
+    pub fn last(&self) -> u64
+        ensures { result ≡ self.now.last }
+    {
+        self.shard.last()
+    }
+
+    /// The same tables, counted on another ledger of the store, which is cut into as many parts. It takes no memory.
+    pub fn counting_on<M: Ledger>(&self) -> ShardTables<'a, M>
+        requires parts { M.parts ≡ L.parts }
+        ensures { result ≡ self.now }
+    {
+        ShardTables::new(self.shard)
+    }
+}
+
 impl<'a, L: Ledger> Tables for ShardTables<'a, L> {
     ghost use Rattle.ds_shard.specs.Shards.{ShardParts, keeps};
 

@@ -18,10 +18,10 @@
 //!
 //! A caller that runs a store, generic in its names `J`:
 //!
-//!     let Made { store, mut passes, .. } = make::<J, _>(alloc, opened)?;     // `open` made `opened`
+//!     let Made { store, mut passes, .. } = make::<J, _>(alloc, opened)?;     // `open` made `opened`; `ledgers` opens those of `steps`
 //!     let mut pass = passes.pop()?;                                          // one for each caller that runs at once
 //!     let number = store.commit(rt, &mut pass, draft)?;                      // appended, and published
-//!     let got = store.get(rt, &mut pass, &key, None)?;                       // by its shard, with what waits there
+//!     let got = store.get(rt, &mut pass, &key, None, &mut steps)?;           // by its shard, with what waits there
 //!     let applied = store.apply_one(rt, &mut pass, shard)?;                  // one entry into the shard's state
 //!     let answer = store.query(&mut pass, &normal, &window, &mut steps)?;    // over what is applied; waits for nobody
 //!     passes.push(pass)?;
@@ -32,7 +32,7 @@ mod loading;
 mod making;
 mod parts;
 
-pub use ds_store_hubs::{JournalState, Names, Opened, open};
+pub use ds_store_hubs::{JournalState, Ledgers, Names, Opened, open};
 pub use ds_store_passes::{
     Applied, Expired, GetRefused, Got, NewCause, NewCommit, NewRefused, Pass, Passes, Settled,
     Shown, Since,

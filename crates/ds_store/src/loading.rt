@@ -13,9 +13,10 @@ use ds_base::NoMemory;
 use ds_draw::Drawn;
 use ds_indexdef::Defs;
 use ds_journal::Draft;
-use ds_store_hubs::{Names, Opened, SeatRoom};
+use ds_store_hubs::{Ledgers, Names, Opened, SeatRoom};
 use ds_store_journal::{JournalDesk, Words};
 use ds_store_passes::{Pass, Passes};
+use ds_store_reads::Uncounted;
 use ds_store_running::{Store, Unshared};
 use ds_store_shards::ShardDesk;
 use std::alloc::{AllocError, Global};
@@ -36,6 +37,7 @@ pub struct Loading<J: Names, H: Wait + Drop> {
     definitions: Defs,
     window: u64,
     passes: u32,
+    ledgers: Ledgers<J>,
     seats: SeatRoom,
     alloc: Global,
 }
@@ -68,7 +70,7 @@ impl<J: Names, H: Wait + Drop> Model for Loading<J, H> {
 impl<J: Names, H: Wait + Drop> Loading<J, H> {
     /// Makes an empty store of what was opened, whose names these are. The last of its passes loads it. A refusal means out of memory.
     pub fn make(alloc: Global, opened: Opened<H>) -> Result<Loading<J, H>, NoMemory>
-        requires names { AreNamesOf opened J.journal J.shards J.commits J.ids J.definitions J.window }
+        requires names { AreNamesOf opened J.journal J.shards J.commits J.ids J.definitions J.window J.ledger }
         requires begun { AreBegun opened }
         ensures { IfOk result (λ l. l ≡ record {
           shards = length opened.shards;
@@ -86,6 +88,7 @@ impl<J: Names, H: Wait + Drop> Loading<J, H> {
             ids,
             definitions,
             window,
+            ledger,
             passes,
         } = opened;
         let Drawn {
@@ -118,6 +121,7 @@ impl<J: Names, H: Wait + Drop> Loading<J, H> {
             definitions,
             window,
             passes,
+            ledgers: Ledgers::new(ledger),
             seats,
             alloc,
         })
@@ -184,6 +188,7 @@ impl<J: Names, H: Wait + Drop> Loading<J, H> {
             definitions,
             window,
             passes,
+            ledgers,
             seats,
             alloc,
         } = self;
@@ -195,12 +200,14 @@ impl<J: Names, H: Wait + Drop> Loading<J, H> {
             definitions,
             window,
             passes,
+            uncounted: Uncounted::new(ledgers.again()),
             seats,
             alloc,
         });
         Made {
             store,
             tail,
+            ledgers,
             passes: Passes::from(others),
         }
     }

@@ -43,7 +43,7 @@ pub(crate) fn make_parts<J: Names, H: Wait + Drop>(
 ) -> Result<Parts<J, H>, NoMemory>
     requires readers { All (λ r. (r.hub ≡ J.journal) × (r.known ≡ [])) readers.items }
     requires few { (1 ≤ length J.shards) × (length J.shards ≤ most_shards) }
-    requires shards { shards.items ≡ origins J.definitions J.window J.shards }
+    requires shards { shards.items ≡ origins J.ledger J.definitions J.window J.shards }
     requires commits { All (λ s. s ≡ new_seat J.commits 1) commits }
     requires ids { All (λ s. s ≡ new_seat J.ids first_drawn_id) ids }
     ensures pass { IfOk result (λ b. b.pass ≡ nothing_seen (length J.shards)) }
@@ -90,7 +90,7 @@ fn seat_all<J: Names, H: Wait + Drop>(
 ) -> Result<Seated<J>, NoMemory>
     requires readers { All (λ r. (r.hub ≡ J.journal) × (r.known ≡ [])) readers.old.items }
     requires few { (1 ≤ length J.shards) × (length J.shards ≤ most_shards) }
-    requires shards { shards.old.items ≡ origins J.definitions J.window J.shards }
+    requires shards { shards.old.items ≡ origins J.ledger J.definitions J.window J.shards }
     requires commits { All (λ s. s ≡ new_seat J.commits 1) commits }
     requires ids { All (λ s. s ≡ new_seat J.ids first_drawn_id) ids }
     ensures readers { All (λ r. (r.hub ≡ J.journal) × (r.known ≡ [])) readers.new.items }

@@ -21,6 +21,10 @@ pub trait Names {
     ghost definitions: { List IndexDef };
     // How many stamps each shard keeps.
     ghost window: { ℕ };
+    // Into how many parts each ledger is cut on which the shards are read. It names these ledgers: the name of a blank ledger isn't known
+    // before it is there, and a call's own is opened after the store's names are picked. No session is told the number (`Ledgers`), so a
+    // ledger that it opens for itself can't be shown to be one of them.
+    ghost ledger: { ℕ };
 }
 
 impl Names for Brand {
@@ -39,4 +43,6 @@ impl Names for Brand {
     ghost definitions = { [] };
 
     ghost window = { 1 };
+
+    ghost ledger = { 1 };
 }

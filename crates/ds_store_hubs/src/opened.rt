@@ -2,8 +2,8 @@
 ghost use Rattle.std.specs.Prelude.{◌≡◌, ◌+◌, ◌≤◌, ◌++◌, ◌∷◌, [], None, Some, length, map, replicate, All, IfOk, MatchOption};
 ghost use Rattle.ds_base.specs.Limits.{first_drawn_id, most_shards};
 ghost use Rattle.ds_hub.specs.Holding.{hub_in};
-ghost use Rattle.ds_shard.specs.Shards.{empty};
-ghost use Rattle.ds_store_hubs.specs.Opening.{OpenedParts, AreBegun};
+ghost use Rattle.ds_shard.specs.States.{begun};
+ghost use Rattle.ds_store_hubs.specs.Opening.{OpenedParts, AreBegun, ledger_parts};
 
 use crate::journal_state::JournalState;
 use ds_base::limits::FIRST_DRAWN_ID;
@@ -27,9 +27,9 @@ pub struct OpenedShard<H: Wait + Drop> {
 impl<H: Wait + Drop> Model for OpenedShard<H> {
     ghost use Rattle.std.specs.Prelude.{◌≡◌, [], Option, All};
     ghost use Rattle.ds_hub.specs.Line.{HubId};
-    ghost use Rattle.ds_shard.specs.Shards.{ShardParts};
+    ghost use Rattle.ds_shard.specs.States.{StateParts};
 
-    ghost Value = { HubId × Option ShardParts };
+    ghost Value = { HubId × Option StateParts };
 
     ghost view = { λ s. (s.writer.writer.hub, s.writer.writer.start) };
 
@@ -76,6 +76,8 @@ pub struct Opened<H: Wait + Drop> {
     pub definitions: Defs,
     /// How many stamps each shard keeps.
     pub window: u64,
+    /// Into how many parts each ledger is cut on which the shards are read.
+    pub ledger: u64,
     /// For how many passes it was opened.
     pub passes: u32,
 }
@@ -95,6 +97,7 @@ impl<H: Wait + Drop> Model for Opened<H> {
       ids = o.ids.word.name;
       definitions = o.definitions;
       window = o.window;
+      ledger = o.ledger;
       passes = o.passes;
     } };
 
@@ -105,8 +108,12 @@ impl<H: Wait + Drop> Model for Opened<H> {
         × ((o.commits.word.first ≡ 1) × (o.commits.word.seats ≡ o.passes + 1)
         × (o.commits.seats ≡ replicate (o.passes + 1) (new_seat o.commits.word.name 1)))
         × ((o.ids.word.first ≡ first_drawn_id) × (o.ids.word.seats ≡ o.passes + 1)
-        × (o.ids.seats ≡ replicate (o.passes + 1) (new_seat o.ids.word.name first_drawn_id))) };
+        × (o.ids.seats ≡ replicate (o.passes + 1) (new_seat o.ids.word.name first_drawn_id)))
+        × (1 ≤ o.ledger) };
 }
+
+/// Into how many parts each ledger is cut on which the shards are read. Any number serves: who shares a store knows it by its type alone.
+const LEDGER_PARTS: u64 = 1;
 
 /// Opens all hubs and words of a store: shards from 1 to 16, passes from 1 to 26, and a window of 1 to 65,536 stamps. Nothing is
 /// published, and nothing drawn. `handle` is what ends the hubs where the store is dropped without a close. A refusal means out of memory.
@@ -146,6 +153,7 @@ pub fn open<R: Wait, H: Wait + Drop + Copy>(
         ids,
         definitions,
         window,
+        ledger: LEDGER_PARTS,
         passes,
     })
 }
@@ -163,7 +171,7 @@ fn open_shards<R: Wait, H: Wait + Drop + Copy>(
     requires passes { 1 ≤ passes }
     requires window { (1 ≤ window) × (window ≤ 65536) }
     ensures many { IfOk result (λ opened. length opened.items ≡ shards) }
-    ensures begun { IfOk result (λ opened. All (λ shard. shard.1 ≡ Some (empty defs.now window)) opened.items) }
+    ensures begun { IfOk result (λ opened. All (λ shard. shard.1 ≡ Some (begun ledger_parts defs.now window)) opened.items) }
 {
     let mut opened = Vec::with_capacity(alloc, shards as usize)?;
     for _shard in 0..shards {
@@ -182,9 +190,9 @@ fn open_shard<R: Wait, H: Wait + Drop>(
 ) -> Result<OpenedShard<H>, NoMemory>
     requires passes { 1 ≤ passes }
     requires window { (1 ≤ window) × (window ≤ 65536) }
-    ensures { IfOk result (λ shard. shard.1 ≡ Some (empty defs.now window)) }
+    ensures { IfOk result (λ shard. shard.1 ≡ Some (begun ledger_parts defs.now window)) }
 {
-    let (first, second) = ShardState::make_both(alloc, defs, window)?;
+    let (first, second) = ShardState::make_both(alloc, defs, window, LEDGER_PARTS)?;
     let Hub { writer, readers } = ds_hub::make(rt, alloc, first, second, passes)?;
     Ok(OpenedShard {
         writer: HeldWriter::new(handle, writer),

@@ -11,7 +11,7 @@ use Rattle.ds_hub.specs.Line.{HubId}
 use Rattle.ds_indexdef.specs.declared.IndexDef.{IndexDef}
 use Rattle.ds_log.specs.declared.Entry.{Entry}
 use Rattle.ds_model.specs.Sessions.{count_of, list_of}
-use Rattle.ds_shard.specs.Shards.{ShardParts, empty}
+use Rattle.ds_shard.specs.States.{StateParts, begun}
 use Rattle.ds_store_hubs.specs.Origins.{origin_of, origins}
 use Rattle.ds_store_passes.proofs.Growing.{begins_itself, longer_at}
 
@@ -44,38 +44,44 @@ count_there (x ∷ xs) (suc i) = count_there xs i
 
 module _ {S : Type 0} where
   -- the slot of a shard is of its hub, which begins where each shard does
-  pub hub_there : (definitions : List IndexDef) (window : ℕ) (slots : List (Slotted ShardParts Entry S)) (hubs : List HubId) (i : ℕ)
-      (hub : HubId)
-      (slot : Slotted ShardParts Entry S) → map hub_in slots ≡ origins definitions window hubs → slice_get hubs i ≡ Some hub
-      → slot ≡ get_or slots i slot → hub_in slot ≡ origin_of definitions window hub
-  hub_there definitions window [] [] i hub slot are is at_i = absurd (cc (is))
-  hub_there definitions window [] (h ∷ hs) i hub slot are is at_i = absurd (cc (are))
-  hub_there definitions window (s ∷ ss) [] i hub slot are is at_i = absurd (cc (is))
-  hub_there definitions window (s ∷ ss) (h ∷ hs) zero hub slot are is at_i =
-      let head : hub_in s ≡ origin_of definitions window h = cc (are) in
+  pub hub_there : (ledger : ℕ) (definitions : List IndexDef) (window : ℕ) (slots : List (Slotted StateParts Entry S)) (hubs : List HubId)
+      (i : ℕ) (hub : HubId)
+      (slot : Slotted StateParts Entry S) → map hub_in slots ≡ origins ledger definitions window hubs → slice_get hubs i ≡ Some hub
+      → slot ≡ get_or slots i slot → hub_in slot ≡ origin_of ledger definitions window hub
+  hub_there ledger definitions window [] [] i hub slot are is at_i = absurd (cc (is))
+  hub_there ledger definitions window [] (h ∷ hs) i hub slot are is at_i = absurd (cc (are))
+  hub_there ledger definitions window (s ∷ ss) [] i hub slot are is at_i = absurd (cc (is))
+  hub_there ledger definitions window (s ∷ ss) (h ∷ hs) zero hub slot are is at_i =
+      let head : hub_in s ≡ origin_of ledger definitions window h = cc (are) in
       let same : h ≡ hub = cc (is) in
-      ap hub_in at_i ∙ head ∙ ap (origin_of definitions window) same
-  hub_there definitions window (s ∷ ss) (h ∷ hs) (suc i) hub slot are is at_i =
-      hub_there definitions window ss hs i hub slot (cc (are)) is at_i
+      ap hub_in at_i ∙ head ∙ ap (origin_of ledger definitions window) same
+  hub_there ledger definitions window (s ∷ ss) (h ∷ hs) (suc i) hub slot are is at_i =
+      hub_there ledger definitions window ss hs i hub slot (cc (are)) is at_i
 
 -- and begins with a shard that has absorbed nothing
-pub start_there : {S : Type 0} (definitions : List IndexDef) (window : ℕ) (slots : List (Slotted ShardParts Entry S)) (hubs : List HubId)
-    (i : ℕ)
-    (slot : Slotted ShardParts Entry S) → map hub_in slots ≡ origins definitions window hubs → i < length slots → slot ≡ get_or slots i slot
-    → slot.start ≡ Some (empty definitions window)
-start_there definitions window [] hubs i slot are lt is = absurd (omega (arith, lt))
-start_there definitions window (s ∷ ss) [] i slot are lt is = absurd (cc (are))
-start_there definitions window (s ∷ ss) (h ∷ hs) zero slot are lt is =
-    let head : hub_in s ≡ origin_of definitions window h = cc (are) in ap (λ o. o.1) (ap hub_in is ∙ head)
-start_there definitions window (s ∷ ss) (h ∷ hs) (suc i) slot are lt is =
-    start_there definitions window ss hs i slot (cc (are)) (omega (arith, lt)) is
+pub start_there : {S : Type 0} (ledger : ℕ) (definitions : List IndexDef) (window : ℕ) (slots : List (Slotted StateParts Entry S))
+    (hubs : List HubId) (i : ℕ)
+    (slot : Slotted StateParts Entry S) → map hub_in slots ≡ origins ledger definitions window hubs → i < length slots
+    → slot ≡ get_or slots i slot → slot.start ≡ Some (begun ledger definitions window)
+start_there ledger definitions window [] hubs i slot are lt is = absurd (omega (arith, lt))
+start_there ledger definitions window (s ∷ ss) [] i slot are lt is = absurd (cc (are))
+start_there ledger definitions window (s ∷ ss) (h ∷ hs) zero slot are lt is =
+    let head : hub_in s ≡ origin_of ledger definitions window h = cc (are) in ap (λ o. o.1) (ap hub_in is ∙ head)
+start_there ledger definitions window (s ∷ ss) (h ∷ hs) (suc i) slot are lt is =
+    start_there ledger definitions window ss hs i slot (cc (are)) (omega (arith, lt)) is
 
 -- where a shard has a hub, a pass has a slot
-pub slot_within : {S : Type 0} (definitions : List IndexDef) (window : ℕ) (slots : List (Slotted ShardParts Entry S)) (hubs : List HubId)
-    (i : ℕ)
-    (hub : HubId) → map hub_in slots ≡ origins definitions window hubs → slice_get hubs i ≡ Some hub → i < length slots
-slot_within definitions window slots hubs i hub are is =
-    omega (arith, slice_get_within hubs i hub is, length-map slots hub_in, length-map hubs (origin_of definitions window), ap length are)
+pub slot_within : {S : Type 0} (ledger : ℕ) (definitions : List IndexDef) (window : ℕ) (slots : List (Slotted StateParts Entry S))
+    (hubs : List HubId) (i : ℕ)
+    (hub : HubId) → map hub_in slots ≡ origins ledger definitions window hubs → slice_get hubs i ≡ Some hub → i < length slots
+slot_within ledger definitions window slots hubs i hub are is =
+    omega (
+      arith,
+      slice_get_within hubs i hub is,
+      length-map slots hub_in,
+      length-map hubs (origin_of ledger definitions window),
+      ap length are,
+    )
 
 module _ {T S : Type 0} where
   -- its list is the pass's of its shard, and as long as the pass's count

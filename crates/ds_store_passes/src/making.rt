@@ -32,7 +32,7 @@ pub fn all_passes<J: Names, H: Wait + Drop>(
 ) -> Result<Passes<J>, NoMemory>
     requires readers { All (λ r. (r.hub ≡ J.journal) × (r.known ≡ [])) readers.old.items }
     requires few { (1 ≤ length J.shards) × (length J.shards ≤ most_shards) }
-    requires shards { shards.old.items ≡ origins J.definitions J.window J.shards }
+    requires shards { shards.old.items ≡ origins J.ledger J.definitions J.window J.shards }
     requires commits { All (λ s. s ≡ new_seat J.commits 1) commits.old }
     requires ids { All (λ s. s ≡ new_seat J.ids first_drawn_id) ids.old }
     ensures readers { All (λ r. (r.hub ≡ J.journal) × (r.known ≡ [])) readers.new.items }
@@ -59,7 +59,7 @@ fn one_pass<J: Names, H: Wait + Drop>(
 ) -> Result<Pass<J>, NoMemory>
     requires readers { All (λ r. (r.hub ≡ J.journal) × (r.known ≡ [])) readers.old.items }
     requires few { (1 ≤ length J.shards) × (length J.shards ≤ most_shards) }
-    requires shards { shards.old.items ≡ origins J.definitions J.window J.shards }
+    requires shards { shards.old.items ≡ origins J.ledger J.definitions J.window J.shards }
     requires commits { All (λ s. s ≡ new_seat J.commits 1) commits.old }
     requires ids { All (λ s. s ≡ new_seat J.ids first_drawn_id) ids.old }
     ensures readers { All (λ r. (r.hub ≡ J.journal) × (r.known ≡ [])) readers.new.items }

@@ -48,7 +48,7 @@ impl<J: Names> Model for Pass<J> {
     } };
 
     ghost invariant = { λ p. (p.journal.hub ≡ J.journal)
-        × (map hub_in p.shards.items ≡ origins J.definitions J.window J.shards)
+        × (map hub_in p.shards.items ≡ origins J.ledger J.definitions J.window J.shards)
         × ((p.commits.word ≡ J.commits) × (p.ids.word ≡ J.ids)) × (p.next ≡ p.ids.counter)
         × (OwnSeen p.commits.draws p.journal.known × All (λ n. n ≤ p.place) p.commits.draws × All (λ id. id < p.next) p.ids.draws)
         × ((1 ≤ length J.shards) × (length J.shards ≤ most_shards)) × (first_drawn_id ≤ p.next) };

@@ -10,7 +10,7 @@ use ds_base::{Key, NoMemory, copy_of};
 use ds_entity::Entity;
 use ds_io::Steps;
 use ds_rows::Tables;
-use ds_shard::{Shard, entries_are_kept};
+use ds_shard::{ShardTables, entries_are_kept};
 use std::alloc::Global;
 use std::sync::ledger::Ledger;
 
@@ -18,7 +18,7 @@ use std::sync::ledger::Ledger;
 /// is a copy, which shares the properties. It takes one step. A refusal means out of memory.
 pub(crate) fn entity_at<L: Ledger>(
     alloc: Global,
-    shard: &Shard,
+    shard: &ShardTables<'_, L>,
     stamp: u64,
     key: &Key,
     steps: &mut Steps<L>,
@@ -30,12 +30,11 @@ pub(crate) fn entity_at<L: Ledger>(
         → IfOk result (λ found. found ≡ entity_of (left_by entries stamp) key.now) }
 {
     entries_are_kept();
-    let tables = shard.tables::<L>();
-    copy_of(alloc, tables.entity(stamp, key, steps))
+    copy_of(alloc, shard.entity(stamp, key, steps))
 }
 
 /// Whether a shard with this window keeps a stamp, which isn't above its count.
-pub(crate) fn keeps_stamp(shard: &Shard, window: u64, stamp: u64) -> bool
+pub(crate) fn keeps_stamp<L: Ledger>(shard: &ShardTables<'_, L>, window: u64, stamp: u64) -> bool
     requires window { shard.now.window ≡ window }
     requires stamp { stamp ≤ shard.now.count }
     ensures { result ≡ keeps shard.now stamp }

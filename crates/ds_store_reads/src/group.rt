@@ -36,6 +36,7 @@ pub fn query_in<J: Names, L: Ledger>(
     requires plans { ArePlansFor J.definitions normal.now.branches plans.now }
     requires definitions { defs.now ≡ J.definitions }
     requires kept { (kept ≡ J.window) × (1 ≤ J.window) }
+    requires ledger { L.parts ≡ J.ledger }
     requires shard { shard < length pass.old.lists }
     requires entries { entries ≤ length (list_of pass.old.lists shard) }
     ensures same { pass.new ≡ pass.old }

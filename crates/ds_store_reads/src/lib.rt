@@ -4,14 +4,17 @@
 //! their snapshots, by `ds_engine` for queries, and the pass leaves them.
 //!
 //! Begin with `searching` (queries without an ancestor, in `specs/Searched.antt`), then `group` (those with one) and `looking_up` (keys, in
-//! `specs/Found.antt`); `entity_at` looks into one shard.
+//! `specs/Found.antt`); `entity_at` looks into one shard. All count the steps that they take on the ledger that they are handed, but
+//! `query_wide`, which alone has the right to ledgers of its own (`uncounted`).
 #![tactic(auto)]
 
 mod entity_at;
 mod group;
 mod looking_up;
 mod searching;
+mod uncounted;
 
 pub use group::query_in;
 pub use looking_up::{Found, look_up};
 pub use searching::{query, query_wide};
+pub use uncounted::Uncounted;

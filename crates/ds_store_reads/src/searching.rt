@@ -11,6 +11,7 @@ ghost use Rattle.ds_store_reads.specs.Searched.{HasCounted};
 ghost use Rattle.ds_engine.specs.Searches.{look_ups, most_of, search_bound};
 ghost use Rattle.ds_engine.specs.Snapshots.{newest};
 
+use crate::uncounted::Uncounted;
 use ds_base::NoMemory;
 use ds_engine::{Answer, query_slots, query_slots_wide};
 use ds_hub::Slot;
@@ -42,6 +43,7 @@ pub fn query<J: Names, L: Ledger>(
     requires plans { ArePlansFor J.definitions normal.now.branches plans.now }
     requires definitions { defs.now ≡ J.definitions }
     requires kept { (kept ≡ J.window) × (1 ≤ J.window) }
+    requires ledger { L.parts ≡ J.ledger }
     ensures counted { IfOk result (λ a. HasCounted pass.old pass.new a.seen a.beside) }
     ensures found { IfOk result (λ a. FindsGlobally pass.new.lists normal.now window.now a.results a.next) }
     ensures steps_bounded { IfOk result (λ a. All (λ q. steps.new ≤ (steps.old
@@ -74,6 +76,7 @@ pub fn query_wide<J: Names, R: Threads + Sync, G: Gate + Sync>(
     window: &Window,
     plans: &[ScanPlan],
     gate: &G,
+    uncounted: &Uncounted<J>,
 ) -> Result<Answer, NoMemory>
     requires lawful { IsLawfulNormal normal.now }
     requires placeless { SuitsSeveral normal.now.several window.now }
@@ -94,6 +97,7 @@ pub fn query_wide<J: Names, R: Threads + Sync, G: Gate + Sync>(
         window,
         plans,
         gate,
+        uncounted.ledgers.parts(),
     )?;
     pass.place = pass.place.max(answer.beside);
     Ok(answer)
@@ -113,7 +117,7 @@ fn query_shards<L: Ledger>(
     requires lawful { IsLawfulNormal normal.now }
     requires placeless { SuitsSeveral normal.now.several window.now }
     requires plans { ArePlansFor defs.now normal.now.branches plans.now }
-    requires begun { All (HasBegun defs.now kept) shards.old.items }
+    requires begun { All (HasBegun L.parts defs.now kept) shards.old.items }
     requires kept { 1 ≤ kept }
     requires some { 1 ≤ length shards.old.items }
     requires few { length shards.old.items ≤ most_shards }
@@ -148,12 +152,14 @@ fn query_shards_wide<R: Threads + Sync, G: Gate + Sync>(
     window: &Window,
     plans: &[ScanPlan],
     gate: &G,
+    ledger: u64,
 ) -> Result<Answer, NoMemory>
     requires lawful { IsLawfulNormal normal.now }
     requires placeless { SuitsSeveral normal.now.several window.now }
     requires plans { ArePlansFor defs.now normal.now.branches plans.now }
-    requires begun { All (HasBegun defs.now kept) shards.old.items }
+    requires begun { All (HasBegun ledger defs.now kept) shards.old.items }
     requires kept { 1 ≤ kept }
+    requires ledger { 1 ≤ ledger }
     requires some { 1 ≤ length shards.old.items }
     requires few { length shards.old.items ≤ most_shards }
     ensures hubs { map hub_in shards.new.items ≡ map hub_in shards.old.items }
@@ -171,5 +177,6 @@ fn query_shards_wide<R: Threads + Sync, G: Gate + Sync>(
         window,
         plans,
         gate,
+        ledger,
     )
 }

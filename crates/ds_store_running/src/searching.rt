@@ -41,6 +41,7 @@ impl<J: Names, H: Wait + Drop> Store<J, H> {
     ) -> Result<Answer, EngineRefused>
         requires lawful { IsLawfulNormal normal.now }
         requires placeless { SuitsSeveral normal.now.several window.now }
+        requires ledger { L.parts ≡ J.ledger }
         ensures counted { IfOk result (λ a. HasCounted pass.old pass.new a.seen a.beside) }
         ensures found { IfOk result (λ a. FindsGlobally pass.new.lists normal.now window.now a.results a.next) }
         ensures served { OnOk result (first_missing J.definitions normal.now.branches ≡ None) }
@@ -67,6 +68,7 @@ impl<J: Names, H: Wait + Drop> Store<J, H> {
     ) -> Result<Answer, NoMemory>
         requires lawful { IsLawfulNormal normal.now }
         requires placeless { SuitsSeveral normal.now.several window.now }
+        requires ledger { L.parts ≡ J.ledger }
         requires plans { ArePlansFor J.definitions normal.now.branches plans.now }
         ensures counted { IfOk result (λ a. HasCounted pass.old pass.new a.seen a.beside) }
         ensures found { IfOk result (λ a. FindsGlobally pass.new.lists normal.now window.now a.results a.next) }
@@ -159,6 +161,7 @@ impl<J: Names, H: Wait + Drop> Store<J, H> {
             window,
             plans,
             gate,
+            &self.uncounted,
         )
     }
 }

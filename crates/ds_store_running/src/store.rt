@@ -8,6 +8,7 @@ use ds_base::NoMemory;
 use ds_indexdef::Defs;
 use ds_store_hubs::{Names, SeatRoom};
 use ds_store_journal::{JournalDesk, Words};
+use ds_store_reads::Uncounted;
 use ds_store_shards::ShardDesk;
 use std::alloc::{AllocError, Global};
 use std::marker::{Model, PhantomData};
@@ -24,6 +25,8 @@ pub struct Store<J: Names, H: Wait + Drop> {
     pub(crate) definitions: Defs,
     pub(crate) window: u64,
     pub(crate) passes: u32,
+    /// By which the shards are searched all at once.
+    pub(crate) uncounted: Uncounted<J>,
     /// Taken by a close alone.
     pub(crate) seats: Mutex<SeatRoom>,
     /// Tells of commits, whose entries wait to be applied.
@@ -59,6 +62,8 @@ pub struct Unshared<J: Names, H: Wait + Drop> {
     pub window: u64,
     /// How many passes were made with it.
     pub passes: u32,
+    /// By which its shards are searched all at once.
+    pub uncounted: Uncounted<J>,
     /// Room for the seats of all passes.
     pub seats: SeatRoom,
     /// Where the store takes its memory.
@@ -81,6 +86,7 @@ impl<J: Names, H: Wait + Drop> Store<J, H> {
             definitions,
             window,
             passes,
+            uncounted,
             seats,
             alloc,
         } = unshared;
@@ -91,6 +97,7 @@ impl<J: Names, H: Wait + Drop> Store<J, H> {
             definitions,
             window,
             passes,
+            uncounted,
             seats: Mutex::new(seats),
             changed: Condvar::new(),
             alloc,

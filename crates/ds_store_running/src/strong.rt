@@ -43,6 +43,7 @@ impl<J: Names, H: Wait + Drop> Store<J, H> {
     ) -> Result<Answer, StrongRefused>
         requires lawful { IsLawfulNormal normal.now }
         requires placeless { SuitsSeveral normal.now.several window.now }
+        requires ledger { L.parts ≡ J.ledger }
         requires at { IfSome at (λ place. place ≤ pass.old.place) }
         ensures found { (ancestor : KeyParts) → ancestor_of normal.now.branches ≡ Some ancestor → IfOk result
             (λ a. IsFoundInGroup self.now.shards pass.old pass.new (root_of ancestor) at normal.now window.now a.results a.next a.seen
@@ -83,6 +84,7 @@ impl<J: Names, H: Wait + Drop> Store<J, H> {
     ) -> Result<Answer, GetRefused>
         requires lawful { IsLawfulNormal normal.now }
         requires placeless { SuitsSeveral normal.now.several window.now }
+        requires ledger { L.parts ≡ J.ledger }
         requires plans { ArePlansFor J.definitions normal.now.branches plans.now }
         requires shard { (ancestor : KeyParts) → ancestor_of normal.now.branches ≡ Some ancestor
             → shard ≡ shard_of (root_of ancestor) self.now.shards }

@@ -1,7 +1,7 @@
 //! How the desks of the shards are made.
 ghost use Rattle.std.specs.Prelude.{◌≡◌, ◌≤◌, [], All, IfOk, length, slice_get, Some};
 ghost use Rattle.ds_base.specs.Limits.{most_shards};
-ghost use Rattle.ds_shard.specs.Shards.{empty};
+ghost use Rattle.ds_shard.specs.States.{begun};
 ghost use Rattle.ds_store_hubs.specs.Origins.{origins};
 
 use crate::shard_desk::ShardDesk;
@@ -21,7 +21,7 @@ pub fn shard_desks<J: Names, H: Wait + Drop>(
     opened: Vec<OpenedShard<H>>,
     readers: &mut Vec<Reader<(), JournalState>>,
 ) -> Result<Vec<Mutex<ShardDesk<J, H>>>, NoMemory>
-    requires shards { opened.items ≡ origins J.definitions J.window J.shards }
+    requires shards { opened.items ≡ origins J.ledger J.definitions J.window J.shards }
     requires few { (1 ≤ length J.shards) × (length J.shards ≤ most_shards) }
     requires readers { All (λ r. (r.hub ≡ J.journal) × (r.known ≡ [])) readers.old.items }
     ensures { IfOk result (λ desks. length desks.items ≡ length J.shards) }
@@ -47,7 +47,7 @@ fn shard_desk<J: Names, H: Wait + Drop>(
     journal: Reader<(), JournalState>,
 ) -> ShardDesk<J, H>
     requires hub { slice_get J.shards number ≡ Some opened.0 }
-    requires begun { opened.1 ≡ Some (empty J.definitions J.window) }
+    requires begun { opened.1 ≡ Some (begun J.ledger J.definitions J.window) }
     requires journal { (journal.hub ≡ J.journal) × (journal.known ≡ []) }
     requires many { (shards ≡ length J.shards) × (1 ≤ shards) × (shards ≤ most_shards) }
 {

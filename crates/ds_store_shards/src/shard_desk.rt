@@ -5,7 +5,8 @@ ghost use Rattle.ds_log.specs.Logs.{shard_list};
 ghost use Rattle.ds_log.specs.UpTo.{commits_of};
 ghost use Rattle.ds_model.specs.Sessions.{list_of};
 ghost use Rattle.ds_store_passes.specs.Passes.{HasRead};
-ghost use Rattle.ds_shard.specs.Shards.{empty, last_commit};
+ghost use Rattle.ds_shard.specs.Shards.{last_commit};
+ghost use Rattle.ds_shard.specs.States.{begun};
 ghost use Rattle.ds_store_shards.specs.Applying.{IsFew};
 
 use ds_base::NoMemory;
@@ -38,7 +39,7 @@ pub struct ShardDesk<J: Names, H: Wait + Drop> {
     /// The store's names.
     pub of: PhantomData<J>,
     pub ghost of_shard: { slice_get J.shards number ≡ Some writer.writer.hub },
-    pub ghost begun: { writer.writer.start ≡ Some (empty J.definitions J.window) },
+    pub ghost begun: { writer.writer.start ≡ Some (begun J.ledger J.definitions J.window) },
     pub ghost of_journal: { journal.hub ≡ J.journal },
     pub ghost of_all: { (shards ≡ length J.shards) × (1 ≤ shards) × (shards ≤ 16) },
     pub ghost list: { (writer.writer.published ++ writer.writer.pending) ++ waiting.items ≡ shard_list journal.known number shards },

@@ -8,7 +8,7 @@ use ds_engine::EngineRefused;
 use ds_entity::{Item, Seen};
 use ds_io::{Gate, Steps};
 use ds_query::{Filters, Normal, Query, Select, Window, normalize};
-use ds_store::{Answer, Names, Pass, Store, StrongRefused};
+use ds_store::{Answer, Ledgers, Names, Pass, Store, StrongRefused};
 use std::alloc::{AllocError, Global};
 use std::marker::Brand;
 use std::sync::Wait;
@@ -118,13 +118,14 @@ fn is_named(key: &Key, name: &str) -> bool {
 /// A query of all shards. There is no answer where an index is missing.
 fn query<J: Names, H: Wait + Drop>(
     store: &Store<J, H>,
+    ledgers: &Ledgers<J>,
     pass: &mut Pass<J>,
     normal: &Normal,
     names: &[&str],
 ) -> Asked
     requires { IsLawfulNormal normal.now }
 {
-    let found = counted::<J, Brand, H>(Blank::new(1), store, pass, normal);
+    let found = counted::<J, Brand, H>(ledgers.blank(), store, pass, normal);
     told_if(&found, names)
 }
 
@@ -137,6 +138,7 @@ fn counted<J: Names, L: Ledger, H: Wait + Drop>(
     requires name { blank.name ≡ L.name }
     requires parts { blank.parts ≡ L.parts }
     requires some { 0 < blank.parts }
+    requires ledger { L.parts ≡ J.ledger }
     requires lawful { IsLawfulNormal normal.now }
 {
     let mut steps = Steps::<L>::new(blank);
@@ -176,6 +178,7 @@ fn is_seen(at: Option<u64>, place: u64) -> bool
 fn strong_query<J: Names, R: Wait, H: Wait + Drop>(
     rt: &R,
     store: &Store<J, H>,
+    ledgers: &Ledgers<J>,
     pass: &mut Pass<J>,
     normal: &Normal,
     at: Option<u64>,
@@ -186,7 +189,7 @@ fn strong_query<J: Names, R: Wait, H: Wait + Drop>(
     if !is_seen(at, pass.place()) {
         return (None, None);
     }
-    let found = counted_strongly::<J, Brand, R, H>(Blank::new(1), rt, store, pass, normal, at);
+    let found = counted_strongly::<J, Brand, R, H>(ledgers.blank(), rt, store, pass, normal, at);
     told_strongly(&found, names)
 }
 
@@ -209,6 +212,7 @@ fn counted_strongly<J: Names, L: Ledger, R: Wait, H: Wait + Drop>(
     requires name { blank.name ≡ L.name }
     requires parts { blank.parts ≡ L.parts }
     requires some { 0 < blank.parts }
+    requires ledger { L.parts ≡ J.ledger }
     requires lawful { IsLawfulNormal normal.now }
     requires at { IfSome at (λ place. place ≤ pass.old.place) }
 {
@@ -220,11 +224,12 @@ fn counted_strongly<J: Names, L: Ledger, R: Wait, H: Wait + Drop>(
 pub(crate) fn find<J: Names, H: Wait + Drop>(
     alloc: Global,
     store: &Store<J, H>,
+    ledgers: &Ledgers<J>,
     pass: &mut Pass<J>,
     names: &[&str],
 ) -> Result<Asked, NoMemory> {
     let anywhere = keys(alloc, None)?;
-    Ok(query(store, pass, &anywhere, names))
+    Ok(query(store, ledgers, pass, &anywhere, names))
 }
 
 /// The same by a search of all shards at once.
@@ -245,13 +250,14 @@ pub(crate) fn find_under<J: Names, R: Wait, H: Wait + Drop>(
     rt: &R,
     alloc: Global,
     store: &Store<J, H>,
+    ledgers: &Ledgers<J>,
     pass: &mut Pass<J>,
     ancestor: &str,
     at: Option<u64>,
     names: &[&str],
 ) -> Result<AskedStrongly, NoMemory> {
     let under = keys_under(alloc, ancestor)?;
-    Ok(strong_query(rt, store, pass, &under, at, names))
+    Ok(strong_query(rt, store, ledgers, pass, &under, at, names))
 }
 
 fn keys_under(alloc: Global, ancestor: &str) -> Result<Normal, NoMemory>

@@ -1,5 +1,5 @@
 //! Calls of a store, with what they need asked before, and with answers that compare.
-ghost use Rattle.std.specs.Prelude.{◌≡◌, ◌+◌, ◌≤◌, ◌<◌, ℕ, [], IsTrue};
+ghost use Rattle.std.specs.Prelude.{◌≡◌, ◌+◌, ◌≤◌, ◌<◌, ℕ, [], IfSome, IsTrue};
 ghost use Rattle.std.specs.List.{All};
 ghost use Rattle.ds_journal.specs.Drafts.{is_one_put, renumbered_commit};
 ghost use Rattle.ds_log.specs.Ids.{AreIssued};
@@ -7,10 +7,13 @@ ghost use Rattle.ds_log.specs.Ids.{AreIssued};
 use crate::made::number_of;
 use crate::told::Told;
 use ds_base::Key;
+use ds_io::Steps;
 use ds_journal::{CommitCause, CommitRefused, Draft};
 use ds_log::Touch;
-use ds_store::{GetRefused, Got, Names, Pass, Store};
+use ds_store::{GetRefused, Got, Ledgers, Names, Pass, Store};
+use std::marker::Brand;
 use std::sync::Wait;
+use std::sync::ledger::{Blank, Ledger};
 
 /// A commit's number, or the group, the commit and the place of its conflict.
 pub(crate) type Committed = (Option<u64>, Option<(u32, u64, u64)>);
@@ -111,16 +114,18 @@ fn read(answer: Result<Got, GetRefused>) -> Read {
 pub(crate) fn get<J: Names, R: Wait, H: Wait + Drop>(
     rt: &R,
     store: &Store<J, H>,
+    ledgers: &Ledgers<J>,
     pass: &mut Pass<J>,
     key: &Key,
 ) -> Read {
-    read(store.get(rt, pass, key, None))
+    read(counted::<J, Brand, R, H>(ledgers.blank(), rt, store, pass, key, None))
 }
 
 /// A get in a transaction, at the touch place. There is no answer where that is above the pass's place.
 pub(crate) fn get_at<J: Names, R: Wait, H: Wait + Drop>(
     rt: &R,
     store: &Store<J, H>,
+    ledgers: &Ledgers<J>,
     pass: &mut Pass<J>,
     key: &Key,
     place: u64,
@@ -128,7 +133,25 @@ pub(crate) fn get_at<J: Names, R: Wait, H: Wait + Drop>(
     if pass.place() < place {
         return (None, None);
     }
-    read(store.get(rt, pass, key, Some(place)))
+    read(counted::<J, Brand, R, H>(ledgers.blank(), rt, store, pass, key, Some(place)))
+}
+
+fn counted<J: Names, L: Ledger, R: Wait, H: Wait + Drop>(
+    blank: Blank,
+    rt: &R,
+    store: &Store<J, H>,
+    pass: &mut Pass<J>,
+    key: &Key,
+    at: Option<u64>,
+) -> Result<Got, GetRefused>
+    requires name { blank.name ≡ L.name }
+    requires parts { blank.parts ≡ L.parts }
+    requires some { 0 < blank.parts }
+    requires ledger { L.parts ≡ J.ledger }
+    requires at { IfSome at (λ place. place ≤ pass.old.place) }
+{
+    let mut steps = Steps::<L>::new(blank);
+    store.get(rt, pass, key, at, &mut steps)
 }
 
 /// Whether an entry was applied, the shard's count, the place, and the commit of the last applied entry.

@@ -8,7 +8,7 @@ use crate::made::{alone, incomplete, key, touching};
 use crate::told::Told;
 use ds_base::{Key, NoMemory};
 use ds_io::NoGate;
-use ds_store::{Names, Pass, Store};
+use ds_store::{Ledgers, Names, Pass, Store};
 use std::alloc::Global;
 use std::sync::atomic::{AtomicU64, Ordering};
 use std::sync::{Mutex, Wait};
@@ -34,6 +34,7 @@ pub(crate) fn crowd<J: Names + Send + Sync, R: Threads + Wait + Sync, H: Wait + 
     rt: &R,
     alloc: Global,
     store: &Store<J, H>,
+    ledgers: &Ledgers<J>,
     passes: &mut [Pass<J>],
     seed: u64,
     told: &mut Told,
@@ -43,7 +44,7 @@ pub(crate) fn crowd<J: Names + Send + Sync, R: Threads + Wait + Sync, H: Wait + 
         raised: AtomicU64::new(0),
         done: AtomicU64::new(0),
     };
-    run_all(rt, alloc, store, passes, seed, &shared);
+    run_all(rt, alloc, store, ledgers, passes, seed, &shared);
     let Shared {
         told: all,
         raised,
@@ -51,7 +52,15 @@ pub(crate) fn crowd<J: Names + Send + Sync, R: Threads + Wait + Sync, H: Wait + 
     } = shared;
     told.join(all.into_inner());
     let c = key(alloc, "c")?;
-    see_raised(rt, store, passes, &c, raised.load(Ordering::SeqCst), told);
+    see_raised(
+        rt,
+        store,
+        ledgers,
+        passes,
+        &c,
+        raised.load(Ordering::SeqCst),
+        told,
+    );
     Ok(())
 }
 
@@ -59,6 +68,7 @@ pub(crate) fn crowd<J: Names + Send + Sync, R: Threads + Wait + Sync, H: Wait + 
 fn see_raised<J: Names, R: Wait, H: Wait + Drop>(
     rt: &R,
     store: &Store<J, H>,
+    ledgers: &Ledgers<J>,
     passes: &mut [Pass<J>],
     c: &Key,
     raised: u64,
@@ -66,7 +76,7 @@ fn see_raised<J: Names, R: Wait, H: Wait + Drop>(
 ) {
     for pass in passes.iter_mut() {
         store.touch(rt, pass);
-        let found = get(rt, store, pass, c).0;
+        let found = get(rt, store, ledgers, pass, c).0;
         told.expect(
             is_number(found, raised),
             "a number that was raised more or less often",
@@ -85,6 +95,7 @@ fn run_all<J: Names + Send + Sync, R: Threads + Wait + Sync, H: Wait + Drop + Se
     rt: &R,
     alloc: Global,
     store: &Store<J, H>,
+    ledgers: &Ledgers<J>,
     passes: &mut [Pass<J>],
     seed: u64,
     shared: &Shared,
@@ -93,7 +104,9 @@ fn run_all<J: Names + Send + Sync, R: Threads + Wait + Sync, H: Wait + Drop + Se
     if threads == 0 {
         return;
     }
-    let run = |i: usize, pass: &mut Pass<J>| { work(rt, alloc, store, shared, seed, i, pass) };
+    let run = |i: usize, pass: &mut Pass<J>| {
+        work(rt, alloc, store, ledgers, shared, seed, i, pass)
+    };
     thread::for_each_mut(rt, passes, threads, &run);
 }
 
@@ -101,6 +114,7 @@ fn work<J: Names + Send + Sync, R: Threads + Wait + Sync, H: Wait + Drop + Send>
     rt: &R,
     alloc: Global,
     store: &Store<J, H>,
+    ledgers: &Ledgers<J>,
     shared: &Shared,
     seed: u64,
     i: usize,
@@ -109,7 +123,10 @@ fn work<J: Names + Send + Sync, R: Threads + Wait + Sync, H: Wait + Drop + Send>
     let mut told = Told::new(alloc);
     if i < CLIENTS {
         let mut dice = Dice::new(seed.wrapping_add(i as u64));
-        let called = calls(rt, alloc, store, shared, pass, &mut dice, &mut told).is_ok();
+        let called = calls(
+            rt, alloc, store, ledgers, shared, pass, &mut dice, &mut told,
+        )
+        .is_ok();
         told.expect(called, "a call that wasn't made");
         shared.done.fetch_add(1, Ordering::SeqCst);
         store.wake_all();
@@ -167,6 +184,7 @@ fn calls<J: Names + Send + Sync, R: Threads + Wait + Sync, H: Wait + Drop + Send
     rt: &R,
     alloc: Global,
     store: &Store<J, H>,
+    ledgers: &Ledgers<J>,
     shared: &Shared,
     pass: &mut Pass<J>,
     dice: &mut Dice,
@@ -174,7 +192,7 @@ fn calls<J: Names + Send + Sync, R: Threads + Wait + Sync, H: Wait + Drop + Send
 ) -> Result<(), NoMemory> {
     for _ in 0..CALLS {
         let place = pass.place();
-        call(rt, alloc, store, shared, pass, dice, told)?;
+        call(rt, alloc, store, ledgers, shared, pass, dice, told)?;
         told.expect(place <= pass.place(), "a place that fell");
     }
     Ok(())
@@ -185,16 +203,17 @@ fn call<J: Names + Send + Sync, R: Threads + Wait + Sync, H: Wait + Drop + Send>
     rt: &R,
     alloc: Global,
     store: &Store<J, H>,
+    ledgers: &Ledgers<J>,
     shared: &Shared,
     pass: &mut Pass<J>,
     dice: &mut Dice,
     told: &mut Told,
 ) -> Result<(), NoMemory> {
     match dice.roll(10) {
-        0 | 1 | 2 => put(rt, alloc, store, pass, dice, told),
-        3 | 4 => raise(rt, alloc, store, shared, pass, told),
+        0 | 1 | 2 => put(rt, alloc, store, ledgers, pass, dice, told),
+        3 | 4 => raise(rt, alloc, store, ledgers, shared, pass, told),
         5 => put_new(rt, alloc, store, pass, told),
-        9 => query(rt, alloc, store, pass, dice, told),
+        9 => query(rt, alloc, store, ledgers, pass, dice, told),
         other => {
             let called = is_called(rt, store, pass, other, dice, told);
             told.expect(called, "a draw, a settle or an apply");
@@ -240,14 +259,15 @@ fn query<J: Names + Send + Sync, R: Threads + Wait + Sync, H: Wait + Drop + Send
     rt: &R,
     alloc: Global,
     store: &Store<J, H>,
+    ledgers: &Ledgers<J>,
     pass: &mut Pass<J>,
     dice: &mut Dice,
     told: &mut Told,
 ) -> Result<(), NoMemory> {
     let asked = match dice.roll(4) {
         0 => find_wide(rt, alloc, store, pass, &NoGate, &[])?,
-        1 => find_under(rt, alloc, store, pass, "c", None, &[])?.0,
-        _ => find(alloc, store, pass, &[])?,
+        1 => find_under(rt, alloc, store, ledgers, pass, "c", None, &[])?.0,
+        _ => find(alloc, store, ledgers, pass, &[])?,
     };
     told.expect(asked.is_some(), "a query");
     Ok(())
@@ -258,6 +278,7 @@ fn put<J: Names, R: Wait, H: Wait + Drop>(
     rt: &R,
     alloc: Global,
     store: &Store<J, H>,
+    ledgers: &Ledgers<J>,
     pass: &mut Pass<J>,
     dice: &mut Dice,
     told: &mut Told,
@@ -271,7 +292,7 @@ fn put<J: Names, R: Wait, H: Wait + Drop>(
     let key = key(alloc, name)?;
     let draft = alone(alloc, name, number)?;
     let (commit, _) = commit(rt, store, pass, draft, told);
-    let (read, _) = get(rt, store, pass, &key);
+    let (read, _) = get(rt, store, ledgers, pass, &key);
     told.expect(
         is_not_below(read, commit),
         "a commit, or a read that isn't below it",
@@ -292,13 +313,14 @@ fn raise<J: Names, R: Wait, H: Wait + Drop>(
     rt: &R,
     alloc: Global,
     store: &Store<J, H>,
+    ledgers: &Ledgers<J>,
     shared: &Shared,
     pass: &mut Pass<J>,
     told: &mut Told,
 ) -> Result<(), NoMemory> {
     let c = key(alloc, "c")?;
     let at = store.touch(rt, pass);
-    let (found, gone) = get_at(rt, store, pass, &c, at);
+    let (found, gone) = get_at(rt, store, ledgers, pass, &c, at);
     let Some((number, _, _)) = found else {
         told.expect(gone.is_some(), "a get inside");
         return Ok(());

@@ -9,7 +9,7 @@ use crate::told::{Told, amiss};
 use crate::wide::at_once;
 use ds_base::NoMemory;
 use ds_indexdef::Defs;
-use ds_store::{Made, Names, Opened, Pass, Passes, Store, make, open};
+use ds_store::{Ledgers, Made, Names, Opened, Pass, Passes, Store, make, open};
 use std::alloc::Global;
 use std::marker::Brand;
 use std::sync::Wait;
@@ -65,16 +65,17 @@ fn ended<J: Names + Send + Sync, R: Threads + Wait + Sync, H: Wait + Drop + Send
     trial: Trial,
     opened: Opened<H>,
 ) -> Result<&'static str, NoMemory>
-    requires names { AreNamesOf opened J.journal J.shards J.commits J.ids J.definitions J.window }
+    requires names { AreNamesOf opened J.journal J.shards J.commits J.ids J.definitions J.window J.ledger }
     requires begun { AreBegun opened }
 {
     let Made {
         store,
         tail: _tail,
+        ledgers,
         passes,
     } = make::<J, H>(alloc, opened)?;
     let mut passes = passes.into_vec();
-    let told = told(rt, alloc, trial, &store, passes.as_mut_slice());
+    let told = told(rt, alloc, trial, &store, &ledgers, passes.as_mut_slice());
     let shards = store.shards();
     let closed = store.close(rt, Passes::from(passes));
     amiss(alloc, shards, told?, &closed)
@@ -86,12 +87,13 @@ fn told<J: Names + Send + Sync, R: Threads + Wait + Sync, H: Wait + Drop + Send>
     alloc: Global,
     trial: Trial,
     store: &Store<J, H>,
+    ledgers: &Ledgers<J>,
     passes: &mut [Pass<J>],
 ) -> Result<Told, NoMemory> {
     let mut told = Told::new(alloc);
     match trial {
-        Trial::Crowd(seed) => crowd(rt, alloc, store, passes, seed, &mut told)?,
-        _ => first_two(rt, alloc, trial, store, passes, &mut told)?,
+        Trial::Crowd(seed) => crowd(rt, alloc, store, ledgers, passes, seed, &mut told)?,
+        _ => first_two(rt, alloc, trial, store, ledgers, passes, &mut told)?,
     }
     Ok(told)
 }
@@ -102,6 +104,7 @@ fn first_two<J: Names + Send + Sync, R: Threads + Wait + Sync, H: Wait + Drop + 
     alloc: Global,
     trial: Trial,
     store: &Store<J, H>,
+    ledgers: &Ledgers<J>,
     passes: &mut [Pass<J>],
     told: &mut Told,
 ) -> Result<(), NoMemory> {
@@ -112,6 +115,6 @@ fn first_two<J: Names + Send + Sync, R: Threads + Wait + Sync, H: Wait + Drop + 
     let (ones, others) = passes.split_at_mut(1);
     match trial {
         Trial::Race => race(rt, alloc, store, &mut ones[0], &mut others[0], told),
-        _ => at_once(rt, alloc, store, &mut ones[0], told),
+        _ => at_once(rt, alloc, store, ledgers, &mut ones[0], told),
     }
 }

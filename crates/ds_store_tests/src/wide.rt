@@ -5,7 +5,7 @@ use crate::made::alone;
 use crate::told::Told;
 use ds_base::NoMemory;
 use ds_io::{Gate, NoGate};
-use ds_store::{Names, Pass, Store};
+use ds_store::{Ledgers, Names, Pass, Store};
 use std::alloc::Global;
 use std::sync::Wait;
 use std::sync::atomic::{AtomicU64, Ordering};
@@ -67,6 +67,7 @@ pub(crate) fn at_once<J: Names, R: Threads + Wait + Sync, H: Wait + Drop>(
     rt: &R,
     alloc: Global,
     store: &Store<J, H>,
+    ledgers: &Ledgers<J>,
     pass: &mut Pass<J>,
     told: &mut Told,
 ) -> Result<(), NoMemory> {
@@ -83,7 +84,7 @@ pub(crate) fn at_once<J: Names, R: Threads + Wait + Sync, H: Wait + Drop>(
     );
     let found = find_wide(rt, alloc, store, pass, &NoGate, &NAMES)?;
     told.expect(found == finds(5, 5), "a query without a gate");
-    let found = find(alloc, store, pass, &NAMES)?;
+    let found = find(alloc, store, ledgers, pass, &NAMES)?;
     told.expect(found == finds(5, 5), "a query of one shard after the other");
     Ok(())
 }

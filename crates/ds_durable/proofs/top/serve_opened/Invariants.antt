@@ -10,4 +10,5 @@ ghosts-run_opened g a = record {
   ids = a.origin.opened.ids;
   definitions = a.origin.opened.definitions;
   window = a.origin.opened.window;
+  ledger = a.origin.opened.ledger;
 }

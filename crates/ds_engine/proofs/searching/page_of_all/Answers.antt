@@ -9,7 +9,7 @@ use Rattle.ds_engine.proofs.ShardPages.{page_of_several, page_of_single}
 use Rattle.ds_engine.proofs.searching.page_of_all.Goals as goal
 
 pub returns-then-normal : goal.returns-then-normal
-returns-then-normal c own =
+returns-then-normal g c own =
     let n = c.args.normal.now in
     let w = c.args.window.now in
     let views = map entities_in c.args.snapshots.now in
@@ -21,7 +21,7 @@ returns-then-normal c own =
     c.page_of_rows.ensures
 
 pub returns-else-normal : goal.returns-else-normal
-returns-else-normal c own =
+returns-else-normal g c own =
     let n = c.args.normal.now in
     let w = c.args.window.now in
     let views = map entities_in c.args.snapshots.now in

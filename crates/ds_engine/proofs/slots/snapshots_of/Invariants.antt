@@ -5,4 +5,4 @@ use Rattle.ds_engine.specs.Snapshots.{newest}
 use Rattle.ds_engine.proofs.slots.snapshots_of.Given as goal
 
 abbrev pub invariant-loop-slot : goal.invariant-loop-slot
-invariant-loop-slot l = l.snapshots.items ≡ newest l.defs l.kept (map known_in (take l.slot-index l.slots))
+invariant-loop-slot g l = l.snapshots.items ≡ newest l.defs l.kept (map known_in (take l.slot-index l.slots))

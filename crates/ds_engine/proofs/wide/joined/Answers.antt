@@ -11,7 +11,7 @@ use Rattle.ds_engine.proofs.RowLoops.{placed-more, rows-all, rows-more}
 use Rattle.ds_engine.proofs.wide.joined.Goals as goal
 
 pub loop-lane-preserved : goal.loop-lane-preserved
-loop-lane-preserved c =
+loop-lane-preserved g c =
     let n = c.args.normal.now in
     let w = c.args.window.now in
     let ss = c.args.snapshots.now in
@@ -34,7 +34,7 @@ loop-lane-preserved c =
     }
 
 pub returns-clause-rows : goal.returns-clause-rows
-returns-clause-rows c =
+returns-clause-rows g c =
     let n = c.args.normal.now in
     let w = c.args.window.now in
     let ss = c.args.snapshots.now in

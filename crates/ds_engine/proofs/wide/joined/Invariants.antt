@@ -8,7 +8,7 @@ use Rattle.ds_engine.specs.Snapshots.{entities_in}
 use Rattle.ds_engine.proofs.wide.joined.Given as goal
 
 abbrev pub invariant-loop-lane : goal.invariant-loop-lane
-invariant-loop-lane l = record {
+invariant-loop-lane g l = record {
   rows : l.rows.items
       ≡ map (placed l.normal.merged) (flat_map (λ s. shard_rows l.normal l.window (entities_in s)) (take (length l.yielded) l.snapshots));
   placed : All (IsPlaced l.normal.merged) l.rows.items;

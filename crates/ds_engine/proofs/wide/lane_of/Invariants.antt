@@ -2,4 +2,4 @@
 use Rattle.ds_engine.proofs.wide.lane_of.Given as goal
 
 abbrev pub ghosts-scanned : goal.ghosts-scanned
-ghosts-scanned a = record { name = a.blank.name; parts = a.blank.parts }
+ghosts-scanned g a = record { name = a.blank.name; parts = a.blank.parts }

@@ -10,4 +10,5 @@ ghosts-run_both g a = record {
   ids = a.second.ids;
   definitions = a.second.definitions;
   window = a.second.window;
+  ledger = a.second.ledger;
 }

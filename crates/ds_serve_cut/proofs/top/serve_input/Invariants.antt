@@ -10,4 +10,5 @@ ghosts-run_opened g a = record {
   ids = a.opened.ids;
   definitions = a.opened.definitions;
   window = a.opened.window;
+  ledger = a.opened.ledger;
 }

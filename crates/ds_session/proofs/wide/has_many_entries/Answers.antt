@@ -9,8 +9,10 @@ returns-then-count-left g c =
     let k = c.loop-shard.shard in
     let below : k < length lists = omega (arith, c.loop-shard-test.true, c.loop-shard.auto.shard-end, c.shards-shard-end.ensures) in
     let count = c.unwrap_or-count.ensures ∙ count_told lists k c.count.result c.count.ensures in
-    let more : c.loop-shard.left < c.unwrap_or-count.result = omega (arith, c.if-count-left.true) in
-    (λ yes. too_many lists k c.loop-shard.left most_scanned_by_one c.unwrap_or-count.result below count c.loop-shard.invariant more, λ many. refl)
+    let more : c.loop-shard.left < c.unwrap_or-count.result = omega (arith, c.if-count-left.true) in (
+      λ yes. too_many lists k c.loop-shard.left most_scanned_by_one c.unwrap_or-count.result below count c.loop-shard.invariant more,
+      λ many. refl,
+    )
 
 pub loop-shard-preserved : goal.loop-shard-preserved
 loop-shard-preserved g c =

@@ -2,7 +2,7 @@ use Rattle.std.proofs.Common.{◌≡◌, ◌+◌, ◌++◌, ℕ, List, length, a
 use Rattle.std.proofs.lemmas.Result.{MatchResult-weaker}
 use Rattle.ds_hub.specs.Holding.{Publishing}
 use Rattle.ds_log.specs.declared.Entry.{Entry}
-use Rattle.ds_shard.specs.Shards.{ShardParts}
+use Rattle.ds_shard.specs.States.{StateParts}
 use Rattle.ds_store_hubs.proofs.arriving.publish_waiting.Goals as goal
 
 -- what was published and pending, with so many entries more, is published at the end
@@ -28,4 +28,4 @@ returns-clause-published g c =
     MatchResult-weaker c.publish.result c.publish.ensures.lists
     (λ _ is. all_shown before.published before.pending first.published first.pending added.published added.pending
     c.publish.new.self.published c.args.count c.in_ok-publish_parked.ensures.kept c.in_ok-add_waiting.ensures.same.2
-    c.in_ok-add_waiting.ensures.added (ap (λ (w : Publishing ShardParts Entry). w.published) is)) (λ _ _. tt)
+    c.in_ok-add_waiting.ensures.added (ap (λ (w : Publishing StateParts Entry). w.published) is)) (λ _ _. tt)

@@ -6,7 +6,7 @@ use Rattle.ds_base.specs.Limits.{first_drawn_id}
 use Rattle.ds_draw.specs.Draws.{SeatView, new_seat}
 use Rattle.ds_hub.specs.Line.{HubId}
 use Rattle.ds_log.specs.declared.Entry.{Entry}
-use Rattle.ds_shard.specs.Shards.{ShardParts}
+use Rattle.ds_shard.specs.States.{StateParts}
 use Rattle.ds_store_hubs.specs.Origins.{origin_of}
 use Rattle.ds_store_passes.specs.Passes.{OwnSeen}
 use Rattle.ds_store_passes.proofs.making.one_pass.Goals as goal
@@ -48,8 +48,8 @@ pub returns-clause-pass : goal.returns-clause-pass
 returns-clause-pass g c =
     let own = c.in_ok-commits.ensures.seat (new_seat g.J.Names.commits 1) c.requires.commits in
     let drawn = c.in_ok-ids.ensures.seat (new_seat g.J.Names.ids first_drawn_id) c.requires.ids in
-    let many = ap (λ (os : List (HubId × Option ShardParts)). length os) c.requires.shards
-    ∙ length-map g.J.Names.shards (origin_of g.J.Names.definitions g.J.Names.window) in
+    let many = ap (λ (os : List (HubId × Option StateParts)). length os) c.requires.shards
+    ∙ length-map g.J.Names.shards (origin_of g.J.Names.ledger g.J.Names.definitions g.J.Names.window) in
     let none : List Entry = [] in
     let lists = c.in_ok-shards.ensures.known ∙ ap (λ n. replicate n none) many in
     λ i. record {

@@ -21,6 +21,6 @@ returns-clause-found g c = λ definitions window entries least is.
     let found : option_copied c.entity.result ≡ entity_of (left_by entries stamp) c.args.key.now =
     c.entity.ensures.finds
     ∙ ap (λ (s : ShardParts). find (λ (e : EntityParts). same_key e.key c.args.key.now) (entities_at stamp s.versions))
-    (c.tables-tables.ensures ∙ is)
+    is
     ∙ ap (λ es. find (λ (e : EntityParts). same_key e.key c.args.key.now) es) at_stamp in
     subst (λ o. IfOk c.copy_of.result (λ copied. copied ≡ o)) found c.copy_of.ensures

@@ -8,7 +8,7 @@ use Rattle.ds_model.specs.Sessions.{list_of}
 use Rattle.ds_engine.specs.Groups.{IsGroupFound, look_ups_of}
 use Rattle.ds_engine.specs.Searches.{most_of, search_bound}
 use Rattle.ds_engine.specs.Snapshots.{SnapshotParts, snapshot_of}
-use Rattle.ds_shard.specs.Shards.{empty}
+use Rattle.ds_shard.specs.States.{begun}
 use Rattle.ds_store_passes.specs.Passes.{PassParts}
 use Rattle.ds_store_passes.proofs.SlotLists.{hubs_stay, list_there, start_there}
 use Rattle.ds_store_reads.proofs.group.query_in.Goals as goal
@@ -18,9 +18,9 @@ query_slot-found-requires-clause-begun g c =
     let slots = c.pass.inside.shards.items in
     let lt : c.args.shard < length slots =
     omega (arith, c.requires.shard, ap (λ (p : PassParts). length p.lists) c.pass.view_is, length-map slots known_in) in
-    let start = start_there g.J.Names.definitions g.J.Names.window slots g.J.Names.shards c.args.shard c.index_mut-slot.result.now
-    c.pass.invariant.1 lt c.index_mut-slot.ensures.value in
-    start ∙ (λ i. Some (empty (sym c.requires.definitions i) (sym c.requires.kept.0 i)))
+    let start = start_there g.J.Names.ledger g.J.Names.definitions g.J.Names.window slots g.J.Names.shards c.args.shard
+    c.index_mut-slot.result.now c.pass.invariant.1 lt c.index_mut-slot.ensures.value in
+    start ∙ (λ i. Some (begun (sym c.requires.ledger i) (sym c.requires.definitions i) (sym c.requires.kept.0 i)))
 
 pub query_slot-found-requires-clause-stamp : goal.query_slot-found-requires-clause-stamp
 query_slot-found-requires-clause-stamp g c =

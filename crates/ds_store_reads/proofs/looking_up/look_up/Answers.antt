@@ -5,6 +5,7 @@ use Rattle.std.proofs.Math.Seq.{map-set_same}
 use Rattle.ds_hub.specs.Holding.{hub_in, known_in}
 use Rattle.ds_log.specs.declared.Entry.{Entry}
 use Rattle.ds_model.specs.Sessions.{list_of}
+use Rattle.ds_engine.specs.Counted.{HasBegun}
 use Rattle.ds_store_reads.specs.Found.{IsFound}
 use Rattle.ds_store_passes.specs.Passes.{PassParts}
 use Rattle.ds_store_passes.proofs.SlotLists.{hubs_stay, list_there, start_there}
@@ -15,8 +16,9 @@ found_in-found-requires-clause-start g c =
     let slots = c.pass.inside.shards.items in
     let lt : c.args.shard < length slots =
     omega (arith, c.requires.shard, ap (λ (p : PassParts). length p.lists) c.pass.view_is, length-map slots known_in) in
-    start_there g.J.Names.definitions g.J.Names.window slots g.J.Names.shards c.args.shard c.index_mut-slot.result.now c.pass.invariant.1 lt
-    c.index_mut-slot.ensures.value
+    subst (λ n. HasBegun n g.J.Names.definitions g.J.Names.window c.index_mut-slot.result.now) (sym c.requires.ledger)
+    (start_there g.J.Names.ledger g.J.Names.definitions g.J.Names.window slots g.J.Names.shards c.args.shard c.index_mut-slot.result.now
+    c.pass.invariant.1 lt c.index_mut-slot.ensures.value)
 
 pub found_in-found-requires-clause-entries : goal.found_in-found-requires-clause-entries
 found_in-found-requires-clause-entries g c =
@@ -56,4 +58,4 @@ returns-clause-found g c =
     ap (λ (p : PassParts). list_of p.lists c.args.shard) (sym c.pass.view_is)
     ∙ list_there slots c.args.shard c.index_mut-slot.result.now lt c.index_mut-slot.ensures.value in
     subst (λ es. IfOk c.found_in-found.result (λ found. IsFound es c.args.entries g.J.Names.window c.args.key.now found)) (sym list)
-    c.found_in-found.ensures
+    c.found_in-found.ensures.found

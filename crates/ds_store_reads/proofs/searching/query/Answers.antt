@@ -2,6 +2,7 @@ use Rattle.std.proofs.Common.{◌+◌, ◌≤◌, List, length, map, subst, sym,
 use Rattle.std.specs.Prelude.{All}
 use Rattle.ds_query.specs.declared.branch.Branch.{Branch}
 use Rattle.ds_hub.specs.Holding.{known_in}
+use Rattle.ds_engine.specs.Counted.{HasBegun}
 use Rattle.ds_engine.specs.Plans.{ArePlansFor}
 use Rattle.ds_engine.specs.Searches.{look_ups, most_of, search_bound}
 use Rattle.ds_engine.specs.Snapshots.{SnapshotParts, newest}
@@ -14,18 +15,21 @@ query_shards-requires-clause-plans g c =
 
 pub query_shards-requires-clause-begun : goal.query_shards-requires-clause-begun
 query_shards-requires-clause-begun g c =
-    begun-of g.J.Names.definitions c.args.defs.now g.J.Names.window c.args.kept g.J.Names.shards c.pass.inside.shards.items
-    c.requires.definitions c.requires.kept.0 c.pass.invariant.1
+    subst (λ n. All (HasBegun n c.args.defs.now c.args.kept) c.pass.inside.shards.items) (sym c.requires.ledger)
+    (begun-of g.J.Names.ledger g.J.Names.definitions c.args.defs.now g.J.Names.window c.args.kept g.J.Names.shards
+    c.pass.inside.shards.items c.requires.definitions c.requires.kept.0 c.pass.invariant.1)
 
 pub query_shards-requires-clause-some : goal.query_shards-requires-clause-some
 query_shards-requires-clause-some g c =
-    let many = many-origins g.J.Names.definitions g.J.Names.window g.J.Names.shards c.pass.inside.shards.items c.pass.invariant.1 in
+    let many = many-origins g.J.Names.ledger g.J.Names.definitions g.J.Names.window g.J.Names.shards c.pass.inside.shards.items
+    c.pass.invariant.1 in
     let some = c.pass.invariant.5.0 in
     omega (arith, many, some)
 
 pub query_shards-requires-clause-few : goal.query_shards-requires-clause-few
 query_shards-requires-clause-few g c =
-    let many = many-origins g.J.Names.definitions g.J.Names.window g.J.Names.shards c.pass.inside.shards.items c.pass.invariant.1 in
+    let many = many-origins g.J.Names.ledger g.J.Names.definitions g.J.Names.window g.J.Names.shards c.pass.inside.shards.items
+    c.pass.invariant.1 in
     let few = c.pass.invariant.5.1 in
     omega (arith, many, few)
 

@@ -5,7 +5,7 @@ use Rattle.ds_log.specs.Logs.{shard_list}
 use Rattle.ds_hub.specs.Holding.{Publishing}
 use Rattle.ds_log.specs.declared.Entry.{Entry}
 use Rattle.ds_model.specs.Sessions.{last_commit, list_of}
-use Rattle.ds_shard.specs.Shards.{ShardParts}
+use Rattle.ds_shard.specs.States.{StateParts}
 use Rattle.ds_store_passes.specs.Answered.{HasApplied}
 use Rattle.ds_store_passes.specs.Passes.{PassParts, HasRead}
 use Rattle.ds_store_shards.proofs.Applies.{applied_one}
@@ -52,7 +52,7 @@ returns-clause-applied g c =
     c.show.ensures.before in
     let moves : MatchBool c.in_ok-moved.moved (length old < length new) (new ≡ shard_list known desk.number desk.shards) =
     subst (λ o. MatchBool c.in_ok-moved.moved (length o < length new) (new ≡ shard_list known desk.number desk.shards))
-    (ap (λ (w : Publishing ShardParts Entry). w.published) c.show.ensures.desk.3)
+    (ap (λ (w : Publishing StateParts Entry). w.published) c.show.ensures.desk.3)
     (subst (λ l. MatchBool c.in_ok-moved.moved (length shown_desk.writer.writer.published < length new) (new ≡ l))
     (λ i. shard_list (c.show.ensures.desk.2 i).known (c.show.ensures.desk.0 i) (c.show.ensures.desk.1 i))
     c.in_ok-moved.ensures.moved) in
@@ -80,9 +80,9 @@ returns-clause-applied g c =
     let high_commit : c.last-commit.result ≤ after.place = omega (arith, ap (λ (p : PassParts). p.place) c.stand-2.ensures) in
     let all = applied_one desk.shards desk.number before after known old new (applied.writer.writer.pending ++ applied.waiting.items)
     c.in_ok-moved.moved c.last-commit.result read low whole high high_commit begins moves own there
-    (c.last-commit.ensures ∙ ap (λ (w : Publishing ShardParts Entry). last_commit w.published) c.show-2.ensures.desk.3) in
+    (c.last-commit.ensures ∙ ap (λ (w : Publishing StateParts Entry). last_commit w.published) c.show-2.ensures.desk.3) in
     let count : c.published.result ≡ length new =
-    c.published.ensures ∙ ap (λ (w : Publishing ShardParts Entry). length w.published) c.show-2.ensures.desk.3 in
+    c.published.ensures ∙ ap (λ (w : Publishing StateParts Entry). length w.published) c.show-2.ensures.desk.3 in
     subst (λ n. HasApplied desk.shards before after desk.number c.in_ok-moved.moved n c.len-place.result c.last-commit.result) (sym count)
     (subst (λ n. HasApplied desk.shards before after desk.number c.in_ok-moved.moved (length new) n c.last-commit.result)
     (sym c.len-place.ensures) all)

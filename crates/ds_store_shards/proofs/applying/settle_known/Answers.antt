@@ -4,7 +4,7 @@ use mathlib.Core.List.{IsPrefix}
 use Rattle.ds_hub.specs.Holding.{Publishing}
 use Rattle.ds_log.specs.declared.Entry.{Entry}
 use Rattle.ds_model.specs.Sessions.{last_commit}
-use Rattle.ds_shard.specs.Shards.{ShardParts}
+use Rattle.ds_shard.specs.States.{StateParts}
 use Rattle.ds_store_shards.specs.Standing.{IsSettled}
 use Rattle.ds_log.specs.Logs.{shard_list}
 use Rattle.ds_store_passes.specs.Passes.{PassParts, HasRead}
@@ -39,7 +39,7 @@ returns-clause-settled g c =
     let all = settled_one desk.shards desk.number c.args.place before after known list c.entries_up_to-entries.result c.last-commit.result
     read begins
     c.requires.known are c.in_ok-apply_up_to.ensures.applied lists
-    (c.last-commit.ensures ∙ ap (λ (w : Publishing ShardParts Entry). last_commit w.published) c.show.ensures.desk.3) high in
+    (c.last-commit.ensures ∙ ap (λ (w : Publishing StateParts Entry). last_commit w.published) c.show.ensures.desk.3) high in
     let count : c.published.result ≡ length list =
-    c.published.ensures ∙ ap (λ (w : Publishing ShardParts Entry). length w.published) c.show.ensures.desk.3 in
+    c.published.ensures ∙ ap (λ (w : Publishing StateParts Entry). length w.published) c.show.ensures.desk.3 in
     subst (λ n. IsSettled desk.shards before after desk.number c.args.place n c.last-commit.result) (sym count) all

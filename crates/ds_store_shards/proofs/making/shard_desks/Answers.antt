@@ -2,21 +2,21 @@ use Rattle.std.proofs.Common.{◌≡◌, suc, ◌+◌, List, length, drop, ap, s
 use Rattle.std.specs.Prelude.{Option}
 use Rattle.std.proofs.lemmas.List.{length-map}
 use Rattle.ds_hub.specs.Line.{HubId}
-use Rattle.ds_shard.specs.Shards.{ShardParts}
+use Rattle.ds_shard.specs.States.{StateParts}
 use Rattle.ds_store_hubs.specs.Origins.{origin_of, origins}
 use Rattle.ds_store_hubs.proofs.ShardHubs.{origin-next}
 use Rattle.ds_store_shards.proofs.making.shard_desks.Goals as goal
 
 pub shard_desk-desk-requires-clause-hub : goal.shard_desk-desk-requires-clause-hub
 shard_desk-desk-requires-clause-hub g c =
-    let next = origin-next g.J.Names.definitions g.J.Names.window g.J.Names.shards c.loop-shard.number c.in-Some.shard
+    let next = origin-next g.J.Names.ledger g.J.Names.definitions g.J.Names.window g.J.Names.shards c.loop-shard.number c.in-Some.shard
     c.next.new.self.rest.items
     (sym c.in-Some.ensures.steps.0 ∙ c.loop-shard.invariant.left) in
     next.0
 
 pub shard_desk-desk-requires-clause-begun : goal.shard_desk-desk-requires-clause-begun
 shard_desk-desk-requires-clause-begun g c =
-    let next = origin-next g.J.Names.definitions g.J.Names.window g.J.Names.shards c.loop-shard.number c.in-Some.shard
+    let next = origin-next g.J.Names.ledger g.J.Names.definitions g.J.Names.window g.J.Names.shards c.loop-shard.number c.in-Some.shard
     c.next.new.self.rest.items
     (sym c.in-Some.ensures.steps.0 ∙ c.loop-shard.invariant.left) in
     next.1
@@ -24,16 +24,17 @@ shard_desk-desk-requires-clause-begun g c =
 pub shard_desk-desk-requires-clause-many : goal.shard_desk-desk-requires-clause-many
 shard_desk-desk-requires-clause-many g c =
     let all : c.len-shards.result ≡ length c.args.opened.items = search rules in
-    let many : length c.args.opened.items ≡ length g.J.Names.shards = ap (λ (os : List (HubId × Option ShardParts)). length os)
+    let many : length c.args.opened.items ≡ length g.J.Names.shards = ap (λ (os : List (HubId × Option StateParts)). length os)
     c.requires.shards
-    ∙ length-map g.J.Names.shards (origin_of g.J.Names.definitions g.J.Names.window) in
+    ∙ length-map g.J.Names.shards (origin_of g.J.Names.ledger g.J.Names.definitions g.J.Names.window) in
     (all ∙ many, omega (arith, all, many, c.requires.few.0), omega (arith, all, many, c.requires.few.1))
 
 pub loop-shard-preserved : goal.loop-shard-preserved
 loop-shard-preserved g c =
-    let os = origins g.J.Names.definitions g.J.Names.window g.J.Names.shards in
+    let os = origins g.J.Names.ledger g.J.Names.definitions g.J.Names.window g.J.Names.shards in
     let number = c.loop-shard.number in
-    let next = origin-next g.J.Names.definitions g.J.Names.window g.J.Names.shards number c.in-Some.shard c.next.new.self.rest.items
+    let next = origin-next g.J.Names.ledger g.J.Names.definitions g.J.Names.window g.J.Names.shards number c.in-Some.shard
+    c.next.new.self.rest.items
     (sym c.in-Some.ensures.steps.0 ∙ c.loop-shard.invariant.left) in
     let one : suc number ≡ number + 1 = omega arith in
     let more : length c.push.new.self.items ≡ number + 1 = search rules in

@@ -7,7 +7,7 @@ use Rattle.ds_hub.specs.Holding.{Publishing}
 use Rattle.ds_log.specs.declared.Entry.{Entry}
 use Rattle.ds_log.specs.Logs.{shard_list}
 use Rattle.ds_model.specs.Sessions.{list_of}
-use Rattle.ds_shard.specs.Shards.{ShardParts}
+use Rattle.ds_shard.specs.States.{StateParts}
 use Rattle.ds_store_passes.specs.Passes.{PassParts, HasRead}
 use Rattle.ds_store_shards.specs.Standing.{StandsAt}
 use Rattle.ds_store_passes.proofs.PassReads.{read_place}
@@ -117,7 +117,7 @@ returns-clause-all g c = λ none.
     (longer_there shown.lists after.lists desk.number c.enter_shard.ensures.read.lists) in
     let confirmed : IsPrefix (list_of after.lists desk.number) published =
     subst (λ n. IsPrefix (list_of after.lists n) published) (c.show.ensures.desk.0 ∙ number_then)
-    (subst (λ (w : Publishing ShardParts Entry). IsPrefix (list_of after.lists c.show.new.self.number) w.published) c.show.ensures.desk.3
+    (subst (λ (w : Publishing StateParts Entry). IsPrefix (list_of after.lists c.show.new.self.number) w.published) c.show.ensures.desk.3
     c.confirm_pass.ensures) in
     all_seen (list_of after.lists desk.number) published (applied.writer.writer.pending ++ applied.waiting.items)
     (shard_list known desk.number desk.shards) entries begins confirmed own are c.in_ok-apply_up_to.ensures.applied

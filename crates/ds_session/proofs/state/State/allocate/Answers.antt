@@ -18,7 +18,8 @@ say_next-requires-clause-within g c =
     (read_next c.self.inside.pass c.issue.new.pass c.in-Err.refused.next c.in-Err.ensures.exhausted.0)
 
 pub tell_last-requires : goal.tell_last-requires
-tell_last-requires g c = c.make_room_for_numbers.ensures.ids c.if-not-make_room_for_numbers.false c.in-Ok.first c.args.count (omega arith) c.ranges.count.fits
+tell_last-requires g c =
+    c.make_room_for_numbers.ensures.ids c.if-not-make_room_for_numbers.false c.in-Ok.first c.args.count (omega arith) c.ranges.count.fits
 
 pub returns-in-Ok : goal.returns-in-Ok
 returns-in-Ok g c =

@@ -52,7 +52,8 @@ pub tell_last-requires : goal.tell_last-requires
 tell_last-requires g c =
     let n = c.in-Ok-commit.commit in
     subst (λ (b : Body). HasRoomToTell b c.args.keep c.prepare_commit-prepared.new.text.spare)
-    (sym (c.body_with-body.ensures ∙ c.in-Ok.ensures.body (at.Commit n))) (c.in-Ok.ensures.suffices c.args.write (at.Commit n) refl (omega arith))
+    (sym (c.body_with-body.ensures ∙ c.in-Ok.ensures.body (at.Commit n)))
+    (c.in-Ok.ensures.suffices c.args.write (at.Commit n) refl (omega arith))
 
 pub returns-in-Ok-commit : goal.returns-in-Ok-commit
 returns-in-Ok-commit g c =

@@ -19,8 +19,8 @@ get_in-requires-clause-shard g c = c.in-Ok.ensures.shard ∙ ap (shard_of (root_
 pub get_in-requires-clause-below : goal.get_in-requires-clause-below
 get_in-requires-clause-below g c = subst (λ n. c.in-Ok.home.shard < n) c.shards.ensures.value c.in-Ok.ensures.below
 
-pub returns-then-not-tell : goal.returns-then-not-tell
-returns-then-not-tell g c =
+pub returns-then-not-tell-clause-replied : goal.returns-then-not-tell-clause-replied
+returns-then-not-tell-clause-replied g c =
     let h = read_through c.self.inside.pass c.touch_place-at.new.pass c.get_in.new.pass c.touch_place-at.ensures.read
     c.in-Ok-get_in.ensures.got.read.read in
     none_from _ _ _ _ _ _ c.self.view_is _ _ _ c.requires.within refl
@@ -46,8 +46,8 @@ say_no_memory-requires-in-Err-NoMemory-clause-within g c =
     within_same c.self.inside.transaction.transaction c.make_room.new.self.transaction c.self.inside.seen c.self.inside.pass
     c.get_in.new.pass c.make_room.ensures.same h (within_parts _ _ c.self.view_is c.requires.within)
 
-pub returns-else-not-tell : goal.returns-else-not-tell
-returns-else-not-tell g c =
+pub returns-else-not-tell-clause-replied : goal.returns-else-not-tell-clause-replied
+returns-else-not-tell-clause-replied g c =
     let group = root_of c.args.key.now in
     let named : c.in-Ok.home.group ≡ group = c.in-Ok.ensures.group in
     let numbered : c.in-Ok.home.shard ≡ shard_of group c.args.store.now.shards =
@@ -69,8 +69,8 @@ returns-else-not-tell g c =
     (c.see_entries.ensures ∙ ap (saw_entries c.in-Ok.home.shard c.in-Ok-get_in.got.entries) c.see_place.ensures))
     (c.tell.ensures.told c.if-not-tell.false) c.tell.ensures.kept)
 
-pub returns-in-Err-Expired : goal.returns-in-Err-Expired
-returns-in-Err-Expired g c =
+pub returns-in-Err-Expired-clause-replied : goal.returns-in-Err-Expired-clause-replied
+returns-in-Err-Expired-clause-replied g c =
     let group = root_of c.args.key.now in
     let named : c.in-Ok.home.group ≡ group = c.in-Ok.ensures.group in
     let numbered : c.in-Ok.home.shard ≡ shard_of group c.args.store.now.shards =
@@ -97,8 +97,8 @@ returns-in-Err-Expired g c =
     c.get_in.new.pass group c.touch_place-at.result x.snapshot x.applied x.commit c.in-Ok.home.shard numbered is c.args.self.now.client
     c.args.key.now refl within c.touch_place-at.ensures.read unrefused c.touch_place-at.ensures.inside asked))
 
-pub returns-in-Err-NoMemory : goal.returns-in-Err-NoMemory
-returns-in-Err-NoMemory g c =
+pub returns-in-Err-NoMemory-clause-replied : goal.returns-in-Err-NoMemory-clause-replied
+returns-in-Err-NoMemory-clause-replied g c =
     later_from _ _ _ _ _ _ c.self.view_is _ _ _ _ refl (ap (λ o. with_transaction o c.self.inside.seen) c.make_room.ensures.same) refl
     (read_through c.self.inside.pass c.touch_place-at.new.pass c.get_in.new.pass c.touch_place-at.ensures.read
     c.in-Err-NoMemory.ensures.read)

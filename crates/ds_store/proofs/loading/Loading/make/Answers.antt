@@ -3,7 +3,7 @@ use Rattle.std.specs.Prelude.{Option}
 use Rattle.std.proofs.lemmas.List.{length-map}
 use Rattle.ds_base.specs.Limits.{first_drawn_id}
 use Rattle.ds_hub.specs.Line.{HubId}
-use Rattle.ds_shard.specs.Shards.{ShardParts}
+use Rattle.ds_shard.specs.States.{StateParts}
 use Rattle.ds_store_hubs.specs.Opening.{OpenedParts}
 use Rattle.ds_store_passes.specs.Loads.{loaded}
 use Rattle.ds_store_passes.specs.Passes.{PassParts, nothing_seen}
@@ -19,6 +19,9 @@ make_parts-requires-clause-readers g c k d low =
 pub first_desk-desk-requires-clause-hub : goal.first_desk-desk-requires-clause-hub
 first_desk-desk-requires-clause-hub g c = ap (λ (o : OpenedParts). o.journal) c.opened.view_is ∙ sym c.requires.names.journal_is
 
+pub new-requires-clause-own : goal.new-requires-clause-own
+new-requires-clause-own g c = ap (λ (o : OpenedParts). o.ledger) c.opened.view_is ∙ sym c.requires.names.ledger_is
+
 pub invariant_of-result-2 : goal.invariant_of-result-2
 invariant_of-result-2 g c =
     let opened = c.args.opened in
@@ -27,7 +30,7 @@ invariant_of-result-2 g c =
     let own = c.in_ok-parts.ensures.pass in
     let next : c.in_ok-parts.parts.pass.next ≡ first_drawn_id = ap (λ (p : PassParts). p.next) own in
     let many : length c.opened.inside.shards.items ≡ shards = ap (λ (o : OpenedParts). length o.shards) c.opened.view_is
-    ∙ sym (length-map opened.shards (λ (s : HubId × Option ShardParts). s.0))
+    ∙ sym (length-map opened.shards (λ (s : HubId × Option StateParts). s.0))
     ∙ sym (ap (λ (hs : List HubId). length hs) c.requires.names.shards_are) in
     let window : c.opened.inside.window ≡ g.J.Names.window = ap (λ (o : OpenedParts). o.window) c.opened.view_is
     ∙ sym c.requires.names.window_is in (
@@ -53,7 +56,7 @@ invariant_of-result-2 g c =
 pub returns : goal.returns
 returns g c =
     let many = ap (λ (hs : List HubId). length hs) c.requires.names.shards_are
-    ∙ length-map c.args.opened.shards (λ (s : HubId × Option ShardParts). s.0) in
+    ∙ length-map c.args.opened.shards (λ (s : HubId × Option StateParts). s.0) in
     λ i. record {
       shards = (c.in_ok-parts.ensures.shards ∙ many) i;
       passes = ap (λ (o : OpenedParts). o.passes) c.opened.view_is i;

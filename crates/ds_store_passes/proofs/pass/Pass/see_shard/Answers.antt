@@ -7,7 +7,7 @@ use Rattle.ds_store_passes.proofs.pass.Pass.see_shard.Goals as goal
 
 pub see_shard_in-requires : goal.see_shard_in-requires
 see_shard_in-requires g c =
-    let there = hub_there g.J.Names.definitions g.J.Names.window c.self.inside.shards.items g.J.Names.shards c.args.shard
+    let there = hub_there g.J.Names.ledger g.J.Names.definitions g.J.Names.window c.self.inside.shards.items g.J.Names.shards c.args.shard
     c.args.writer.now.hub
     c.index_mut.result.now c.self.invariant.1 c.requires.hub c.index_mut.ensures.value in
     ap (λ o. o.0) there
@@ -40,7 +40,7 @@ returns-clause-grown g c =
 pub returns-clause-seen : goal.returns-clause-seen
 returns-clause-seen g c =
     let slots = c.self.inside.shards.items in
-    let lt = slot_within g.J.Names.definitions g.J.Names.window slots g.J.Names.shards c.args.shard c.args.writer.now.hub
+    let lt = slot_within g.J.Names.ledger g.J.Names.definitions g.J.Names.window slots g.J.Names.shards c.args.shard c.args.writer.now.hub
     c.self.invariant.1 c.requires.hub in
     list_written slots c.args.shard c.see_shard_in.new.slot lt ∙ ap (λ l. Some l) (ap known_in c.see_shard_in.ensures.slot)
 
