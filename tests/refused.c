@@ -1,7 +1,7 @@
 /* Refuses what a program asks of the outside: memory, reads, writes, files to open. It is loaded before the C library (LD_PRELOAD).
  *
  * REFUSED_PROGRAM      the program that is meant, by its path; in every other process nothing is refused
- * REFUSED_COUNTS       a file of 16 numbers of 8 bytes, made by whoever starts the program: what was asked for so far, in the order of `counts`
+ * REFUSED_COUNTS       a file of 14 numbers of 8 bytes, made by whoever starts the program: what was asked for so far, in the order of `counts`
  * REFUSED_MEMORY=K     refuses the K-th call that takes memory, and every one from it on with REFUSED_MEMORY=K..
  * REFUSED_SHARE=N,SEED refuses N of a million such calls, at random by the seed
  * REFUSED_THREADS=K    refuses the K-th start of a thread, and every one from it on with REFUSED_THREADS=K..
@@ -32,8 +32,8 @@ extern void *__libc_malloc(size_t), *__libc_calloc(size_t, size_t), *__libc_real
 
 /* What is counted, and seen from outside also where the program is killed. `after` are reads and writes after the one that failed. */
 struct counts {
-    _Atomic uint64_t memory, refused, reads, writes, loads, read_bytes, written_bytes, after_read, after_write, hooked, read_ended, after_load, threads,
-        disk, after_disk, syncs;
+    _Atomic uint64_t memory, refused, reads, writes, loads, read_bytes, written_bytes, after_read, after_write, after_load, threads, disk,
+        after_disk, syncs;
 };
 static struct counts none, *counts = &none;
 static int is_meant;
@@ -146,7 +146,6 @@ static void *led_past(const char *name, void *hook, unsigned char **free_bytes) 
     if (mprotect((void *)from, 8192, PROT_READ | PROT_WRITE | PROT_EXEC)) return NULL;
     memcpy(entry + 1, &distance, 4);
     mprotect((void *)from, 8192, PROT_READ | PROT_EXEC);
-    atomic_fetch_add(&counts->hooked, 1);
     return led;
 }
 
@@ -196,7 +195,6 @@ ssize_t read(int file, void *into, size_t size) {
     if (fails(&counts->reads, read_at, read_error, &counts->after_read)) return -1;
     ssize_t got = next_read(file, into, size < read_most ? size : read_most);
     if (got > 0) atomic_fetch_add(&counts->read_bytes, got);
-    if (got == 0 && size) atomic_fetch_add(&counts->read_ended, 1);
     return got;
 }
 

@@ -8,7 +8,7 @@ import unittest
 
 from tests.case import PLANTED, TOP, WORDS, Case, run, server
 
-COUNTS = "memory refused reads writes loads read_bytes written_bytes after_read after_write hooked read_ended after_load threads disk after_disk syncs".split()
+COUNTS = "memory refused reads writes loads read_bytes written_bytes after_read after_write after_load threads disk after_disk syncs".split()
 
 
 class Refusing(Case):

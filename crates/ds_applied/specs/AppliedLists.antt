@@ -8,7 +8,6 @@ use Rattle.ds_log.specs.declared.Write.{Write}
 use Rattle.ds_log.specs.After.{after}
 use Rattle.ds_log.specs.Logs.{entry_writes, shard_list}
 pub use Rattle.ds_model.specs.ByKey.{left_by, shard_view, shard_views}
-use Rattle.ds_model.specs.Sessions.{raised_at}
 use Rattle.ds_model.specs.Worlds.{shard_lists}
 use Rattle.ds_model.specs.ByKey.{sorted_by_key}
 
@@ -36,10 +35,6 @@ abbrev pub AreCounts : List (List Entry) → List ℕ → Type 0
 AreCounts [] [] = ⊤
 AreCounts (entries ∷ lists) (count ∷ counts) = (count ≤ length entries) × AreCounts lists counts
 AreCounts _ _ = ⊥
-
--- the second has applied as many entries of a shard as the first, or more up to a count; all else is the same
-abbrev pub Raised : ℕ → ℕ → AppliedParts → AppliedParts → Type 0
-Raised shard count a b = (k : ℕ) × ((k ≤ count) × (b ≡ record a { counts = raised_at shard k a.counts }))
 
 -- ---- one shard
 

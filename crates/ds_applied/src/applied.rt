@@ -4,13 +4,13 @@ ghost use Rattle.ds_base.specs.Limits.{most_shards};
 ghost use Rattle.ds_log.specs.declared.Commit.{Commit};
 ghost use Rattle.ds_log.specs.Logs.{commit_entries};
 ghost use Rattle.ds_model.specs.Sessions.{count_of, counted_place, list_of, last_commit, raised_at};
-ghost use Rattle.ds_applied.specs.AppliedLists.{AppliedParts, Follows, AreCounts, Raised, entries_by, shard_view, shard_views};
+ghost use Rattle.ds_applied.specs.AppliedLists.{AppliedParts, Follows, AreCounts, entries_by, shard_view, shard_views};
 ghost use Rattle.ds_applied.specs.Routing.{added};
 
 use crate::routing::{make_room, put_all};
 use crate::shard::Shard;
 use crate::visible::{AllVisible, Visible};
-use ds_base::{Counts, NoMemory};
+use ds_base::NoMemory;
 use ds_log::{Commit, route};
 use std::alloc::Global;
 use std::marker::Model;
@@ -71,13 +71,6 @@ impl Applied {
         self.shards.len() as u32
     }
 
-    /// How many commits of the journal were looked at.
-    pub fn commits(&self) -> u64
-        ensures { result ≡ self.now.commits }
-    {
-        self.commits as u64
-    }
-
     /// Looks at the journal's commits that were not looked at yet, each once, and puts each one's entries behind those of their
     /// shards; what is applied stays. A refusal, which means out of memory, leaves some commits looked at, each with all its entries.
     pub fn pull(&mut self, alloc: Global, journal: &[Commit]) -> Result<(), NoMemory>
@@ -119,18 +112,6 @@ impl Applied {
         ensures within { count_of self.now.counts shard ≤ length (list_of self.now.lists shard) }
     {
         self.shards[shard as usize].applied() as u64
-    }
-
-    /// How many entries of each shard are applied, shard 0 first. A refusal means out of memory.
-    pub fn counts(&self, alloc: Global) -> Result<Counts, NoMemory>
-        ensures value { IfOk result (λ counts. counts ≡ self.now.counts) }
-        ensures within { IfOk result (λ counts. AreCounts self.now.lists counts) }
-    {
-        let mut counts = Vec::with_capacity(alloc, self.shards.len())?;
-        for shard in self.shards.as_slice() {
-            counts.push(shard.applied() as u64)?;
-        }
-        Ok(Counts::from(counts))
     }
 
     /// How many entries a shard has.
@@ -183,20 +164,6 @@ impl Applied {
         ensures err { OnErr result (self.new ≡ self.old) }
     {
         self.shards[shard as usize].apply_one(alloc)
-    }
-
-    /// Applies a shard's entries up to a count, where fewer are applied. A refusal, which means out of memory, leaves some of them
-    /// applied.
-    pub fn apply_up_to(&mut self, alloc: Global, shard: u32, count: u64) -> Result<(), NoMemory>
-        requires shard { shard < self.old.shards }
-        requires count { count ≤ length (list_of self.old.lists shard) }
-        ensures ok { OnOk result (self.new ≡ record self.old { counts = raised_at shard count self.old.counts }) }
-        ensures between { Raised shard count self.old self.new }
-    {
-        while self.count(shard) < count {
-            self.apply_one(alloc, shard)?;
-        }
-        Ok(())
     }
 
     /// The entities that a shard's first `count` entries leave: those that are kept, where so many are applied, else rebuilt. A

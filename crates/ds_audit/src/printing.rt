@@ -7,7 +7,7 @@ ghost use Rattle.ds_audit.specs.Audits.{IfUnwritten, IsPrinted, status_of, verdi
 
 use crate::status::AuditStatus;
 use ds_check::Verdict;
-use ds_io::Sink;
+use ds_io::{Sink, write_all};
 use std::alloc::{AllocError, Global};
 
 /// Prints the line of a verdict, and gives its status; or why it couldn't.
@@ -62,25 +62,8 @@ fn write_whole<O: Sink>(output: &mut O, text: &[u8]) -> bool
     ensures whole { IsTrue result → Appends (O.held output.old) (O.held output.new) text.now }
     ensures fault { IsFalse result → Rose (O.faults output.old) (O.faults output.new) }
 {
-    if write_all(output, text) {
-        output.flush().is_ok()
-    } else {
-        false
+    match write_all(output, text) {
+        Ok(()) => output.flush().is_ok(),
+        Err(_) => false,
     }
-}
-
-/// Whether a text was written to its end; where it wasn't, a write failed.
-fn write_all<O: Sink>(output: &mut O, text: &[u8]) -> bool
-    ensures whole { IsTrue result → Appends (O.held output.old) (O.held output.new) text.now }
-    ensures fault { IsFalse result → Rose (O.faults output.old) (O.faults output.new) }
-    ensures kept { IsTrue result → O.faults output.new ≡ O.faults output.old }
-{
-    let mut sent = 0;
-    'write: while sent < text.len() {
-        let Ok(n) = output.write(&text[sent..]) else {
-            return false;
-        };
-        sent += n;
-    }
-    true
 }

@@ -1,12 +1,8 @@
 -- A run over a load that ended well, in the words of its replies.
 use Rattle.std.proofs.Common.{◌≡◌, ℕ, false, true, List, [], ◌++◌, ap, sym, ◌∙◌, Option, Some, None, subst, append-nil, ◌⊎◌, inl}
 use Rattle.std.proofs.Common.{inr, ◌+◌}
-use Rattle.std.proofs.Common.{◌-◌, take, drop, length, length-drop, arith}
+use Rattle.std.proofs.Common.{◌-◌}
 use Rattle.std.specs.Prelude.{IfSome, IsSome, option_map}
-use Rattle.std.specs.Io.KnownBytes.{Appends}
-use Rattle.std.proofs.KnownBytes.{Appends-trans}
-use Rattle.std.proofs.Math.Seq.{take-add}
-use Rattle.std.proofs.lemmas.List.{take_all}
 use Rattle.ds_fill.specs.Filling.{AreReplies, server_words}
 use Rattle.ds_load.specs.Input.{load_text}
 use Rattle.ds_load.specs.Telling.{IsOfRuns, IsSummary}
@@ -59,19 +55,6 @@ replied items words content how left rest (Some journal) before held unsent is d
     (subst (λ (b : List ℕ). IsLegalRun words content status.Done (Some (load_text items)) rest journal (Some b) (Some held) unsent) empty
     (subst (λ (l : List ℕ). IsLegalRun words content status.Done (Some l) rest journal (Some before) (Some held) unsent) load
     (subst (λ (s : Status). IsLegalRun words content s (Some left) rest journal (Some before) (Some held) unsent) done run)))
-
--- ---- what is written
-
-rest_from : {A : Type 0} (n : ℕ) (l : List A) → take (length l - n) (drop n l) ≡ drop n l
-rest_from n l = take_all (length l - n) (drop n l) (omega (arith, length-drop n l))
-
--- the first bytes of a text, and then some more of them
-pub written_more : (h0 h1 h2 : Option (List ℕ)) (text : List ℕ) (sent n : ℕ) → Appends h0 h1 (take sent text)
-    → Appends h1 h2 (take n (take (length text - sent) (drop sent text))) → Appends h0 h2 (take (sent + n) text)
-written_more h0 h1 h2 text sent n before more =
-    let rest : Appends h1 h2 (take n (drop sent text)) = subst (λ (bs : List ℕ). Appends h1 h2 (take n bs)) (rest_from sent text) more in
-    subst (λ (bs : List ℕ). Appends h0 h2 bs) (sym (take-add sent n text))
-    (Appends-trans h0 h1 h2 (take sent text) (take n (drop sent text)) before rest)
 
 -- what is told of runs is told of this one
 pub told : (items : ℕ) (text : List ℕ) (s : Summary) → AreReplies items text → IsOfRuns items text s → IsSummary items s

@@ -1,8 +1,7 @@
 //! A load is served over memory, and what its query found is printed.
-ghost use Rattle.std.specs.Prelude.{◌≡◌, ◌++◌, None, decimal, IfOk, IfSome, OnErr, OnOk, map};
+ghost use Rattle.std.specs.Prelude.{◌≡◌, None, IfOk, IfSome, map};
 ghost use Rattle.std.specs.Io.KnownBytes.{Appends, Keeps};
 ghost use Rattle.std.specs.String.{string_bytes};
-ghost use Rattle.ds_io.specs.Faults.{next_count};
 ghost use Rattle.ds_load.specs.Input.{load_text};
 ghost use Rattle.ds_load.specs.Matches.{summary_lines, summary_text};
 ghost use Rattle.ds_load.specs.Telling.{IsSummary};
@@ -10,8 +9,8 @@ ghost use Rattle.ds_fill.specs.Filling.{AreReplies, exit_of, items_asked, server
 
 use crate::word::items_asked;
 use ds_base::{Buffer, ByteString, ByteStrings, Names, NoMemory, Numbers, TextString};
-use ds_io::{Failed, MemoryFiles, MemorySink, MemorySource, NoGate, Sink};
-use ds_load::{Summary, read_summary, write_load};
+use ds_io::{MemoryFiles, MemorySink, MemorySource, NoGate, Sink, write_all};
+use ds_load::{Summary, append_number, read_summary, write_load};
 use ds_serve::{Status, serve};
 use std::alloc::{AllocError, Global};
 use std::sync::Wait;
@@ -185,13 +184,6 @@ fn input_of(alloc: Global, items: u32) -> Result<MemorySource, NoMemory>
     Ok(MemorySource::make(text, usize::MAX, Numbers::new(alloc)))
 }
 
-/// A number in decimal.
-fn append_number(number: u64, text: &mut Buffer) -> Result<(), NoMemory>
-    ensures { OnOk result (text.new.bytes ≡ text.old.bytes ++ decimal number) }
-{
-    text.append(itoa::Buffer::new().format(number).as_bytes())
-}
-
 /// Prints a text, and sends it on its way.
 fn print<O: Sink>(text: &[u8], output: &mut O) -> FillStatus
     ensures printed { result ≡ FillStatus.Done → Appends (O.held output.old) (O.held output.new) text.now }
@@ -216,20 +208,4 @@ fn flush<O: Sink>(output: &mut O) -> FillStatus
         Ok(()) => FillStatus::Done,
         Err(_) => FillStatus::WriteFault,
     }
-}
-
-/// Writes a text to its end; no further write is made after one that failed.
-fn write_all<O: Sink>(output: &mut O, text: &[u8]) -> Result<(), Failed>
-    ensures ok { OnOk result (Appends (O.held output.old) (O.held output.new) text.now) }
-    ensures fault { OnErr result (O.faults output.new ≡ next_count (O.faults output.old)) }
-    ensures no_fault { OnOk result (O.faults output.new ≡ O.faults output.old) }
-{
-    let mut sent = 0;
-    'write: while sent < text.len() {
-        let Ok(n) = output.write(&text[sent..]) else {
-            return Err(Failed);
-        };
-        sent += n;
-    }
-    Ok(())
 }

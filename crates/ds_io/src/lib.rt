@@ -15,6 +15,7 @@ mod schedule;
 pub mod standard;
 pub mod steps;
 pub mod traits;
+pub mod writing;
 
 pub use memory_files::MemoryFiles;
 pub use memory_sink::MemorySink;
@@ -22,3 +23,4 @@ pub use memory_source::MemorySource;
 pub use standard::{StdFiles, StdSink, StdSource};
 pub use steps::Steps;
 pub use traits::{Failed, Files, Gate, LoadFault, NoGate, Sink, Source};
+pub use writing::write_all;

@@ -1,7 +1,7 @@
 -- A commit is read back from its line, and a journal from its text.
-use Rattle.std.proofs.Common.{◌≡◌, ℕ, ◌+◌, ◌^◌, ◌<◌, ◌≤◌, ◌==◌, List, [], ◌∷◌, length, take, drop, true}
+use Rattle.std.proofs.Common.{◌≡◌, ℕ, ◌+◌, ◌^◌, ◌<◌, ◌≤◌, List, [], ◌∷◌, length, true}
 use Rattle.std.proofs.Common.{cond, Some, None, refl, sym, ap, ap₂, ◌∙◌, subst, arith, lt-ltb, append_assoc, length-append, inl, inr}
-use Rattle.std.specs.Prelude.{Result, Ok, Err, Option, position, All}
+use Rattle.std.specs.Prelude.{Result, Ok, Err, Option, All}
 use Rattle.std.proofs.lemmas.List.Elements.{All-head, All-tail}
 use Rattle.serde_json.specs.Data.{Data}
 use Rattle.serde_json.specs.Read.{read, max_depth}
@@ -17,7 +17,7 @@ use Rattle.ds_rounds.specs.Lines.{lines_in}
 use Rattle.ds_json_printing.specs.Printing.{natural}
 use Rattle.ds_journal_text.specs.Lawful.{IsLawfulTouch, IsLawfulWrite, IsLawfulCommit}
 use Rattle.ds_rounds.specs.Drafts.{IsUnbroken}
-use Rattle.ds_rounds.proofs.LineLaws.{lines_in-newline, lines_in-nothing, lines_in-last, position-newline, position-no_newline}
+use Rattle.ds_rounds.proofs.LineLaws.{lines_in-newline, lines_in-nothing, lines_in-last}
 use Rattle.ds_journal_text.specs.Lines.{IsFirstLine, LineIs, IsIfLine}
 use Rattle.ds_journal_text.specs.Reading.{client_of, touch_of, put_of, unless_refused, write_of, commit_of}
 use Rattle.ds_journal_text.specs.Texts.{touch_data, touch_items, write_data, write_items, commit_data, commit_line, commits_text}
@@ -132,13 +132,6 @@ shorter text line behind some h = elim h.split [
   | inl e ↦ let l = ap (λ (t : List ℕ). length t) e in omega (arith, length-append line (10 ∷ behind))
   | inr e ↦ let l : length behind ≡ 0 = ap (λ (t : List ℕ). length t) e.1 in omega arith
 ]
-
--- where the first newline stands
-pub line_to : (text : List ℕ) (end : ℕ) → position (λ b. b == 10) text ≡ Some end → IsFirstLine text (take end text) (drop (end + 1) text)
-line_to text end at = let broken = position-newline text end at in record { whole = broken.front; split = inl broken.whole }
-
-pub last_line : (text : List ℕ) → position (λ b. b == 10) text ≡ None → IsFirstLine text text []
-last_line text at = record { whole = position-no_newline text at; split = inr (refl, refl) }
 
 -- ---- what a line that was read says of the commits whose text it is
 

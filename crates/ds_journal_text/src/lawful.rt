@@ -36,7 +36,8 @@ fn touch_is_lawful(touch: &Touch)
     key_is_lawful(&touch.group);
 }
 
-fn writes_are_lawful(writes: &[Write])
+/// The writes are lawful: the key of each, and the entity of a put.
+pub fn writes_are_lawful(writes: &[Write])
     ensures { All IsLawfulWrite writes.now }
 {
     for write in writes {

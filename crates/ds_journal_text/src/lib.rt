@@ -22,6 +22,6 @@ pub mod laws;
 pub mod reading;
 pub mod writing;
 
-pub use lawful::{commit_is_lawful, entity_is_lawful, key_is_lawful};
-pub use reading::{JournalRefused, read_commit, read_journal};
+pub use lawful::{commit_is_lawful, entity_is_lawful, key_is_lawful, writes_are_lawful};
+pub use reading::{JournalRefused, parse, read_commit, read_journal};
 pub use writing::{write_commit, write_journal};

@@ -1,5 +1,5 @@
 //! From a text to the journal that it stands for.
-ghost use Rattle.std.specs.Prelude.{◌≡◌, ◌<◌, ◌≤◌, ◌↔◌, ◌==◌, ℕ, All, Err, Some, length, position, option_map, true, IfOk, IfSome, IsTrue};
+ghost use Rattle.std.specs.Prelude.{◌≡◌, ◌<◌, ◌≤◌, ◌↔◌, ℕ, All, Err, Some, length, option_map, true, IfOk, IfSome, IsTrue};
 ghost use Rattle.serde_json.specs.View.{view};
 ghost use Rattle.ds_base.specs.Limits.{most_writes};
 ghost use Rattle.ds_log.specs.declared.Commit.{Commit};
@@ -15,6 +15,7 @@ use ds_base::NoMemory;
 use ds_base::limits::MAX_WRITES;
 use ds_json_reading::{Form, Refusal};
 use ds_log::{Commit, Journal};
+use ds_rounds::split_line;
 use serde_json::Value;
 use std::alloc::{AllocError, Global};
 
@@ -56,18 +57,10 @@ pub fn read_journal(alloc: Global, text: &[u8]) -> Result<Journal, JournalRefuse
 fn first_line(text: &[u8]) -> (&[u8], &[u8])
     ensures { IsFirstLine text.now result.0.now result.1.now }
 {
-    match newline(text) {
-        Some(end) => (&text[..end], &text[end + 1..]),
+    match split_line(text) {
+        Some((line, behind)) => (line, behind),
         None => (text, &text[text.len()..]),
     }
-}
-
-/// Where the first newline stands.
-fn newline(text: &[u8]) -> Option<usize>
-    ensures at { result ≡ position (λ b. b == 10) text.now }
-    ensures within { IfSome result (λ end. end < length text.now) }
-{
-    text.iter().position(|b| *b == b'\n')
 }
 
 /// The commit with this number whose text the line is.
@@ -113,8 +106,8 @@ fn read_value(
     }
 }
 
-/// The JSON value of a line; none where it isn't UTF-8 or isn't JSON.
-fn parse(alloc: Global, line: &[u8]) -> Result<Option<Value>, NoMemory>
+/// The JSON value of a line; none where it isn't UTF-8 or isn't JSON. A refusal means out of memory.
+pub fn parse(alloc: Global, line: &[u8]) -> Result<Option<Value>, NoMemory>
     ensures { IfOk result (λ d. line_data line.now ≡ option_map view d) }
 {
     match Value::from_slice(alloc, line) {

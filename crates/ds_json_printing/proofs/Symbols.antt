@@ -1,6 +1,6 @@
 -- Base64, a piece at a time.
 use Rattle.std.proofs.Common.{◌≡◌, ℕ, zero, suc, ◌+◌, ◌*◌, ◌/◌, Bool, false, replicate, ◌-◌, ◌%◌, ◌≤◌, ◌<◌, true, get_or, List, [], ◌∷◌}
-use Rattle.std.proofs.Common.{◌++◌, length, take, drop, refl, sym, ap, ◌∙◌, arith, append_assoc, append-nil}
+use Rattle.std.proofs.Common.{◌++◌, length, take, drop, refl, ap, ◌∙◌, arith, append_assoc, append-nil}
 use Rattle.std.proofs.lemmas.List.{take-append-drop, length-take-le, length-append, length-drop, take_at, take_all}
 use Rattle.json.specs.Print.{escape_byte, escape}
 use Rattle.std.specs.List.{list_all}

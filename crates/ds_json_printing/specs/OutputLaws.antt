@@ -1,19 +1,8 @@
 -- Texts written one after another are their concatenation.
-use Rattle.std.proofs.Common.{◌≡◌, ℕ, ◌+◌, ◌≤◌, List, [], ◌++◌, length, length-append, append_assoc, append-nil, sym, ap, ◌∙◌, arith, min}
-use Rattle.std.proofs.Common.{refl, false, subst}
-use Rattle.ds_json_printing.specs.declared.output.Count.{Count}
+use Rattle.std.proofs.Common.{◌≡◌, ℕ, ◌+◌, List, [], ◌++◌, length, length-append, append_assoc, append-nil, sym, ap, ◌∙◌, arith}
+use Rattle.std.proofs.Common.{refl, false}
 use Rattle.ds_json_printing.specs.declared.output.Growing.{Growing}
-use Rattle.ds_json_printing.specs.Outputs.{largest, Counts, WritesText}
-
-pub counts_nothing : (s : Count) → Counts [] s s
-counts_nothing s h = omega arith
-
-pub counts_joined : (a b : List ℕ) (s t u : Count) → Counts a s t → Counts b t u → Counts (a ++ b) s u
-counts_joined a b s t u f g h =
-    let e = f h in
-    let le : t.bytes ≤ largest = omega arith in
-    let e2 = g le in
-    omega (arith, length-append a b)
+use Rattle.ds_json_printing.specs.Outputs.{WritesText}
 
 pub appends_nothing : (s : Growing) → WritesText [] s s
 appends_nothing s = record {

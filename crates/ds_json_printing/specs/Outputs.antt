@@ -1,15 +1,6 @@
--- What an output takes: a count of bytes, or a buffer that grows until a piece is refused.
-use Rattle.std.specs.Prelude.{◌≡◌, ℕ, ◌+◌, ◌-◌, ◌^◌, ◌≤◌, min, List, ◌++◌, length, false}
-use Rattle.ds_json_printing.specs.declared.output.Count.{Count}
+-- What an output takes: a buffer grows until a piece is refused.
+use Rattle.std.specs.Prelude.{◌≡◌, ℕ, ◌+◌, ◌≤◌, List, ◌++◌, length, false}
 use Rattle.ds_json_printing.specs.declared.output.Growing.{Growing}
-
--- the largest count
-abbrev pub largest : ℕ
-largest = 2 ^ 64 - 1
-
--- the count grows by the length of the text, up to the largest
-abbrev pub Counts : List ℕ → Count → Count → Type 0
-Counts text s t = s.bytes ≤ largest → t.bytes ≡ min (s.bytes + length text) largest
 
 -- Bytes are put at the end: the text, unless a piece was refused, which doesn't happen where there is the room.
 pub record WritesText (text : List ℕ) (s t : Growing) : Type 0 where

@@ -12,7 +12,7 @@ pub mod text;
 pub mod values;
 
 pub use keys::write_key;
-pub use output::{Count, Growing, Output};
+pub use output::{Growing, Output};
 pub use parts::append_key;
 pub use text::{write_boolean, write_comma, write_natural, write_string, write_text};
 pub use values::{write_index_value, write_values};

@@ -1,7 +1,7 @@
-//! What takes a reply, piece by piece: a count of its bytes, or a buffer that grows.
+//! What takes a reply, piece by piece: a buffer that grows.
 ghost use Rattle.std.specs.Prelude.{ℕ, List, [], ◌++◌};
-ghost use Rattle.ds_json_printing.specs.Outputs.{Counts, WritesText};
-ghost use Rattle.ds_json_printing.specs.OutputLaws.{counts_nothing, counts_joined, appends_nothing, appends_joined};
+ghost use Rattle.ds_json_printing.specs.Outputs.{WritesText};
+ghost use Rattle.ds_json_printing.specs.OutputLaws.{appends_nothing, appends_joined};
 
 use ds_base::Buffer;
 
@@ -16,25 +16,6 @@ pub trait Output {
     ghost nothing: { (s : Self) → Writes [] s s };
 
     ghost joined: { (a b : List ℕ) (s t u : Self) → Writes a s t → Writes b t u → Writes (a ++ b) s u };
-}
-
-/// How many bytes were put, or 2^64 - 1 where they are more.
-#[derive(Drop)]
-pub struct Count {
-    /// How many.
-    pub bytes: u64,
-}
-
-impl Output for Count {
-    ghost Writes = { Counts };
-
-    ghost nothing = { counts_nothing };
-
-    ghost joined = { counts_joined };
-
-    fn put(&mut self, piece: &[u8]) {
-        self.bytes = self.bytes.saturating_add(piece.len() as u64);
-    }
 }
 
 /// A buffer that takes pieces until there is no memory for one.

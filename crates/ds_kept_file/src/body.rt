@@ -10,13 +10,13 @@ ghost use Rattle.ds_kept_file.specs.Files.{next_number};
 ghost use Rattle.ds_kept_file.specs.Readings.{kept_in, IsBodyRead, HasNoBody, AreNext, AreLinesRead, MayCommit};
 
 use crate::counter::read_next;
-use crate::parts::split_line;
 use ds_base::NoMemory;
 use ds_base::limits::MAX_ID;
 use ds_journal::ids::check_path;
 use ds_journal::{Book, CommitCause, Draft};
 use ds_journal_text::read_commit;
 use ds_log::{Commit, Touch, Write};
+use ds_rounds::split_line;
 use std::alloc::{AllocError, Global};
 
 /// Reads the body of a batch that is appended to the book: the counter is raised to its `next`, and its commits are appended. `false`

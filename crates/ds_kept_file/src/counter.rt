@@ -1,13 +1,14 @@
 //! The line of the id counter.
-ghost use Rattle.std.specs.Prelude.{◌≡◌, ◌++◌, ◌<◌, ◌^◌, ℕ, IfOk, IfSome, IfNone, OnOk, option_and_then, option_map};
+ghost use Rattle.std.specs.Prelude.{◌≡◌, ◌++◌, ◌<◌, ◌^◌, ℕ, IfOk, IfSome, IfNone, OnOk, option_and_then};
 ghost use Rattle.serde_json.specs.View.{view};
 ghost use Rattle.ds_request.specs.Requests.{line_data};
 ghost use Rattle.ds_kept_file.specs.Counters.{next_in};
 ghost use Rattle.ds_kept_file.specs.Files.{next_line};
 
 use ds_base::{Buffer, NoMemory};
+use ds_journal_text::parse;
 use serde_json::Value;
-use std::alloc::{AllocError, Global};
+use std::alloc::Global;
 
 /// Puts the line `{"next":N}` at the end, without its newline. A refusal means out of memory.
 #[tactic(auto, unfolding(json::specs::Print::escape_byte))]
@@ -59,19 +60,4 @@ fn next_of(value: &Value) -> Option<u64>
     ensures { result ≡ next_in (view value.now) }
 {
     value.get("next").and_then(Value::as_u64)
-}
-
-/// The JSON value of a line; none where it isn't UTF-8 or isn't JSON.
-fn parse(alloc: Global, line: &[u8]) -> Result<Option<Value>, NoMemory>
-    ensures { IfOk result (λ d. line_data line.now ≡ option_map view d) }
-{
-    match Value::from_slice(alloc, line) {
-        Ok(value) => Ok(Some(value)),
-        Err(error) => {
-            if error.is_memory() {
-                return Err(AllocError);
-            }
-            Ok(None)
-        }
-    }
 }

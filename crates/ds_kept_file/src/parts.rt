@@ -1,6 +1,5 @@
 //! A gate, and a batch behind it.
-ghost use Rattle.std.specs.Prelude.{◌≡◌, ◌∷◌, ◌++◌, ◌<◌, List, ℕ, ◌==◌, length, position, true, IfSome, IfNone};
-ghost use Rattle.ds_rounds.specs.Drafts.{IsUnbroken};
+ghost use Rattle.std.specs.Prelude.{◌≡◌, ◌++◌, ◌<◌, List, ℕ, length, true, IfSome, IfNone};
 ghost use Rattle.ds_kept_file.specs.Files.{is_open as is_open_gate, opened};
 
 /// Whether the bytes begin with an open gate: the byte 1, and a byte behind it.
@@ -33,24 +32,4 @@ pub fn split_batch(bytes: &[u8]) -> Option<(&[u8], &[u8])>
         }
         _ => None,
     }
-}
-
-/// The first line without its newline, and what stands behind that; `None` where there is no newline.
-pub fn split_line(text: &[u8]) -> Option<(&[u8], &[u8])>
-    ensures split { IfSome result (λ parts. text.now ≡ parts.0.now ++ 10 ∷ parts.1.now) }
-    ensures whole { IfSome result (λ parts. IsUnbroken parts.0.now) }
-    ensures none { IfNone result (IsUnbroken text.now) }
-{
-    match newline(text) {
-        Some(end) => Some((&text[..end], &text[end + 1..])),
-        None => None,
-    }
-}
-
-/// Where the first newline stands.
-fn newline(text: &[u8]) -> Option<usize>
-    ensures at { result ≡ position (λ b. b == 10) text.now }
-    ensures within { IfSome result (λ end. end < length text.now) }
-{
-    text.iter().position(|b| *b == b'\n')
 }

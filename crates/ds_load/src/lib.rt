@@ -10,4 +10,4 @@ pub mod reading;
 pub mod writing;
 
 pub use reading::{Summary, read_summary};
-pub use writing::write_load;
+pub use writing::{append_number, write_load};

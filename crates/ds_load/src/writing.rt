@@ -39,8 +39,8 @@ fn append_put(i: u64, text: &mut Buffer) -> Result<(), NoMemory>
     text.append(b"}},\"op\":\"put\"}\n")
 }
 
-/// A number in decimal.
-pub(crate) fn append_number(number: u64, text: &mut Buffer) -> Result<(), NoMemory>
+/// Puts a number in decimal at the end. A refusal means out of memory.
+pub fn append_number(number: u64, text: &mut Buffer) -> Result<(), NoMemory>
     ensures { OnOk result (text.new.bytes ≡ text.old.bytes ++ decimal number) }
 {
     text.append(itoa::Buffer::new().format(number).as_bytes())

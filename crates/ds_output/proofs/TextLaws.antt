@@ -1,28 +1,12 @@
 -- Texts that stand one behind the other.
-use Rattle.std.proofs.Common.{◌≡◌, ℕ, zero, suc, ◌+◌, ◌-◌, ◌<◌, ◌≤◌, List, [], ◌∷◌, ◌++◌, length, take, drop, refl, ap, sym, ◌∙◌}
-use Rattle.std.proofs.Common.{subst, arith}
-use Rattle.std.proofs.Common.{length-drop, get_or}
-use Rattle.std.proofs.Common.{Option, Some}
+use Rattle.std.proofs.Common.{◌≡◌, ℕ, zero, suc, ◌+◌, ◌-◌, ◌<◌, ◌≤◌, List, [], ◌∷◌, ◌++◌, length, drop, refl, ap, sym, ◌∙◌}
+use Rattle.std.proofs.Common.{arith}
+use Rattle.std.proofs.Common.{get_or}
+use Rattle.std.proofs.Common.{Some}
 use Rattle.std.specs.Prelude.{flat_map, slice_get}
-use Rattle.std.specs.Io.KnownBytes.{Appends}
-use Rattle.std.proofs.KnownBytes.{Appends-trans}
-use Rattle.std.proofs.Math.Seq.{take-add}
-use Rattle.std.proofs.lemmas.List.{take_all}
 use Rattle.std.proofs.lemmas.List.Elements.{All-head, All-tail}
 use Rattle.ds_base.specs.Buffers.{BufferParts}
 use Rattle.ds_output.specs.Unsent.{AreEmpty}
-
--- what is behind the first bytes, as a program takes it
-pub rest_from : {A : Type 0} (n : ℕ) (l : List A) → take (length l - n) (drop n l) ≡ drop n l
-rest_from n l = take_all (length l - n) (drop n l) (omega (arith, length-drop n l))
-
--- the first bytes of a text, and then some more of them
-pub written_more : (h0 h1 h2 : Option (List ℕ)) (text : List ℕ) (sent n : ℕ) → Appends h0 h1 (take sent text)
-    → Appends h1 h2 (take n (take (length text - sent) (drop sent text))) → Appends h0 h2 (take (sent + n) text)
-written_more h0 h1 h2 text sent n before more =
-    let rest : Appends h1 h2 (take n (drop sent text)) = subst (λ (bs : List ℕ). Appends h1 h2 (take n bs)) (rest_from sent text) more in
-    subst (λ (bs : List ℕ). Appends h0 h2 bs) (sym (take-add sent n text))
-    (Appends-trans h0 h1 h2 (take sent text) (take n (drop sent text)) before rest)
 
 abbrev pub all_bytes : List BufferParts → List ℕ
 all_bytes texts = flat_map (λ (text : BufferParts). text.bytes) texts

@@ -11,12 +11,10 @@ mod bounds;
 mod searched;
 mod telling;
 mod unsent;
-mod writing;
 mod written;
 
 pub use bounds::{make_room_for_numbers, make_room_for_write, prepare_key};
 pub use searched::{counts_in, found_body, place_in};
 pub use telling::{tell, tell_last, tell_no_memory};
 pub use unsent::{Texts, Unsent, no_texts};
-pub use writing::write_all;
 pub use written::{body_of, body_with};

@@ -2,4 +2,3 @@ mod Cuts
 mod Digits
 mod Printed
 mod Scripted
-mod Written

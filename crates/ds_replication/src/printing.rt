@@ -7,7 +7,7 @@ ghost use Rattle.ds_paxos.specs.Holdings.{holding_of};
 ghost use Rattle.ds_replication.specs.Printing.{holding_line, world_text};
 
 use ds_base::NoMemory;
-use ds_io::Sink;
+use ds_io::{Sink, write_all};
 use ds_paxos::{Held, World};
 use std::alloc::Global;
 
@@ -51,27 +51,8 @@ pub(crate) fn write_whole<O: Sink>(output: &mut O, text: &[u8]) -> bool
     ensures kept { IsTrue result → O.faults output.new ≡ O.faults output.old }
     ensures counted { IsFalse result → O.faults output.new ≡ next_count (O.faults output.old) }
 {
-    if write_all(output, text) {
-        output.flush().is_ok()
-    } else {
-        false
+    match write_all(output, text) {
+        Ok(()) => output.flush().is_ok(),
+        Err(_) => false,
     }
-}
-
-/// Whether a text was written to its end; where it wasn't, a write failed, and a beginning was taken.
-fn write_all<O: Sink>(output: &mut O, text: &[u8]) -> bool
-    ensures whole { IsTrue result → Appends (O.held output.old) (O.held output.new) text.now }
-    ensures fault { IsFalse result → Rose (O.faults output.old) (O.faults output.new) }
-    ensures front { IsFalse result → (sent : ℕ) × Appends (O.held output.old) (O.held output.new) (take sent text.now) }
-    ensures kept { IsTrue result → O.faults output.new ≡ O.faults output.old }
-    ensures counted { IsFalse result → O.faults output.new ≡ next_count (O.faults output.old) }
-{
-    let mut sent = 0;
-    'write: while sent < text.len() {
-        let Ok(n) = output.write(&text[sent..]) else {
-            return false;
-        };
-        sent += n;
-    }
-    true
 }

@@ -23,4 +23,4 @@ mod write;
 
 pub use entities::append_entity;
 pub use reply::{Body, Reply, WriteAt};
-pub use write::{reply_room, write_reply};
+pub use write::write_reply;

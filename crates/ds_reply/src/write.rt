@@ -1,5 +1,5 @@
 //! From a reply to its line.
-ghost use Rattle.std.specs.Prelude.{◌≡◌, ◌≤◌, ◌+◌, ◌-◌, ◌^◌, ◌++◌, length, min, false, IsOk, OnOk, OnErr};
+ghost use Rattle.std.specs.Prelude.{◌≡◌, ◌≤◌, ◌+◌, ◌++◌, length, false, IsOk, OnOk, OnErr};
 ghost use Rattle.ds_reply.specs.Replies.{reply_text};
 ghost use Rattle.ds_json_printing.specs.Outputs.{WritesText};
 
@@ -8,17 +8,8 @@ use crate::object::write_object;
 use crate::reply::Reply;
 use core::mem::replace_with;
 use ds_base::{Buffer, NoMemory};
-use ds_json_printing::{Count, Growing, Output};
+use ds_json_printing::{Growing, Output};
 use std::alloc::AllocError;
-
-/// How many bytes the reply's line has, or 2^64 - 1 where they are more. It takes no memory.
-pub fn reply_room(reply: &Reply) -> u64
-    ensures { result ≡ min (length (reply_text reply.now)) (2 ^ 64 - 1) }
-{
-    let mut count = Count { bytes: 0 };
-    write_line(reply, &mut count);
-    count.bytes
-}
 
 /// Puts the reply's line at the end of `onto`: one JSON object in compact text, and a newline. It is refused for want of
 /// memory alone, and never where there is the room for the line. A refusal leaves the bytes as they were, and no less room;

@@ -1,9 +1,9 @@
 //! A text apart into lines.
-ghost use Rattle.std.specs.Prelude.{◌≡◌, ◌<◌, ◌==◌, ◌∷◌, ◌++◌, map, length, position, IfNone, IfOk, IfSome, option_map};
-ghost use Rattle.ds_rounds.specs.Drafts.{IsUnbroken};
+ghost use Rattle.std.specs.Prelude.{◌≡◌, map, IfOk, option_map};
 ghost use Rattle.ds_reply_lines.specs.ReplyLines.{whole_lines};
 
 use ds_base::NoMemory;
+use ds_rounds::split_line;
 use std::alloc::Global;
 
 /// The lines of a text without their newlines; `None` exactly where something stands behind the last newline. It is linear in the text. A
@@ -13,7 +13,7 @@ pub fn whole_lines(alloc: Global, text: &[u8]) -> Result<Option<Vec<&[u8]>>, NoM
 {
     let mut lines = Vec::new(alloc);
     let mut rest = text;
-    'lines: while let Some((line, behind)) = first_line(rest) {
+    'lines: while let Some((line, behind)) = split_line(rest) {
         lines.push(line)?;
         rest = behind;
     }
@@ -22,23 +22,4 @@ pub fn whole_lines(alloc: Global, text: &[u8]) -> Result<Option<Vec<&[u8]>>, NoM
     } else {
         Ok(None)
     }
-}
-
-/// The first line without its newline, and what stands behind that; none where there is no newline.
-fn first_line(text: &[u8]) -> Option<(&[u8], &[u8])>
-    ensures some { IfSome result (λ p. IsUnbroken p.0.now × (text.now ≡ p.0.now ++ 10 ∷ p.1.now)) }
-    ensures none { IfNone result (IsUnbroken text.now) }
-{
-    match newline(text) {
-        Some(end) => Some((&text[..end], &text[end + 1..])),
-        None => None,
-    }
-}
-
-/// Where the first newline stands.
-fn newline(text: &[u8]) -> Option<usize>
-    ensures at { result ≡ position (λ b. b == 10) text.now }
-    ensures within { IfSome result (λ end. end < length text.now) }
-{
-    text.iter().position(|b| *b == b'\n')
 }

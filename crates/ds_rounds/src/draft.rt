@@ -1,6 +1,6 @@
 //! A round that is being read.
 ghost use Rattle.std.specs.Prelude.{◌≡◌, ℕ, ◌+◌, ◌^◌, ◌-◌, ◌<◌, ◌≤◌, ◌==◌, ◌&&◌, [], ◌∷◌, ◌++◌, List, Bool, true, false, length, take};
-ghost use Rattle.std.specs.Prelude.{position, IfOk, OnOk, OnErr};
+ghost use Rattle.std.specs.Prelude.{IfOk, OnOk, OnErr};
 ghost use Rattle.ds_base.specs.Limits.{most_line_bytes};
 ghost use Rattle.ds_rounds.specs.Lines.{Content, content_of, is_blank};
 ghost use Rattle.ds_rounds.specs.Rounds.{is_full};
@@ -261,11 +261,4 @@ fn is_blank(line: &[u8]) -> bool
 {
     line.iter()
         .all(|b| *b == b' ' || *b == b'\t' || *b == b'\r')
-}
-
-/// The place of the first newline; `None` where there is none.
-pub(crate) fn newline(bytes: &[u8]) -> Option<usize>
-    ensures { result ≡ position (λ b. b == 10) bytes.now }
-{
-    memchr::memchr(b'\n', bytes)
 }

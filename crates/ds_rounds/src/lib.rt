@@ -9,15 +9,15 @@
 mod draft;
 pub mod line;
 pub mod lines;
+pub mod newline;
 mod piece;
 pub mod round;
 pub mod rounds;
 pub mod stage;
-pub mod unsent;
 
 pub use line::Line;
 pub use lines::{Chunk, Lines};
+pub use newline::split_line;
 pub use round::Round;
 pub use rounds::Rounds;
 pub use stage::{RoundRefused, Stage};
-pub use unsent::Unsent;

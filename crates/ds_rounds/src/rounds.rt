@@ -9,7 +9,8 @@ ghost use Rattle.ds_rounds.specs.Lines.{lines_in};
 ghost use Rattle.ds_rounds.specs.Rounds.{NumberedLine, found_rounds, rounds_from};
 ghost use Rattle.ds_rounds.specs.Reading.{IsRound, ReadsRound, faults_after, first_reader};
 
-use crate::draft::{Draft, newline};
+use crate::draft::Draft;
+use crate::newline::newline;
 use crate::piece::{PIECE, Piece};
 use crate::round::Round;
 use crate::stage::{RoundRefused, Stage};

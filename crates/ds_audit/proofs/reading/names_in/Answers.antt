@@ -6,7 +6,7 @@ use Rattle.ds_words.specs.Form.{is_value, options_of}
 use Rattle.ds_words.specs.declared.options.WordsRefused.TheVariants as refused
 use Rattle.ds_audit.proofs.Bounds.{shards_within}
 use Rattle.ds_audit.proofs.WordsLaws.{few_words, some_asked}
-use Rattle.ds_audit.proofs.WritingLaws.{rest_from}
+use Rattle.ds_io.proofs.WrittenLaws.{rest_from}
 use Rattle.ds_audit.proofs.reading.names_in.Goals as goal
 
 pub returns-then-words-lt3-clause-usage : goal.returns-then-words-lt3-clause-usage

@@ -21,11 +21,11 @@ lines-preserved c =
     let pushed : texts c.push.new.self.items ≡ texts c.lines.lines.items ++ line ∷ [] =
     ap texts c.in_ok-push.ensures.items ∙ map-append (λ l. l.now) c.lines.lines.items (c.in-Some.line ∷ []) in
     subst (λ (ls : List (List ℕ)). whole_lines text ≡ option_map (λ more. ls ++ more) (whole_lines behind)) (sym pushed)
-    (line_more text c.lines.rest.now line behind (texts c.lines.lines.items) c.in-Some.ensures.some.0 c.in-Some.ensures.some.1 c.lines.invariant)
+    (line_more text c.lines.rest.now line behind (texts c.lines.lines.items) c.in-Some.ensures.whole c.in-Some.ensures.split c.lines.invariant)
 
 pub returns : goal.returns
 returns c =
     let rest = c.lines.rest.now in
     let some : rest ≡ [] → ⊥ = λ e. let t : c.is_empty.result ≡ true = c.is_empty.ensures ∙ ap (λ (r : List ℕ). length r == 0) e in cc in
     sym (c.lines.invariant ∙ ap (option_map (λ more. texts c.lines.lines.items ++ more))
-    (no_more rest (if_none c.first_line.result c.in_default.not-Some c.first_line.ensures.none) some))
+    (no_more rest (if_none c.split_line.result c.in_default.not-Some c.split_line.ensures.none) some))

@@ -16,7 +16,7 @@ returns-then-branch-clause-rounds c = λ rounds stands.
       kept = c.in_ok-extend.ensures.kept;
       blank = c.in_ok-extend.ensures.blank;
     } in
-    let found : position (λ b. b == 10) c.lines.piece ≡ Some at = ap (position (λ b. b == 10)) (sym c.bytes.ensures) ∙ sym c.in-Some.ensures in
+    let found : position (λ b. b == 10) c.lines.piece ≡ Some at = ap (position (λ b. b == 10)) (sym c.bytes.ensures) ∙ sym c.in-Some.ensures.at in
     let broke : Broke rounds c.extend.new.self c.skip.new.self =
     broke_at rounds c.lines.draft c.extend.new.self c.lines.number c.lines.piece (take at c.bytes-in-Some.result.now) c.skip.new.self at
     (c.lines.invariant.stands rounds stands) found (ap (take at) c.bytes-in-Some.ensures) extended c.skip.ensures
@@ -38,7 +38,7 @@ lines-preserved c =
       kept = c.in_ok-extend.ensures.kept;
       blank = c.in_ok-extend.ensures.blank;
     } in
-    let found : position (λ b. b == 10) c.lines.piece ≡ Some at = ap (position (λ b. b == 10)) (sym c.bytes.ensures) ∙ sym c.in-Some.ensures in
+    let found : position (λ b. b == 10) c.lines.piece ≡ Some at = ap (position (λ b. b == 10)) (sym c.bytes.ensures) ∙ sym c.in-Some.ensures.at in
     let leaves : Leaves false c.extend.new.self c.end_line.new.self = subst (λ b. Leaves b c.extend.new.self c.end_line.new.self) c.if-branch.false c.in_ok-end_line.ensures.leaves in
     let counted : c.lines.number ≡ number_in c.extend.new.self = c.lines.invariant.counted ∙ number_same c.lines.draft c.extend.new.self c.extend.ensures.first c.extend.ensures.lines in
     let broken = position-newline c.lines.piece at found in
@@ -67,4 +67,4 @@ returns-clause-rounds c = λ rounds stands.
       kept = c.in_ok-extend-2.ensures.kept ∙ ap (λ bs. c.lines.draft.kept ++ take (2097153 - length c.lines.draft.kept) bs) c.bytes-2.ensures;
       blank = c.in_ok-extend-2.ensures.blank ∙ ap (λ bs. c.lines.draft.blank && is_blank bs) c.bytes-2.ensures;
     } in
-    subst (Stands rounds c.extend-2.new.self c.lines.number) (sym c.clear.ensures) (bytes_over rounds c.lines.draft c.extend-2.new.self c.lines.number c.lines.piece (c.lines.invariant.stands rounds stands) (position-no_newline c.lines.piece (ap (position (λ b. b == 10)) (sym c.bytes.ensures) ∙ sym c.newline.ensures ∙ c.in_default.is)) extended)
+    subst (Stands rounds c.extend-2.new.self c.lines.number) (sym c.clear.ensures) (bytes_over rounds c.lines.draft c.extend-2.new.self c.lines.number c.lines.piece (c.lines.invariant.stands rounds stands) (position-no_newline c.lines.piece (ap (position (λ b. b == 10)) (sym c.bytes.ensures) ∙ sym c.newline.ensures.at ∙ c.in_default.is)) extended)

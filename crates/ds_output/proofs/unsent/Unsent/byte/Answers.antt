@@ -1,7 +1,8 @@
 use Rattle.std.proofs.Common.{◌≡◌, ◌+◌, ◌-◌, ◌≤◌, List, ℕ, ◌∙◌, ap, arith, drop, length, subst, sym, take}
 use Rattle.std.specs.Prelude.{slice_get}
 use Rattle.ds_base.specs.Buffers.{BufferParts}
-use Rattle.ds_output.proofs.TextLaws.{all_bytes, bytes-left, get-first, get-later, get-there, rest_from}
+use Rattle.ds_io.proofs.WrittenLaws.{rest_from}
+use Rattle.ds_output.proofs.TextLaws.{all_bytes, bytes-left, get-first, get-later, get-there}
 use Rattle.ds_output.proofs.unsent.Unsent.byte.Goals as goal
 
 pub returns-then-i-rest : goal.returns-then-i-rest

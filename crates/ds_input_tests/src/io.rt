@@ -170,7 +170,7 @@ fn reads_and_writes_over_std(rt: HostRuntime) -> Result<(), Fail> {
 #[test]
 fn loads_over_std(rt: HostRuntime) -> Result<(), Fail> {
     let alloc = rt.alloc();
-    let name = "ds_format_tests_loads_over_std";
+    let name = "ds_input_tests_loads_over_std";
     fs::write(&rt, name, "all of it")?;
     let loaded = loads(&mut StdFiles::new(&rt), alloc, name, b"all of it");
     fs::remove_file(&rt, name)?;

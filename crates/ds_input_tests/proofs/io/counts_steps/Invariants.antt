@@ -1,4 +1,4 @@
-use Rattle.ds_format_tests.proofs.io.counts_steps.Given as goal
+use Rattle.ds_input_tests.proofs.io.counts_steps.Given as goal
 
 -- the ledger is the one that the blank becomes
 abbrev pub ghosts-count_steps : goal.ghosts-count_steps

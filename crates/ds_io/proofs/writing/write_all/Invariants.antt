@@ -1,6 +1,6 @@
 use Rattle.std.proofs.Common.{◌≡◌, ◌-◌, ◌≤◌, length, take}
 use Rattle.std.specs.Io.KnownBytes.{Appends}
-use Rattle.ds_fill.proofs.fill.write_all.Given as goal
+use Rattle.ds_io.proofs.writing.write_all.Given as goal
 
 abbrev pub decreases-write : goal.decreases-write
 decreases-write g l = length l.text - l.sent

@@ -1,7 +1,7 @@
 use Rattle.std.proofs.Common.{◌≡◌, ◌+◌, ◌-◌, List, ℕ, ◌∷◌, ◌++◌, length, take, drop, sym, ap, ◌∙◌, arith, length-drop}
 use Rattle.std.proofs.lemmas.List.{take_all}
 use Rattle.ds_rounds.proofs.LineLaws.{position-newline, position-no_newline}
-use Rattle.ds_kept_file.proofs.parts.split_line.Goals as goal
+use Rattle.ds_rounds.proofs.newline.split_line.Goals as goal
 
 pub returns-in-Some-clause-split : goal.returns-in-Some-clause-split
 returns-in-Some-clause-split c =

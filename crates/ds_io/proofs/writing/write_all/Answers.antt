@@ -1,7 +1,7 @@
 use Rattle.std.proofs.Common.{◌∙◌, arith, refl}
 use Rattle.std.proofs.KnownBytes.{Appends-nil}
-use Rattle.ds_output.proofs.TextLaws.{written_more}
-use Rattle.ds_output.proofs.writing.write_all.Goals as goal
+use Rattle.ds_io.proofs.WrittenLaws.{written_more}
+use Rattle.ds_io.proofs.writing.write_all.Goals as goal
 
 pub write-init : goal.write-init
 write-init g c = (omega arith, Appends-nil (g.O.Sink.held c.args.output.now), refl)

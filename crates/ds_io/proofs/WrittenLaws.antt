@@ -1,4 +1,4 @@
--- A text that is written piece by piece, or read so.
+-- A text that is written piece by piece.
 use Rattle.std.proofs.Common.{◌≡◌, ℕ, ◌+◌, ◌-◌, List, length, take, drop, sym, subst, arith, Option, length-drop}
 use Rattle.std.specs.Io.KnownBytes.{Appends}
 use Rattle.std.proofs.KnownBytes.{Appends-trans}
@@ -6,7 +6,7 @@ use Rattle.std.proofs.Math.Seq.{take-add}
 use Rattle.std.proofs.lemmas.List.{take_all}
 
 -- what is behind the first bytes, as a program takes it
-rest_from : (n : ℕ) (l : List ℕ) → take (length l - n) (drop n l) ≡ drop n l
+pub rest_from : {A : Type 0} (n : ℕ) (l : List A) → take (length l - n) (drop n l) ≡ drop n l
 rest_from n l = take_all (length l - n) (drop n l) (omega (arith, length-drop n l))
 
 -- the first bytes of a text, and then some more of them

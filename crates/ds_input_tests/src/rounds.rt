@@ -1,9 +1,9 @@
 //! Rounds of inputs, told as texts, and what is told of the bytes that an output didn't take.
 ghost use Rattle.std.specs.Prelude.{◌<◌};
 
-use ds_base::{Buffer, ByteString, Numbers};
+use ds_base::{ByteString, Numbers};
 use ds_io::MemorySource;
-use ds_rounds::{Chunk, Line, Lines, Round, RoundRefused, Rounds, Unsent};
+use ds_rounds::{Chunk, Line, Lines, Round, RoundRefused, Rounds};
 use std::alloc::{AllocError, Global};
 use std::test::Fail;
 
@@ -241,25 +241,5 @@ fn gives_a_round_before_it_reads_on(rt: HostRuntime) -> Result<(), Fail> {
     assert!(rt; reads_where_one_fails(alloc, 2, AFTER_ONE)?);
     assert!(rt; reads_where_one_fails(alloc, 3, AFTER_ONE)?);
     assert!(rt; reads_where_one_fails(alloc, 9, b"1:a| 3:b|cd| ")?);
-    Ok(())
-}
-
-fn is_none_taken(none: &Unsent) -> bool {
-    none.len() == 0 && none.is_empty() && none.byte(0).is_none()
-}
-
-fn is_bc(rest: &Unsent) -> bool {
-    let bytes = rest.byte(0) == Some(b'b') && rest.byte(1) == Some(b'c');
-    rest.len() == 2 && bytes && rest.byte(2).is_none()
-}
-
-#[test]
-fn tells_what_was_not_taken(rt: HostRuntime) -> Result<(), Fail> {
-    let alloc = rt.alloc();
-    assert!(rt; is_none_taken(&Unsent::none(alloc)));
-    let mut text = Buffer::new(alloc);
-    text.append(b"abc")?;
-    assert!(rt; text.bytes().len() == 3);
-    assert!(rt; is_bc(&Unsent::rest_of(text, 1)));
     Ok(())
 }
