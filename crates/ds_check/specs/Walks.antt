@@ -1,5 +1,5 @@
 -- Replies held against what lines ask, one step after another.
-use Rattle.std.specs.Prelude.{◌≡◌, ℕ, suc, ◌+◌, ◌<◌, ◌≤◌, Bool, true, false, List, [], ◌∷◌, ◌++◌, Option, Some, None, Result, Ok, Err}
+use Rattle.std.specs.Prelude.{◌≡◌, ℕ, suc, ◌+◌, ◌<◌, Bool, true, false, List, [], ◌∷◌, ◌++◌, Option, Some, None, Result, Ok, Err}
 use Rattle.std.specs.Prelude.{flat_map, fold, length, map, max, slice_get, slice_set, All, IsPermutation, ⊤}
 use Rattle.std.specs.List.{range_with_len}
 use Rattle.ds_base.specs.Limits.{greatest_client}
@@ -15,7 +15,7 @@ use Rattle.ds_reply.specs.Replies.{reply_text}
 use Rattle.ds_told.specs.Told.{AreIssued, ToldParts, above_in, ids_of, printed_in}
 use Rattle.ds_told.specs.declared.told.Tally.{Tally}
 use Rattle.ds_told.specs.declared.told.Tally.TheVariants as tally
-use Rattle.ds_judging_lines.specs.Deciding.{HasCounter, IsTheAnswer, NoAnswer}
+use Rattle.ds_judging_lines.specs.Deciding.{HasCounter, IsSessionIn, IsTheAnswer, NoAnswer}
 use Rattle.ds_check.specs.declared.checking.Verdict.{Verdict}
 use Rattle.ds_check.specs.declared.checking.Verdict.TheVariants as verdict
 use Rattle.ds_check.specs.declared.steps.Step.{Step}
@@ -147,8 +147,7 @@ pub record IsFirstWrong (w : World) (sessions : List Session) (steps : List Step
 -- each client has a session, with a count for each shard and a shown id counter that isn't 0
 pub record AreSessions (shards : ℕ) (sessions : List Session) : Type 0 where
   pub clients : length sessions ≡ greatest_client + 1
-  pub counted : All (λ s. length s.counts ≡ shards) sessions
-  pub shown : All (λ s. 1 ≤ s.next_id) sessions
+  pub each : All (IsSessionIn shards) sessions
 
 -- what a line asks may be asked of so many shards
 abbrev pub MayBeTaken : ℕ → Step → Type 0

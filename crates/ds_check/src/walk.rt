@@ -2,14 +2,15 @@
 ghost use Rattle.std.specs.Prelude.{◌≡◌, ◌<◌, [], Some, map, length, slice_get, All, IfOk};
 ghost use Rattle.ds_asked.specs.AskedLines.{MayBeAnswered};
 ghost use Rattle.ds_model.specs.Sessions.{first_sessions};
-ghost use Rattle.ds_judging_lines.specs.Deciding.{IsHeld, seen_by, world_run};
+ghost use Rattle.ds_judging_lines.specs.Deciding.{IsHeld, world_run};
 ghost use Rattle.ds_check.specs.Walks.{AreSessions, IfAsk, IsFound, IsReplied, IsTaken, MayBeTaken, Walked, asks};
 
 use crate::steps::Step;
 use ds_asked::Asked;
 use ds_base::NoMemory;
 use ds_judging::judge;
-use ds_judging_lines::{Run, Session, first_sessions, meet};
+use ds_judging_lines::{Run, first_sessions, meet};
+use ds_protocol::Session;
 use ds_told::{Draws, Told};
 use std::alloc::Global;
 
@@ -54,10 +55,10 @@ fn take_step(
     requires held { IsHeld run.now.history.shards run.now.history.journal }
     requires step { MayBeTaken run.now.history.shards step }
     requires replied { IsReplied step answered (length replies.now) }
-    requires sessions { AreSessions run.now.history.shards (map seen_by sessions.old.items) }
-    ensures taken { IfOk result (λ count. IsTaken (world_run run.now) (map seen_by sessions.old.items) told.old
-        (map (λ line. line.now) replies.now) answered step count (map seen_by sessions.new.items) told.new) }
-    ensures sessions { IfOk result (λ count. IfAsk step (AreSessions run.now.history.shards (map seen_by sessions.new.items))) }
+    requires sessions { AreSessions run.now.history.shards sessions.old.items }
+    ensures taken { IfOk result (λ count. IsTaken (world_run run.now) sessions.old.items told.old
+        (map (λ line. line.now) replies.now) answered step count sessions.new.items told.new) }
+    ensures sessions { IfOk result (λ count. IfAsk step (AreSessions run.now.history.shards sessions.new.items)) }
 {
     match step {
         Step::Meet => {
@@ -94,10 +95,10 @@ fn is_answered(
 ) -> Result<bool, NoMemory>
     requires held { IsHeld run.now.history.shards run.now.history.journal }
     requires answerable { MayBeAnswered run.now.history.shards asked }
-    requires sessions { AreSessions run.now.history.shards (map seen_by sessions.old.items) }
-    ensures found { IfOk result (λ right. IsFound (world_run run.now) (map seen_by sessions.old.items) told.old asked line.now right
-        (map seen_by sessions.new.items) told.new) }
-    ensures sessions { IfOk result (λ right. AreSessions run.now.history.shards (map seen_by sessions.new.items)) }
+    requires sessions { AreSessions run.now.history.shards sessions.old.items }
+    ensures found { IfOk result (λ right. IsFound (world_run run.now) sessions.old.items told.old asked line.now right
+        sessions.new.items told.new) }
+    ensures sessions { IfOk result (λ right. AreSessions run.now.history.shards sessions.new.items) }
 {
     let draws = Draws::of(&asked.request);
     match judge(

@@ -6,7 +6,7 @@ ghost use Rattle.ds_model.specs.Sessions.{first_sessions};
 use crate::opened::Open;
 use ds_base::NoMemory;
 use ds_base::limits::MAX_CLIENT;
-use ds_effects::Session;
+use ds_protocol::Session;
 use std::alloc::Global;
 
 /// One session for each client, who has seen nothing. A refusal means out of memory.

@@ -13,8 +13,9 @@ ghost use Rattle.ds_core.specs.Witnesses.{SteppedTo};
 
 use crate::holding::set;
 use ds_base::{NoMemory, TryCopy};
-use ds_effects::{Due, Gathered, Plan, Session, Step};
+use ds_effects::{Due, Gathered, Plan, Step};
 use ds_machine::{State, Work};
+use ds_protocol::Session;
 use ds_request::{Call, Request};
 use std::alloc::Global;
 

@@ -6,16 +6,16 @@ ghost use Rattle.ds_model.specs.Answers.{AskedAnswers, BodyAnswers, RequestAnswe
 ghost use Rattle.ds_model.specs.Asked.{has_shard, search_of};
 ghost use Rattle.ds_model.specs.Refusals.{refusal_of};
 ghost use Rattle.ds_protocol.specs.Operations.{IsLawfulOperation, call_of};
-ghost use Rattle.ds_judging_lines.specs.Deciding.{Decides, DecidesTurn, IsHeld, IsSession, IsSessionIn, seen_by, world_in, world_run};
+ghost use Rattle.ds_judging_lines.specs.Deciding.{Decides, DecidesTurn, IsHeld, IsSession, IsSessionIn, world_in, world_run};
 ghost use Rattle.ds_judging.specs.Judging.{IsOperated};
 
 use crate::transactions::{judge_begin, judge_commit, judge_rollback};
 use ds_asked::Asked;
 use ds_base::NoMemory;
-use ds_judging_lines::{Run, Session, Turn, judge_apply, judge_settle};
+use ds_judging_lines::{Run, Turn, judge_apply, judge_settle};
 use ds_judging_reads::{judge_get, judge_search};
 use ds_judging_writes::{judge_allocate, judge_delete, judge_put};
-use ds_protocol::{Operation, operation_of, refusal_of};
+use ds_protocol::{Operation, Session, operation_of, refusal_of};
 use ds_reply::Body;
 use ds_reply_lines::Members;
 use ds_request::Request;
@@ -33,8 +33,8 @@ pub fn judge(
     requires session { IsSessionIn run.now.history.shards session.old }
     requires answerable { MayBeAnswered run.now.history.shards asked }
     ensures decided { IfOk result (λ found. Decides
-        (λ said after. BodyAnswers (world_run run.now) (seen_by session.old) (was_read asked) said after)
-        asked.client asked.number line.now found (seen_by session.new)) }
+        (λ said after. BodyAnswers (world_run run.now) session.old (was_read asked) said after)
+        asked.client asked.number line.now found session.new) }
     ensures kept { IfOk result (λ found. IsSessionIn run.now.history.shards session.new) }
 {
     let told = Members::of(alloc, line)?;
@@ -63,8 +63,8 @@ fn judge_turn(
     requires session { IsSession turn.now session.old }
     requires lawful { IsLawful turn.now.run.now.history.shards turn.now.client request }
     ensures decided { IfOk result (λ found. DecidesTurn turn.now
-        (λ said after. BodyAnswers (world_in turn.now) (seen_by session.old) (read_as turn.now.client request) said after) found
-        (seen_by session.new)) }
+        (λ said after. BodyAnswers (world_in turn.now) session.old (read_as turn.now.client request) said after) found
+        session.new) }
     ensures kept { IfOk result (λ found. IsSession turn.now session.new) }
 {
     match turn.said(Body::NoMemory)? {
@@ -82,8 +82,8 @@ fn judge_read(
     requires session { IsSession turn.now session.old }
     requires lawful { IsLawful turn.now.run.now.history.shards turn.now.client request }
     ensures decided { IfOk result (λ found. DecidesTurn turn.now
-        (λ said after. AskedAnswers (world_in turn.now) (seen_by session.old) (read_as turn.now.client request) said after) found
-        (seen_by session.new)) }
+        (λ said after. AskedAnswers (world_in turn.now) session.old (read_as turn.now.client request) said after) found
+        session.new) }
     ensures kept { IfOk result (λ found. IsSession turn.now session.new) }
 {
     match request {
@@ -102,8 +102,8 @@ fn judge_request(
     requires lawful { IsLawfulCall request.call }
     requires shard { IsTrue (has_shard turn.now.run.now.history.shards request.call) }
     ensures decided { IfOk result (λ found. DecidesTurn turn.now
-        (λ said after. RequestAnswers (world_in turn.now) turn.now.client (seen_by session.old) request.call
-        (search_of request.call) said after) found (seen_by session.new)) }
+        (λ said after. RequestAnswers (world_in turn.now) turn.now.client session.old request.call
+        (search_of request.call) said after) found session.new) }
     ensures kept { IfOk result (λ found. IsSession turn.now session.new) }
 {
     match operation_of(turn.alloc, request.call) {
@@ -122,11 +122,11 @@ fn judge_operation(
     requires lawful { IsLawfulOperation operation }
     requires shard { IsTrue (has_shard turn.now.run.now.history.shards (call_of operation)) }
     ensures decided { IfOk result (λ found. DecidesTurn turn.now
-        (λ said after. IsOperated (world_in turn.now) turn.now.client (seen_by session.old) operation said after) found
-        (seen_by session.new)) }
+        (λ said after. IsOperated (world_in turn.now) turn.now.client session.old operation said after) found
+        session.new) }
     ensures kept { IfOk result (λ found. IsSession turn.now session.new) }
 {
-    match refusal_of(turn.alloc, turn.run.defs, &session.transaction, &operation) {
+    match refusal_of(turn.alloc, turn.run.defs, session.open(), &operation) {
         Some(body) => turn.say_refusal(body),
         None => judge_unrefused(turn, session, operation),
     }
@@ -141,10 +141,10 @@ fn judge_unrefused(
     requires session { IsSession turn.now session.old }
     requires lawful { IsLawfulOperation operation }
     requires shard { IsTrue (has_shard turn.now.run.now.history.shards (call_of operation)) }
-    requires unrefused { refusal_of turn.now.run.now.defs.now (seen_by session.old) (call_of operation) ≡ None }
+    requires unrefused { refusal_of turn.now.run.now.defs.now session.old (call_of operation) ≡ None }
     ensures decided { IfOk result (λ found. DecidesTurn turn.now
-        (λ said after. IsOperated (world_in turn.now) turn.now.client (seen_by session.old) operation said after) found
-        (seen_by session.new)) }
+        (λ said after. IsOperated (world_in turn.now) turn.now.client session.old operation said after) found
+        session.new) }
     ensures kept { IfOk result (λ found. IsSession turn.now session.new) }
 {
     match operation {

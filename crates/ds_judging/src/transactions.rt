@@ -11,13 +11,14 @@ ghost use Rattle.ds_model.specs.Groups.{with_transaction};
 ghost use Rattle.ds_model.specs.Refusals.{refusal_of};
 ghost use Rattle.ds_model.specs.Sessions.{saw_place};
 ghost use Rattle.ds_judging_writes.specs.Committing.{IsCommit, IsConflict, IsDraft, IsDraftOf};
-ghost use Rattle.ds_judging_lines.specs.Deciding.{DecidesTurn, IsSession, SaysThen, seen_by, world_in};
+ghost use Rattle.ds_judging_lines.specs.Deciding.{DecidesTurn, IsSession, SaysThen, world_in};
 
 use ds_base::{NoMemory, TryCopy};
 use ds_journal_text::commit_is_lawful;
-use ds_judging_lines::{Session, Turn, tells_error};
+use ds_judging_lines::{Turn, seen_place, tells_error};
 use ds_judging_writes::is_commit;
 use ds_log::{Commit, Conflict, Touch};
+use ds_protocol::Session;
 use ds_reply::Body;
 use std::alloc::Global;
 
@@ -31,16 +32,16 @@ pub(crate) fn judge_begin(
     several_groups: bool,
 ) -> Result<Option<Body>, NoMemory>
     requires session { IsSession turn.now session.old }
-    requires unrefused { refusal_of turn.now.run.now.defs.now (seen_by session.old) (Call.Begin several_groups) ≡ None }
+    requires unrefused { refusal_of turn.now.run.now.defs.now session.old (Call.Begin several_groups) ≡ None }
     ensures decided { IfOk result (λ found. DecidesTurn turn.now
-        (λ said after. CallAnswers (world_in turn.now) turn.now.client (seen_by session.old) (Call.Begin several_groups) said after) found
-        (seen_by session.new)) }
+        (λ said after. CallAnswers (world_in turn.now) turn.now.client session.old (Call.Begin several_groups) said after) found
+        session.new) }
     ensures kept { IfOk result (λ found. IsSession turn.now session.new) }
 {
     let Some(said) = turn.said(Body::Begin)? else {
         return Ok(None);
     };
-    session.transaction.begin(turn.alloc, several_groups);
+    session.begin(turn.alloc, several_groups);
     Ok(Some(said))
 }
 
@@ -50,26 +51,26 @@ pub(crate) fn judge_rollback(
     session: &mut Session,
 ) -> Result<Option<Body>, NoMemory>
     requires session { IsSession turn.now session.old }
-    requires unrefused { refusal_of turn.now.run.now.defs.now (seen_by session.old) (Call.Rollback) ≡ None }
+    requires unrefused { refusal_of turn.now.run.now.defs.now session.old (Call.Rollback) ≡ None }
     ensures decided { IfOk result (λ found. DecidesTurn turn.now
-        (λ said after. CallAnswers (world_in turn.now) turn.now.client (seen_by session.old) Call.Rollback said after) found
-        (seen_by session.new)) }
+        (λ said after. CallAnswers (world_in turn.now) turn.now.client session.old Call.Rollback said after) found
+        session.new) }
     ensures kept { IfOk result (λ found. IsSession turn.now session.new) }
 {
     let Some(said) = turn.said(Body::Rollback)? else {
         return Ok(None);
     };
-    session.transaction.end();
+    session.end();
     Ok(Some(said))
 }
 
 /// The body, where it is an answer to a commit: its number, or the conflict.
 pub(crate) fn judge_commit(turn: &Turn<'_>, session: &mut Session) -> Result<Option<Body>, NoMemory>
     requires session { IsSession turn.now session.old }
-    requires unrefused { refusal_of turn.now.run.now.defs.now (seen_by session.old) (Call.Commit) ≡ None }
+    requires unrefused { refusal_of turn.now.run.now.defs.now session.old (Call.Commit) ≡ None }
     ensures decided { IfOk result (λ found. DecidesTurn turn.now
-        (λ said after. CallAnswers (world_in turn.now) turn.now.client (seen_by session.old) Call.Commit said after) found
-        (seen_by session.new)) }
+        (λ said after. CallAnswers (world_in turn.now) turn.now.client session.old Call.Commit said after) found
+        session.new) }
     ensures kept { IfOk result (λ found. IsSession turn.now session.new) }
 {
     let Some(draft) = draft_of(turn, session)? else {
@@ -85,9 +86,9 @@ pub(crate) fn judge_commit(turn: &Turn<'_>, session: &mut Session) -> Result<Opt
 
 /// What the client's transaction commits; none outside a transaction. A refusal means out of memory.
 fn draft_of(turn: &Turn<'_>, session: &Session) -> Result<Option<Commit>, NoMemory>
-    ensures { IfOk result (λ draft. IsDraft turn.now.client session.now.transaction.transaction draft) }
+    ensures { IfOk result (λ draft. IsDraft turn.now.client session.now.transaction draft) }
 {
-    let Some(txn) = session.transaction.transaction() else {
+    let Some(txn) = session.transaction() else {
         return Ok(None);
     };
     let parts = txn.parts(turn.alloc)?;
@@ -107,14 +108,13 @@ fn say_ended(
 ) -> Result<Option<Body>, NoMemory>
     requires session { IsSession turn.now session.old }
     ensures said { IfOk result (λ found. SaysThen turn.now body
-        (saw_place place (with_transaction None (seen_by session.old))) found (seen_by session.new)) }
+        (saw_place place (with_transaction None session.old)) found session.new) }
     ensures kept { IfOk result (λ found. IsSession turn.now session.new) }
 {
     let Some(said) = turn.said(body)? else {
         return Ok(None);
     };
-    session.transaction.end();
-    session.seen.see_place(place);
+    session.end_at(place);
     Ok(Some(said))
 }
 
@@ -127,18 +127,18 @@ fn judge_committed(
     draft: &Commit,
 ) -> Result<Option<Body>, NoMemory>
     requires session { IsSession turn.now session.old }
-    requires draft { IsDraftOf turn.now.client session.old.transaction.transaction draft.now }
+    requires draft { IsDraftOf turn.now.client session.old.transaction draft.now }
     requires few { length draft.now.writes ≤ most_writes }
     requires groups { length draft.now.touched ≤ most_groups }
     ensures decided { IfOk result (λ found. DecidesTurn turn.now
-        (λ said after. IsCommit (world_in turn.now) turn.now.client (seen_by session.old) session.old.transaction.transaction said after)
-        found (seen_by session.new)) }
+        (λ said after. IsCommit (world_in turn.now) turn.now.client session.old session.old.transaction said after)
+        found session.new) }
     ensures kept { IfOk result (λ found. IsSession turn.now session.new) }
 {
     let Some(number) = turn.told.number("commit") else {
         return Ok(None);
     };
-    if number <= session.seen.place() {
+    if number <= seen_place(session) {
         return Ok(None);
     }
     let same = is_commit(turn, number, draft)?;
@@ -183,12 +183,12 @@ fn judge_conflict(
     draft: &Commit,
 ) -> Result<Option<Body>, NoMemory>
     requires session { IsSession turn.now session.old }
-    requires draft { IsDraftOf turn.now.client session.old.transaction.transaction draft.now }
+    requires draft { IsDraftOf turn.now.client session.old.transaction draft.now }
     requires lawful { IsLawfulCommit draft.now }
     requires groups { length draft.now.touched ≤ most_groups }
     ensures decided { IfOk result (λ found. DecidesTurn turn.now
-        (λ said after. IsConflict (world_in turn.now) (seen_by session.old) session.old.transaction.transaction said after) found
-        (seen_by session.new)) }
+        (λ said after. IsConflict (world_in turn.now) session.old session.old.transaction said after) found
+        session.new) }
     ensures kept { IfOk result (λ found. IsSession turn.now session.new) }
 {
     let Some(place) = turn.place(session) else {

@@ -4,7 +4,6 @@ pub mod Decisions
 pub mod LawfulItems
 pub mod LawfulViews
 pub mod OnePlace
-pub mod Raising
 pub mod Saying
 pub mod SeenLaws
 pub mod Telling

@@ -14,7 +14,6 @@ use Rattle.ds_journal_text.specs.Lawful.{IsLawfulWrite}
 use Rattle.ds_reply_lines.specs.ReplyLines.{IsSaid, told_by}
 use Rattle.ds_model.specs.Sessions.{Session, list_of}
 use Rattle.ds_model.specs.Worlds.{World, shard_lists, world_of}
-use Rattle.ds_judging_lines.specs.declared.sessions.Session as sessions
 use Rattle.ds_judging_lines.specs.declared.turn.Run.{Run}
 use Rattle.ds_judging_lines.specs.declared.turn.Turn.{Turn}
 
@@ -60,10 +59,6 @@ pub record IsHeld (shards : ℕ) (journal : List Commit) : Type 0 where
 abbrev pub AsksLawful : Branch → Type 0
 AsksLawful q = All (λ (p : Pair). IsLawfulValue p.value) q.equal
 
--- what a client has seen, and its transaction
-abbrev pub seen_by : sessions.Session → Session
-seen_by s = record (s.seen) { transaction = s.transaction.transaction }
-
 -- what a run is about
 abbrev pub world_run : Run → World
 world_run run = world_of run.defs.now run.history.shards (Some run.window) run.history.journal
@@ -83,12 +78,12 @@ pub record IsTurn (turn : Turn) : Type 0 where
   pub held : IsHeld turn.run.now.history.shards turn.run.now.history.journal
 
 -- a client has a count for each shard, and the shown id counter isn't 0
-pub record IsSessionIn (shards : ℕ) (s : sessions.Session) : Type 0 where
-  pub counted : length s.seen.counts ≡ shards
-  pub shown : 1 ≤ s.seen.next_id
+pub record IsSessionIn (shards : ℕ) (s : Session) : Type 0 where
+  pub counted : length s.counts ≡ shards
+  pub shown : 1 ≤ s.next_id
 
 -- a client whose line it is
-pub record IsSession (t : Turn) (s : sessions.Session) : Type 0 where
+pub record IsSession (t : Turn) (s : Session) : Type 0 where
   pub turn : IsTurn t
   pub own : IsSessionIn t.run.now.history.shards s
 

@@ -3,13 +3,14 @@ ghost use Rattle.std.specs.Prelude.{◌≡◌, ◌<◌, ◌≤◌, ◌↔◌, le
 ghost use Rattle.ds_applied.specs.AppliedLists.{AreCounts};
 ghost use Rattle.ds_request.specs.declared.call.Call.{Call};
 ghost use Rattle.ds_model.specs.Answers.{AppliedCount, CallAnswers};
-ghost use Rattle.ds_model.specs.Sessions.{list_of, saw_counts, saw_shard_count};
+ghost use Rattle.ds_model.specs.Sessions.{list_of, saw_counts, saw_place, saw_shard_count};
 ghost use Rattle.ds_model.specs.Worlds.{shard_lists};
-ghost use Rattle.ds_judging_lines.specs.Deciding.{DecidesTurn, IsSession, seen_by, world_in};
+ghost use Rattle.ds_judging_lines.specs.Deciding.{DecidesTurn, IsSession, world_in};
 
-use crate::sessions::Session;
+use crate::sessions::seen_count;
 use crate::turn::Turn;
 use ds_base::{Counts, NoMemory};
+use ds_protocol::{CountSeen, Session};
 use ds_reply::Body;
 use std::alloc::Global;
 
@@ -17,8 +18,8 @@ use std::alloc::Global;
 pub fn judge_settle(turn: &Turn<'_>, session: &mut Session) -> Result<Option<Body>, NoMemory>
     requires session { IsSession turn.now session.old }
     ensures decided { IfOk result (λ found. DecidesTurn turn.now
-        (λ said after. CallAnswers (world_in turn.now) turn.now.client (seen_by session.old) Call.Settle said after) found
-        (seen_by session.new)) }
+        (λ said after. CallAnswers (world_in turn.now) turn.now.client session.old Call.Settle said after) found
+        session.new) }
     ensures kept { IfOk result (λ found. IsSession turn.now session.new) }
 {
     let Some(place) = turn.place(session) else {
@@ -31,7 +32,7 @@ pub fn judge_settle(turn: &Turn<'_>, session: &mut Session) -> Result<Option<Bod
     let Some(said) = turn.said(Body::Settle { place, applied })? else {
         return Ok(None);
     };
-    session.seen.see_place(place);
+    session.see_place(place);
     see_counts(turn, session, counts.as_slice());
     Ok(Some(said))
 }
@@ -49,24 +50,30 @@ pub fn copy_counts(alloc: Global, counts: &[u64]) -> Result<Counts, NoMemory>
 /// These counts were shown.
 pub fn see_counts(turn: &Turn<'_>, session: &mut Session, counts: &[u64])
     requires { AreCounts (shard_lists turn.now.run.now.history.shards turn.now.run.now.history.journal) counts.now }
-    ensures seen { seen_by session.new
-        ≡ saw_counts (shard_lists turn.now.run.now.history.shards turn.now.run.now.history.journal) counts.now (seen_by session.old) }
+    ensures seen { session.new
+        ≡ saw_counts (shard_lists turn.now.run.now.history.shards turn.now.run.now.history.journal) counts.now session.old }
     ensures kept { IsSession turn.now session.old → IsSession turn.now session.new }
 {
     let commit = turn.run.history.counted_place(counts);
     session.seen.see_counts(counts, commit);
 }
 
-/// A count of one shard was shown.
-pub fn see_count(turn: &Turn<'_>, session: &mut Session, shard: u32, count: u64)
+/// A place and a count of one shard were shown.
+pub fn see_count(turn: &Turn<'_>, session: &mut Session, place: u64, shard: u32, count: u64)
     requires shard { shard < turn.now.run.now.history.shards }
     requires count { count ≤ length (list_of (shard_lists turn.now.run.now.history.shards turn.now.run.now.history.journal) shard) }
-    ensures seen { seen_by session.new
-        ≡ saw_shard_count (shard_lists turn.now.run.now.history.shards turn.now.run.now.history.journal) shard count (seen_by session.old) }
+    ensures seen { session.new
+        ≡ saw_shard_count (shard_lists turn.now.run.now.history.shards turn.now.run.now.history.journal) shard count
+        (saw_place place session.old) }
     ensures kept { IsSession turn.now session.old → IsSession turn.now session.new }
 {
     let commit = turn.run.history.last_commit(shard, count);
-    session.seen.see_count(shard as usize, count, commit);
+    session.see_one(&CountSeen {
+        place,
+        shard,
+        count,
+        commit,
+    });
 }
 
 /// The body, where it is an answer to an apply of this shard.
@@ -78,8 +85,8 @@ pub fn judge_apply(
     requires session { IsSession turn.now session.old }
     requires shard { shard < turn.now.run.now.history.shards }
     ensures decided { IfOk result (λ found. DecidesTurn turn.now
-        (λ said after. CallAnswers (world_in turn.now) turn.now.client (seen_by session.old) (Call.Apply shard) said after) found
-        (seen_by session.new)) }
+        (λ said after. CallAnswers (world_in turn.now) turn.now.client session.old (Call.Apply shard) said after) found
+        session.new) }
     ensures kept { IfOk result (λ found. IsSession turn.now session.new) }
 {
     let Some(place) = turn.place(session) else {
@@ -91,7 +98,7 @@ pub fn judge_apply(
     let Some(applied) = turn.told.flag("applied") else {
         return Ok(None);
     };
-    let seen = session.seen.counts()[shard as usize];
+    let seen = seen_count(session, shard);
     let up_to = turn.run.history.entries_up_to(shard, place);
     if !fits(applied, seen, up_to, count) {
         return Ok(None);
@@ -108,8 +115,7 @@ pub fn judge_apply(
     let Some(said) = turn.said(body)? else {
         return Ok(None);
     };
-    session.seen.see_place(place);
-    see_count(turn, session, shard, count);
+    see_count(turn, session, place, shard, count);
     Ok(Some(said))
 }
 

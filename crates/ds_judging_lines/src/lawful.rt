@@ -13,8 +13,8 @@ ghost use Rattle.ds_judging_lines.specs.Deciding.{AsksLawful, IsHeld};
 
 use ds_base::{ByteString, IndexValue, TextString};
 use ds_history::History;
-use ds_journal_text::{entity_is_lawful, key_is_lawful};
-use ds_log::{Commit, Journal, Write};
+use ds_journal_text::{key_is_lawful, writes_are_lawful};
+use ds_log::{Commit, Journal};
 use ds_query::{Branch, Pair, Select};
 
 /// The names of a projection.
@@ -108,22 +108,5 @@ fn commits_are_lawful(commits: &[Commit])
 {
     for commit in commits {
         writes_are_lawful(commit.writes.as_slice());
-    }
-}
-
-fn writes_are_lawful(writes: &[Write])
-    ensures { All IsLawfulWrite writes.now }
-{
-    for write in writes {
-        write_is_lawful(write);
-    }
-}
-
-fn write_is_lawful(write: &Write)
-    ensures { IsLawfulWrite write.now }
-{
-    match write {
-        Write::Put(entity) => entity_is_lawful(entity),
-        Write::Delete(key) => key_is_lawful(key),
     }
 }

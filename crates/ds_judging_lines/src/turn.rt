@@ -6,13 +6,14 @@ ghost use Rattle.ds_model.specs.Answers.{CountsWithin};
 ghost use Rattle.ds_model.specs.Groups.{IsSeenPlace, StandsAt, place_in};
 ghost use Rattle.ds_model.specs.Worlds.{entries_up_to, shard_lists};
 ghost use Rattle.ds_reply_lines.specs.ReplyLines.{number_at, numbers_at, told_by};
-ghost use Rattle.ds_judging_lines.specs.Deciding.{IsCountWithin, IsOnlyTold, IsSession, SaidIs, seen_by, told_in, world_in};
+ghost use Rattle.ds_judging_lines.specs.Deciding.{IsCountWithin, IsOnlyTold, IsSession, SaidIs, told_in, world_in};
 
-use crate::sessions::Session;
+use crate::sessions::{seen_counts, seen_place};
 use ds_base::{Key, NoMemory};
 use ds_history::History;
 use ds_indexdef::Defs;
 use ds_log::shard_of;
+use ds_protocol::Session;
 use ds_reply::Body;
 use ds_reply_lines::{Members, says};
 use std::alloc::{AllocError, Global};
@@ -66,13 +67,13 @@ impl<'a> Turn<'a> {
 
     /// The told place, where it is one that the client may be shown.
     pub fn place(&self, session: &Session) -> Option<u64>
-        ensures { IsOnlyTold (IsSeenPlace self.now.run.now.history.journal (seen_by session.now))
+        ensures { IsOnlyTold (IsSeenPlace self.now.run.now.history.journal session.now)
             (number_at (codes "place") (told_in self.now)) result }
     {
         let Some(place) = self.told.number("place") else {
             return None;
         };
-        if place < session.seen.place() {
+        if place < seen_place(session) {
             return None;
         }
         self.within(place)
@@ -92,10 +93,10 @@ impl<'a> Turn<'a> {
 
     /// Where a group stands: at its touch place, or at the told one.
     pub fn group_place(&self, session: &Session, group: &Key) -> Option<u64>
-        ensures { IsOnlyTold (StandsAt self.now.run.now.history.journal (seen_by session.now)
-            (place_in session.now.transaction.transaction group.now)) (number_at (codes "place") (told_in self.now)) result }
+        ensures { IsOnlyTold (StandsAt self.now.run.now.history.journal session.now
+            (place_in session.now.transaction group.now)) (number_at (codes "place") (told_in self.now)) result }
     {
-        match session.transaction.place(group) {
+        match session.touch_place(group) {
             Some(place) => self.within(place),
             None => self.place(session),
         }
@@ -114,14 +115,14 @@ impl<'a> Turn<'a> {
     pub fn counts(&self, session: &Session, place: u64) -> Result<Option<Vec<u64>>, NoMemory>
         requires session { IsSession self.now session.now }
         requires place { place ≤ length self.now.run.now.history.journal }
-        ensures { IfOk result (λ found. IsOnlyTold (CountsWithin (entries_up_to (world_in self.now) place) 0 session.now.seen.counts
+        ensures { IfOk result (λ found. IsOnlyTold (CountsWithin (entries_up_to (world_in self.now) place) 0 session.now.counts
             (shard_lists self.now.run.now.history.shards self.now.run.now.history.journal))
             (numbers_at (codes "applied") (told_in self.now)) (option_map (λ counts. counts.items) found)) }
     {
         let Some(counts) = self.told.numbers(self.alloc, "applied")? else {
             return Ok(None);
         };
-        let seen = session.seen.counts();
+        let seen = seen_counts(session);
         if are_within(&self.run.history, seen, counts.as_slice(), place) {
             Ok(Some(counts))
         } else {

@@ -1,15 +1,14 @@
 -- What is known at the steps of judging gets.
-use Rattle.std.proofs.Common.{◌≡◌, ℕ, ◌+◌, ◌≤◌, List, length, get_or, Bool, true, false, Option, Some, None, refl, ap, sym, ◌∙◌, subst}
+use Rattle.std.proofs.Common.{◌≡◌, ℕ, ◌+◌, ◌≤◌, length, Bool, true, false, Option, Some, None, refl, ap, sym, ◌∙◌, subst}
 use Rattle.std.specs.Prelude.{Result, Ok, Err, IfOk, is_some}
 use Rattle.ds_base.specs.Keys.{KeyParts}
 use Rattle.ds_log.specs.Shards.{shard_of}
 use Rattle.ds_model.specs.Answers.{ExpiredAnswers}
 use Rattle.ds_model.specs.Groups.{StandsAt, place_in, with_transaction}
-use Rattle.ds_model.specs.Sessions.{Session, Transaction, list_of, saw_place, saw_shard_count}
+use Rattle.ds_model.specs.Sessions.{Session, Transaction, count_of, list_of, saw_place, saw_shard_count}
 use Rattle.ds_model.specs.Worlds.{entries_up_to, shard_lists}
 use Rattle.ds_judging_lines.specs.Deciding.{world_in}
 use Rattle.ds_judging_lines.specs.declared.turn.Turn.{Turn}
-use Rattle.ds_judging_lines.proofs.CountSteps.{seen_count}
 
 pub if_ok : {A E : Type 0} {P Q : A → Type 0} (r : Result A E) → ((x : A) → P x → Q x) → IfOk r P → IfOk r Q
 if_ok (Ok x) f h = f x h
@@ -31,18 +30,17 @@ has_one None is = absurd (never is) where
 has_one (Some t) is = (t, refl)
 
 -- what is told of versions that are gone is an answer
-pub expired_answers : (turn : Turn) (s : Session) (g : KeyParts) (m applied shard snapshot : ℕ) (given : List ℕ)
+pub expired_answers : (turn : Turn) (s : Session) (g : KeyParts) (m applied shard snapshot seen : ℕ)
     → is_some s.transaction ≡ true
     → StandsAt turn.run.now.history.journal s (place_in s.transaction g) m → shard ≡ shard_of g turn.run.now.history.shards
-    → snapshot ≡ entries_up_to (world_in turn) m shard → snapshot + turn.run.now.window ≤ applied → given ≡ s.counts
-    → get_or given shard 0 ≤ applied
+    → snapshot ≡ entries_up_to (world_in turn) m shard → snapshot + turn.run.now.window ≤ applied
+    → seen ≡ count_of s.counts shard → seen ≤ applied
     → applied ≤ length (list_of (shard_lists turn.run.now.history.shards turn.run.now.history.journal) shard)
     → ExpiredAnswers (world_in turn) s g applied m (entries_up_to (world_in turn) m (shard_of g turn.run.now.history.shards))
     (saw_shard_count (shard_lists turn.run.now.history.shards turn.run.now.history.journal) (shard_of g turn.run.now.history.shards) applied
     (saw_place m (with_transaction None s)))
-expired_answers turn s g m applied shard snapshot given is_open stands shard_is entries gone given_is no_lower within =
+expired_answers turn s g m applied shard snapshot seen is_open stands shard_is entries gone seen_is no_lower within =
     let inside = has_one s.transaction is_open in
-    let own : ℕ = shard_of g turn.run.now.history.shards in
     record {
       inside = inside.0;
       has = inside.1;
@@ -51,7 +49,7 @@ expired_answers turn s g m applied shard snapshot given is_open stands shard_is 
       window = turn.run.now.window;
       windowed = refl;
       gone = subst (λ n. n + turn.run.now.window ≤ applied) (entries ∙ ap (entries_up_to (world_in turn) m) shard_is) gone;
-      no_lower = subst (λ n. n ≤ applied) (ap (λ k. get_or given k 0) shard_is ∙ sym (seen_count s.counts given own given_is)) no_lower;
+      no_lower = subst (λ n. n ≤ applied) (seen_is ∙ ap (count_of s.counts) shard_is) no_lower;
       applied_within =
           subst (λ k. applied ≤ length (list_of (shard_lists turn.run.now.history.shards turn.run.now.history.journal) k)) shard_is within;
       seen = refl;

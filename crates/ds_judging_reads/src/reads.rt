@@ -12,6 +12,8 @@ ghost use Rattle.ds_request.specs.declared.call.Call.{Call};
 ghost use Rattle.ds_model.specs.Answers.{CallAnswers, saw_group};
 ghost use Rattle.ds_model.specs.Groups.{StandsAt, group_refusal, place_in};
 ghost use Rattle.ds_model.specs.Refusals.{refusal_of};
+ghost use Rattle.ds_model.specs.Results.{entity_of};
+ghost use Rattle.ds_model.specs.Views.{strong_view};
 ghost use Rattle.ds_model.specs.Worlds.{shard_lists};
 ghost use Rattle.ds_protocol.specs.Finishing.{AreByKey};
 ghost use Rattle.ds_protocol.specs.Preparing.{IsReady};
@@ -20,7 +22,7 @@ ghost use Rattle.ds_history.specs.Versions.{HaveKind};
 ghost use Rattle.ds_history.specs.Writers.{writing};
 ghost use Rattle.ds_reply_lines.specs.LawfulResults.{HasTexts};
 ghost use Rattle.ds_reply_lines.specs.ReplyLines.{number_at};
-ghost use Rattle.ds_judging_lines.specs.Deciding.{AsksLawful, DecidesTurn, IsOnlyTold, IsSession, SaidIs, seen_by, told_in, world_in};
+ghost use Rattle.ds_judging_lines.specs.Deciding.{AsksLawful, DecidesTurn, IsOnlyTold, IsSession, SaidIs, told_in, world_in};
 ghost use Rattle.ds_judging_reads.specs.Reading.{IsExpired, IsSearched, told_over};
 
 use crate::pages::page_of;
@@ -28,10 +30,10 @@ use ds_base::{Key, NoMemory, TextString, copy_of};
 use ds_entity::{Entity, Seen};
 use ds_journal_text::key_is_lawful;
 use ds_judging_lines::{
-    Session, Turn, asks_are_lawful, copy_counts, see_count, see_counts, select_is_lawful,
+    Turn, asks_are_lawful, copy_counts, see_count, see_counts, seen_count, select_is_lawful,
     tells_error,
 };
-use ds_protocol::{Ready, Search, finish, group_of, prepare};
+use ds_protocol::{GroupRead, Ready, Search, Session, finish, group_of, prepare};
 use ds_query::Branch;
 use ds_reply::Body;
 
@@ -41,10 +43,10 @@ const EXPIRED: u64 = 23;
 /// The body, where it is an answer to a get of this key.
 pub fn judge_get(turn: &Turn<'_>, session: &mut Session, key: Key) -> Result<Option<Body>, NoMemory>
     requires session { IsSession turn.now session.old }
-    requires unrefused { refusal_of turn.now.run.now.defs.now (seen_by session.old) (Call.Get key) ≡ None }
+    requires unrefused { refusal_of turn.now.run.now.defs.now session.old (Call.Get key) ≡ None }
     ensures decided { IfOk result (λ found. DecidesTurn turn.now
-        (λ said after. CallAnswers (world_in turn.now) turn.now.client (seen_by session.old) (Call.Get key) said after) found
-        (seen_by session.new)) }
+        (λ said after. CallAnswers (world_in turn.now) turn.now.client session.old (Call.Get key) said after) found
+        session.new) }
     ensures kept { IfOk result (λ found. IsSession turn.now session.new) }
 {
     let group = key.root(turn.alloc)?;
@@ -54,30 +56,39 @@ pub fn judge_get(turn: &Turn<'_>, session: &mut Session, key: Key) -> Result<Opt
     if tells_error(turn, EXPIRED) {
         return judge_expired(turn, session, &group, place);
     }
-    let there = turn.run.history.entity(turn.alloc, &key, place)?;
-    let entity = copy_of(turn.alloc, there)?;
-    let Some(said) = turn.said(Body::Get { entity, place })? else {
+    let Some(said) = finds_entity(turn, &key, place)? else {
         return Ok(None);
     };
     see_group(turn, session, group, place)?;
     Ok(Some(said))
 }
 
+/// The body with the entity of a key at a place, if there is one, where the reply tells it.
+fn finds_entity(turn: &Turn<'_>, key: &Key, place: u64) -> Result<Option<Body>, NoMemory>
+    ensures { IfOk result (SaidIs turn.now
+        (Body.Get (entity_of (strong_view turn.now.run.now.history.journal place) key.now) place)) }
+{
+    let there = turn.run.history.entity(turn.alloc, key, place)?;
+    let entity = copy_of(turn.alloc, there)?;
+    turn.said(Body::Get { entity, place })
+}
+
 /// A strong read of a group was shown.
 fn see_group(turn: &Turn<'_>, session: &mut Session, group: Key, place: u64) -> Result<(), NoMemory>
     requires session { IsSession turn.now session.old }
-    requires allowed { group_refusal session.old.transaction.transaction (Some group) ≡ None }
+    requires allowed { group_refusal session.old.transaction (Some group) ≡ None }
     requires place { place ≤ length turn.now.run.now.history.journal }
-    ensures seen { OnOk result (seen_by session.new ≡ saw_group (world_in turn.now) group place (seen_by session.old)) }
+    ensures seen { OnOk result (session.new ≡ saw_group (world_in turn.now) group place session.old) }
     ensures kept { OnOk result (IsSession turn.now session.new) }
 {
     let shard = turn.shard(&group)?;
     let entries = turn.run.history.entries_up_to(shard, place);
-    session.transaction.make_room()?;
-    session.transaction.touch(group, place);
-    session.seen.see_place(place);
-    session.seen.see_entries(shard as usize, entries);
-    Ok(())
+    session.read_group(GroupRead {
+        group,
+        place,
+        shard,
+        entries,
+    })
 }
 
 /// The body, where it says that the versions of a transaction's place are gone.
@@ -88,10 +99,10 @@ fn judge_expired(
     place: u64,
 ) -> Result<Option<Body>, NoMemory>
     requires session { IsSession turn.now session.old }
-    requires stands { IsOnlyTold (StandsAt turn.now.run.now.history.journal (seen_by session.old)
-        (place_in session.old.transaction.transaction group.now)) (number_at (codes "place") (told_in turn.now)) (Some place) }
+    requires stands { IsOnlyTold (StandsAt turn.now.run.now.history.journal session.old
+        (place_in session.old.transaction group.now)) (number_at (codes "place") (told_in turn.now)) (Some place) }
     ensures decided { IfOk result (λ found. DecidesTurn turn.now
-        (λ said after. IsExpired (world_in turn.now) (seen_by session.old) group.now said after) found (seen_by session.new)) }
+        (λ said after. IsExpired (world_in turn.now) session.old group.now said after) found session.new) }
     ensures kept { IfOk result (λ found. IsSession turn.now session.new) }
 {
     let shard = turn.shard(group)?;
@@ -99,13 +110,13 @@ fn judge_expired(
     let Some(applied) = turn.told.number("applied") else {
         return Ok(None);
     };
-    if !session.transaction.is_open() {
+    if !session.in_transaction() {
         return Ok(None);
     }
     if !are_gone(snapshot, turn.run.window, applied) {
         return Ok(None);
     }
-    let seen = session.seen.counts()[shard as usize];
+    let seen = seen_count(session, shard);
     if applied < seen {
         return Ok(None);
     }
@@ -120,9 +131,8 @@ fn judge_expired(
     let Some(said) = turn.said(body)? else {
         return Ok(None);
     };
-    session.transaction.end();
-    session.seen.see_place(place);
-    see_count(turn, session, shard, applied);
+    session.end();
+    see_count(turn, session, place, shard, applied);
     Ok(Some(said))
 }
 
@@ -147,19 +157,37 @@ pub fn judge_search(
     requires session { IsSession turn.now session.old }
     requires lawful { IsLawfulSearch search }
     ensures decided { IfOk result (λ found. DecidesTurn turn.now
-        (λ said after. IsSearched (world_in turn.now) (seen_by session.old) search said after) found (seen_by session.new)) }
+        (λ said after. IsSearched (world_in turn.now) session.old search said after) found session.new) }
     ensures kept { IfOk result (λ found. IsSession turn.now session.new) }
 {
-    let inside = session.transaction.is_open();
+    let inside = session.in_transaction();
     let ready = match prepare(turn.alloc, turn.run.defs, inside, &search) {
         Ok(ready) => ready,
         Err(body) => return turn.say_refusal(body),
     };
+    judge_prepared(turn, session, &search, &ready)
+}
+
+/// The body, where it is an answer to a query with this normal form and window.
+fn judge_prepared(
+    turn: &Turn<'_>,
+    session: &mut Session,
+    search: &Search,
+    ready: &Ready,
+) -> Result<Option<Body>, NoMemory>
+    requires session { IsSession turn.now session.old }
+    requires ready { IsReady turn.now.run.now.defs.now (is_some session.old.transaction) (search_parts search.now)
+        ready.now.normal ready.now.window }
+    requires lawful { IsLawfulNormal ready.now.normal }
+    ensures decided { IfOk result (λ found. DecidesTurn turn.now
+        (λ said after. IsSearched (world_in turn.now) session.old search.now said after) found session.new) }
+    ensures kept { IfOk result (λ found. IsSession turn.now session.new) }
+{
     select_is_lawful(&search.query.select);
     asks_are_lawful(ready.normal.branches.as_slice());
-    match group_of(turn.alloc, &search)? {
-        Some(group) => judge_under(turn, session, &search, &ready, group),
-        None => judge_counted(turn, session, &search, &ready),
+    match group_of(turn.alloc, search)? {
+        Some(group) => judge_under(turn, session, search, ready, group),
+        None => judge_counted(turn, session, search, ready),
     }
 }
 
@@ -172,18 +200,18 @@ fn judge_under(
     group: Key,
 ) -> Result<Option<Body>, NoMemory>
     requires session { IsSession turn.now session.old }
-    requires ready { IsReady turn.now.run.now.defs.now (is_some session.old.transaction.transaction) (search_parts search.now)
+    requires ready { IsReady turn.now.run.now.defs.now (is_some session.old.transaction) (search_parts search.now)
         ready.now.normal ready.now.window }
     requires lawful { IsLawfulNormal ready.now.normal }
     requires texts { HasTexts search.now.query.select }
     requires asks { All AsksLawful ready.now.normal.branches }
     requires group { option_map root_of search.now.query.ancestor ≡ Some group }
     ensures decided { IfOk result (λ found. DecidesTurn turn.now
-        (λ said after. IsSearched (world_in turn.now) (seen_by session.old) search.now said after) found (seen_by session.new)) }
+        (λ said after. IsSearched (world_in turn.now) session.old search.now said after) found session.new) }
     ensures kept { IfOk result (λ found. IsSession turn.now session.new) }
 {
     key_is_lawful(&group);
-    match session.transaction.group_refusal(turn.alloc, Some(&group)) {
+    match session.group_refusal(turn.alloc, Some(&group)) {
         Some(body) => turn.say_refusal(body),
         None => judge_in_group(turn, session, search, ready, group),
     }
@@ -198,16 +226,16 @@ fn judge_in_group(
     group: Key,
 ) -> Result<Option<Body>, NoMemory>
     requires session { IsSession turn.now session.old }
-    requires ready { IsReady turn.now.run.now.defs.now (is_some session.old.transaction.transaction) (search_parts search.now)
+    requires ready { IsReady turn.now.run.now.defs.now (is_some session.old.transaction) (search_parts search.now)
         ready.now.normal ready.now.window }
     requires lawful { IsLawfulNormal ready.now.normal }
     requires texts { HasTexts search.now.query.select }
     requires asks { All AsksLawful ready.now.normal.branches }
     requires group { option_map root_of search.now.query.ancestor ≡ Some group }
     requires key { IsLawfulKey group }
-    requires allowed { group_refusal session.old.transaction.transaction (Some group) ≡ None }
+    requires allowed { group_refusal session.old.transaction (Some group) ≡ None }
     ensures decided { IfOk result (λ found. DecidesTurn turn.now
-        (λ said after. IsSearched (world_in turn.now) (seen_by session.old) search.now said after) found (seen_by session.new)) }
+        (λ said after. IsSearched (world_in turn.now) session.old search.now said after) found session.new) }
     ensures kept { IfOk result (λ found. IsSession turn.now session.new) }
 {
     let Some(place) = turn.group_place(session, &group) else {
@@ -249,14 +277,14 @@ fn judge_counted(
     ready: &Ready,
 ) -> Result<Option<Body>, NoMemory>
     requires session { IsSession turn.now session.old }
-    requires ready { IsReady turn.now.run.now.defs.now (is_some session.old.transaction.transaction) (search_parts search.now)
+    requires ready { IsReady turn.now.run.now.defs.now (is_some session.old.transaction) (search_parts search.now)
         ready.now.normal ready.now.window }
     requires lawful { IsLawfulNormal ready.now.normal }
     requires texts { HasTexts search.now.query.select }
     requires asks { All AsksLawful ready.now.normal.branches }
     requires everywhere { search.now.query.ancestor ≡ None }
     ensures decided { IfOk result (λ found. DecidesTurn turn.now
-        (λ said after. IsSearched (world_in turn.now) (seen_by session.old) search.now said after) found (seen_by session.new)) }
+        (λ said after. IsSearched (world_in turn.now) session.old search.now said after) found session.new) }
     ensures kept { IfOk result (λ found. IsSession turn.now session.new) }
 {
     let Some(counts) = turn.counts(session, 0)? else {

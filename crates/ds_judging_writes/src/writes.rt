@@ -13,7 +13,7 @@ ghost use Rattle.ds_model.specs.Sessions.{saw_next, saw_place};
 ghost use Rattle.ds_protocol.specs.Transactions.{MayWrite};
 ghost use Rattle.ds_reply_lines.specs.ReplyLines.{number_at, told_by};
 ghost use Rattle.ds_judging_writes.specs.Committing.{IsPut, MayWriteIn, own_commit, saw_write, written_body};
-ghost use Rattle.ds_judging_lines.specs.Deciding.{DecidesTurn, IsSession, SaysThen, seen_by, world_in};
+ghost use Rattle.ds_judging_lines.specs.Deciding.{DecidesTurn, IsSession, SaysThen, world_in};
 ghost use Rattle.ds_judging_writes.specs.Writing.{IsIdNotIssued, IsIdsExhausted, IsPutExhausted, IsWritten};
 
 use crate::commits::is_commit;
@@ -21,9 +21,9 @@ use ds_base::limits::MAX_ID;
 use ds_base::{Key, NoMemory, TryCopy};
 use ds_entity::Entity;
 use ds_journal_text::key_is_lawful;
-use ds_judging_lines::{Session, Turn, tells_error};
+use ds_judging_lines::{Turn, seen_next, seen_place, tells_error};
 use ds_log::{Commit, Touches, Write, Writes};
-use ds_protocol::{first_unissued, next_above};
+use ds_protocol::{Session, first_unissued, next_above};
 use ds_reply::{Body, WriteAt};
 use std::alloc::AllocError;
 
@@ -43,13 +43,13 @@ fn say_next(
     next: u64,
 ) -> Result<Option<Body>, NoMemory>
     requires session { IsSession turn.now session.old }
-    ensures said { IfOk result (λ found. SaysThen turn.now body (saw_next next (seen_by session.old)) found (seen_by session.new)) }
+    ensures said { IfOk result (λ found. SaysThen turn.now body (saw_next next session.old) found session.new) }
     ensures kept { IfOk result (λ found. IsSession turn.now session.new) }
 {
     let Some(said) = turn.said(body)? else {
         return Ok(None);
     };
-    session.seen.see_next(next);
+    session.see_next(next);
     Ok(Some(said))
 }
 
@@ -63,7 +63,7 @@ fn judge_not_issued(
 ) -> Result<Option<Body>, NoMemory>
     requires session { IsSession turn.now session.old }
     ensures decided { IfOk result (λ found. DecidesTurn turn.now
-        (λ said after. IsIdNotIssued (seen_by session.old) key.now said after) found (seen_by session.new)) }
+        (λ said after. IsIdNotIssued session.old key.now said after) found session.new) }
     ensures kept { IfOk result (λ found. IsSession turn.now session.new) }
 {
     key_is_lawful(key);
@@ -73,7 +73,7 @@ fn judge_not_issued(
     let Some(id) = first_unissued(key.elems().as_slice(), next) else {
         return Ok(None);
     };
-    if next < session.seen.next() {
+    if next < seen_next(session) {
         return Ok(None);
     }
     say_next(turn, session, Body::IdNotIssued { id, next }, next)
@@ -87,13 +87,13 @@ fn judge_exhausted(
 ) -> Result<Option<Body>, NoMemory>
     requires session { IsSession turn.now session.old }
     ensures decided { IfOk result (λ found. DecidesTurn turn.now
-        (λ said after. IsIdsExhausted (seen_by session.old) count said after) found (seen_by session.new)) }
+        (λ said after. IsIdsExhausted session.old count said after) found session.new) }
     ensures kept { IfOk result (λ found. IsSession turn.now session.new) }
 {
     let Some(next) = turn.told.number("next") else {
         return Ok(None);
     };
-    if next < session.seen.next() {
+    if next < seen_next(session) {
         return Ok(None);
     }
     if are_left(next, count) {
@@ -120,8 +120,8 @@ pub fn judge_allocate(
 ) -> Result<Option<Body>, NoMemory>
     requires session { IsSession turn.now session.old }
     ensures decided { IfOk result (λ found. DecidesTurn turn.now
-        (λ said after. CallAnswers (world_in turn.now) turn.now.client (seen_by session.old) (Call.AllocateIds count) said after) found
-        (seen_by session.new)) }
+        (λ said after. CallAnswers (world_in turn.now) turn.now.client session.old (Call.AllocateIds count) said after) found
+        session.new) }
     ensures kept { IfOk result (λ found. IsSession turn.now session.new) }
 {
     if tells_error(turn, IDS_EXHAUSTED) {
@@ -130,7 +130,7 @@ pub fn judge_allocate(
     let Some(first) = turn.told.number("first") else {
         return Ok(None);
     };
-    if first < session.seen.next() {
+    if first < seen_next(session) {
         return Ok(None);
     }
     if !are_left(first, count) {
@@ -154,12 +154,12 @@ pub fn judge_put(
     incomplete: bool,
 ) -> Result<Option<Body>, NoMemory>
     requires session { IsSession turn.now session.old }
-    requires unrefused { refusal_of turn.now.run.now.defs.now (seen_by session.old) (Call.Put entity.key incomplete entity.properties)
+    requires unrefused { refusal_of turn.now.run.now.defs.now session.old (Call.Put entity.key incomplete entity.properties)
         ≡ None }
     requires ends { IsTrue incomplete → IsTrue (ends_in_id entity.key.elems) }
     ensures decided { IfOk result (λ found. DecidesTurn turn.now
-        (λ said after. CallAnswers (world_in turn.now) turn.now.client (seen_by session.old)
-        (Call.Put entity.key incomplete entity.properties) said after) found (seen_by session.new)) }
+        (λ said after. CallAnswers (world_in turn.now) turn.now.client session.old
+        (Call.Put entity.key incomplete entity.properties) said after) found session.new) }
     ensures kept { IfOk result (λ found. IsSession turn.now session.new) }
 {
     let asked = entity.key();
@@ -186,7 +186,7 @@ fn judge_put_exhausted(
 ) -> Result<Option<Body>, NoMemory>
     requires session { IsSession turn.now session.old }
     ensures decided { IfOk result (λ found. DecidesTurn turn.now
-        (λ said after. IsPutExhausted (seen_by session.old) incomplete key.now said after) found (seen_by session.new)) }
+        (λ said after. IsPutExhausted session.old incomplete key.now said after) found session.new) }
     ensures kept { IfOk result (λ found. IsSession turn.now session.new) }
 {
     if !incomplete {
@@ -215,10 +215,10 @@ fn judge_complete(
     entity: Entity,
 ) -> Result<Option<Body>, NoMemory>
     requires session { IsSession turn.now session.old }
-    requires allowed { MayWriteIn session.old.transaction.transaction (root_of entity.key) }
+    requires allowed { MayWriteIn session.old.transaction (root_of entity.key) }
     ensures decided { IfOk result (λ found. DecidesTurn turn.now
-        (λ said after. IsPut (world_in turn.now) turn.now.client (seen_by session.old) false entity said after) found
-        (seen_by session.new)) }
+        (λ said after. IsPut (world_in turn.now) turn.now.client session.old false entity said after) found
+        session.new) }
     ensures kept { IfOk result (λ found. IsSession turn.now session.new) }
 {
     judge_write(turn, session, Write::Put(entity))
@@ -232,10 +232,10 @@ fn judge_new(
 ) -> Result<Option<Body>, NoMemory>
     requires session { IsSession turn.now session.old }
     requires ends { IsTrue (ends_in_id entity.key.elems) }
-    requires unrefused { refusal_of turn.now.run.now.defs.now (seen_by session.old) (Call.Put entity.key true entity.properties) ≡ None }
+    requires unrefused { refusal_of turn.now.run.now.defs.now session.old (Call.Put entity.key true entity.properties) ≡ None }
     ensures decided { IfOk result (λ found. DecidesTurn turn.now
-        (λ said after. IsPut (world_in turn.now) turn.now.client (seen_by session.old) true entity said after)
-        found (seen_by session.new)) }
+        (λ said after. IsPut (world_in turn.now) turn.now.client session.old true entity said after)
+        found session.new) }
     ensures kept { IfOk result (λ found. IsSession turn.now session.new) }
 {
     let asked = entity.key();
@@ -243,7 +243,7 @@ fn judge_new(
     let Some(id) = turn.told.last_id("key") else {
         return Ok(None);
     };
-    if id < session.seen.next() {
+    if id < seen_next(session) {
         return Ok(None);
     }
     if id >= MAX_ID {
@@ -260,10 +260,10 @@ pub fn judge_delete(
     key: Key,
 ) -> Result<Option<Body>, NoMemory>
     requires session { IsSession turn.now session.old }
-    requires unrefused { refusal_of turn.now.run.now.defs.now (seen_by session.old) (Call.Delete key) ≡ None }
+    requires unrefused { refusal_of turn.now.run.now.defs.now session.old (Call.Delete key) ≡ None }
     ensures decided { IfOk result (λ found. DecidesTurn turn.now
-        (λ said after. CallAnswers (world_in turn.now) turn.now.client (seen_by session.old) (Call.Delete key) said after) found
-        (seen_by session.new)) }
+        (λ said after. CallAnswers (world_in turn.now) turn.now.client session.old (Call.Delete key) said after) found
+        session.new) }
     ensures kept { IfOk result (λ found. IsSession turn.now session.new) }
 {
     key_is_lawful(&key);
@@ -280,12 +280,12 @@ fn judge_write(
     write: Write,
 ) -> Result<Option<Body>, NoMemory>
     requires session { IsSession turn.now session.old }
-    requires allowed { MayWriteIn session.old.transaction.transaction (root_of (key_of write)) }
+    requires allowed { MayWriteIn session.old.transaction (root_of (key_of write)) }
     ensures decided { IfOk result (λ found. DecidesTurn turn.now
-        (λ said after. IsWritten (world_in turn.now) turn.now.client (seen_by session.old) write said after) found (seen_by session.new)) }
+        (λ said after. IsWritten (world_in turn.now) turn.now.client session.old write said after) found session.new) }
     ensures kept { IfOk result (λ found. IsSession turn.now session.new) }
 {
-    if session.transaction.is_open() {
+    if session.in_transaction() {
         judge_inside(turn, session, write)
     } else {
         judge_alone(turn, session, write)
@@ -301,9 +301,9 @@ fn judge_inside(
     write: Write,
 ) -> Result<Option<Body>, NoMemory>
     requires session { IsSession turn.now session.old }
-    requires allowed { MayWrite session.old.transaction.transaction (root_of (key_of write)) }
+    requires allowed { MayWrite session.old.transaction (root_of (key_of write)) }
     ensures decided { IfOk result (λ found. DecidesTurn turn.now
-        (λ said after. IsWritten (world_in turn.now) turn.now.client (seen_by session.old) write said after) found (seen_by session.new)) }
+        (λ said after. IsWritten (world_in turn.now) turn.now.client session.old write said after) found session.new) }
     ensures kept { IfOk result (λ found. IsSession turn.now session.new) }
 {
     let key = write.key();
@@ -327,19 +327,18 @@ fn say_inside(
 ) -> Result<Option<Body>, NoMemory>
     requires session { IsSession turn.now session.old }
     requires own { group ≡ root_of (key_of write) }
-    requires allowed { MayWrite session.old.transaction.transaction group }
+    requires allowed { MayWrite session.old.transaction group }
     ensures said { IfOk result (λ found. SaysThen turn.now body
-        (saw_write write group place session.old.transaction.transaction (seen_by session.old)) found (seen_by session.new)) }
+        (saw_write write group place session.old.transaction session.old) found session.new) }
     ensures kept { IfOk result (λ found. IsSession turn.now session.new) }
 {
-    session.transaction.make_room()?;
     let Some(said) = turn.said(body)? else {
         return Ok(None);
     };
     let above = next_above(write.key().elems().as_slice());
-    session.transaction.write(group, place, write);
-    session.seen.see_place(place);
-    session.seen.see_next(above);
+    session.write(group, place, write)?;
+    session.see_place(place);
+    session.see_next(above);
     Ok(Some(said))
 }
 
@@ -352,9 +351,9 @@ fn judge_alone(
     write: Write,
 ) -> Result<Option<Body>, NoMemory>
     requires session { IsSession turn.now session.old }
-    requires outside { session.old.transaction.transaction ≡ None }
+    requires outside { session.old.transaction ≡ None }
     ensures decided { IfOk result (λ found. DecidesTurn turn.now
-        (λ said after. IsWritten (world_in turn.now) turn.now.client (seen_by session.old) write said after) found (seen_by session.new)) }
+        (λ said after. IsWritten (world_in turn.now) turn.now.client session.old write said after) found session.new) }
     ensures kept { IfOk result (λ found. IsSession turn.now session.new) }
 {
     let key = write.key();
@@ -362,7 +361,7 @@ fn judge_alone(
     let Some(number) = turn.told.number("commit") else {
         return Ok(None);
     };
-    if number <= session.seen.place() {
+    if number <= seen_place(session) {
         return Ok(None);
     }
     judge_numbered(turn, session, write, number)
@@ -376,12 +375,12 @@ fn judge_numbered(
     number: u64,
 ) -> Result<Option<Body>, NoMemory>
     requires session { IsSession turn.now session.old }
-    requires outside { session.old.transaction.transaction ≡ None }
+    requires outside { session.old.transaction ≡ None }
     requires lawful { IsLawfulKey (key_of write) }
     requires told { number_at (codes "commit") (told_by turn.now.told) ≡ Some number }
-    requires later { session.old.seen.place < number }
+    requires later { session.old.place < number }
     ensures decided { IfOk result (λ found. DecidesTurn turn.now
-        (λ said after. IsWritten (world_in turn.now) turn.now.client (seen_by session.old) write said after) found (seen_by session.new)) }
+        (λ said after. IsWritten (world_in turn.now) turn.now.client session.old write said after) found session.new) }
     ensures kept { IfOk result (λ found. IsSession turn.now session.new) }
 {
     let above = next_above(write.key().elems().as_slice());
@@ -438,13 +437,13 @@ fn say_alone(
 ) -> Result<Option<Body>, NoMemory>
     requires session { IsSession turn.now session.old }
     ensures said { IfOk result (λ found. SaysThen turn.now body
-        (saw_next above (saw_place number (seen_by session.old))) found (seen_by session.new)) }
+        (saw_next above (saw_place number session.old)) found session.new) }
     ensures kept { IfOk result (λ found. IsSession turn.now session.new) }
 {
     let Some(said) = turn.said(body)? else {
         return Ok(None);
     };
-    session.seen.see_place(number);
-    session.seen.see_next(above);
+    session.see_place(number);
+    session.see_next(above);
     Ok(Some(said))
 }

@@ -19,10 +19,10 @@ pub use Rattle.ds_base.specs.Limits.{first_drawn_id, greatest_id, most_writes}
 pub use Rattle.ds_base.specs.declared.key.Elem.{Elem}
 pub use Rattle.ds_base.specs.declared.key.Ident.TheVariants.{Id, Name}
 pub use Rattle.ds_effects.specs.Gathered.{GatheredParts, first_place, first_unviewed, has_covered}
-pub use Rattle.ds_effects.specs.declared.effect.CountsSeen.{CountsSeen}
+pub use Rattle.ds_protocol.specs.declared.seen.CountsSeen.{CountsSeen}
 pub use Rattle.ds_effects.specs.declared.effect.Due.{Due}
 pub use Rattle.ds_effects.specs.declared.effect.Effect.{Effect}
-pub use Rattle.ds_effects.specs.declared.effect.GroupRead.{GroupRead}
+pub use Rattle.ds_protocol.specs.declared.seen.GroupRead.{GroupRead}
 pub use Rattle.ds_effects.specs.declared.gathered.Step.{Step}
 pub use Rattle.ds_entity.specs.Entities.{EntityParts, entity_refusal}
 pub use Rattle.ds_entity.specs.EntityOrder.{sorted_by_key}

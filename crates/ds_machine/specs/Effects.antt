@@ -9,11 +9,11 @@ use Rattle.ds_model.specs.Answers.{begun}
 use Rattle.ds_model.specs.Groups.{group_refusal, touching, touching_if, writing, with_transaction}
 use Rattle.ds_model.specs.Sessions.{Session, Transaction, saw_place, saw_next, saw_entries, count_of, greater_counts}
 use Rattle.ds_protocol.specs.Transactions.{MayWrite}
-use Rattle.ds_effects.specs.declared.effect.CountSeen.{CountSeen}
-use Rattle.ds_effects.specs.declared.effect.CountsSeen.{CountsSeen}
+use Rattle.ds_protocol.specs.declared.seen.CountSeen.{CountSeen}
+use Rattle.ds_protocol.specs.declared.seen.CountsSeen.{CountsSeen}
 use Rattle.ds_effects.specs.declared.effect.Effect.{Effect}
 use Rattle.ds_effects.specs.declared.effect.Effect.TheVariants as effect
-use Rattle.ds_effects.specs.declared.effect.GroupRead.{GroupRead}
+use Rattle.ds_protocol.specs.declared.seen.GroupRead.{GroupRead}
 use Rattle.ds_effects.specs.declared.effect.GroupWrite.{GroupWrite}
 use Rattle.ds_effects.specs.declared.effect.WriteCommit.{WriteCommit}
 use Rattle.ds_machine.specs.States.{StoreParts, StateParts, AreUpTo}

@@ -16,7 +16,7 @@ use Rattle.ds_protocol.specs.declared.searching.Search.{Search}
 use Rattle.ds_protocol.specs.Finishing.{found}
 use Rattle.ds_protocol.specs.Preparing.{IsReady}
 use Rattle.ds_protocol.specs.Searches.{search_parts}
-use Rattle.ds_effects.specs.declared.effect.GroupRead.{GroupRead}
+use Rattle.ds_protocol.specs.declared.seen.GroupRead.{GroupRead}
 use Rattle.ds_machine.specs.Reads.{IsReached}
 use Rattle.ds_machine.specs.States.{StateParts}
 

@@ -4,7 +4,7 @@ use Rattle.ds_base.specs.Keys.{KeyParts}
 use Rattle.ds_log.specs.Shards.{shard_of}
 use Rattle.ds_applied.specs.AppliedLists.{entries_by}
 use Rattle.ds_model.specs.Sessions.{count_of, list_of}
-use Rattle.ds_effects.specs.declared.effect.GroupRead.{GroupRead}
+use Rattle.ds_protocol.specs.declared.seen.GroupRead.{GroupRead}
 use Rattle.ds_machine.specs.States.{StateParts}
 
 -- each commit of the journal was looked at

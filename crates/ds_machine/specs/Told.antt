@@ -11,7 +11,7 @@ use Rattle.ds_model.specs.Groups.{ReadsAt, group_refusal, place_in}
 use Rattle.ds_model.specs.Sessions.{Session, count_of}
 use Rattle.ds_effects.specs.declared.effect.Effect.{Effect}
 use Rattle.ds_effects.specs.declared.effect.Effect.TheVariants as effect
-use Rattle.ds_effects.specs.declared.effect.GroupRead.{GroupRead}
+use Rattle.ds_protocol.specs.declared.seen.GroupRead.{GroupRead}
 use Rattle.ds_effects.specs.declared.gathered.Step.{Step}
 use Rattle.ds_effects.specs.declared.gathered.Step.TheVariants as steps
 use Rattle.ds_effects.specs.Gathered.{GatheredParts}

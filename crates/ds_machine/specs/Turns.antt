@@ -13,7 +13,7 @@ use Rattle.ds_protocol.specs.Operations.{IsLawfulOperation, call_of, written_pat
 use Rattle.ds_protocol.specs.Transactions.{transaction_of}
 use Rattle.ds_applied.specs.AppliedLists.{AreCounts}
 use Rattle.ds_model.specs.Sessions.{counted_place}
-use Rattle.ds_effects.specs.declared.effect.CountsSeen.{CountsSeen}
+use Rattle.ds_protocol.specs.declared.seen.CountsSeen.{CountsSeen}
 use Rattle.ds_effects.specs.declared.effect.Due.{Due}
 use Rattle.ds_effects.specs.declared.effect.Plan.{Plan}
 use Rattle.ds_effects.specs.declared.gathered.Step.TheVariants as steps

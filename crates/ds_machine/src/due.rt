@@ -18,9 +18,9 @@ use crate::opening::Work;
 use crate::state::State;
 use ds_base::TryCopy;
 use ds_base::limits::MAX_ID;
-use ds_effects::effect::{CountSeen, CountsSeen, Due, Effect, Plan};
-use ds_effects::{Gathered, Session, Step};
-use ds_protocol::Operation;
+use ds_effects::effect::{Due, Effect, Plan};
+use ds_effects::{Gathered, Step};
+use ds_protocol::{CountSeen, CountsSeen, Operation, Session};
 use ds_reply::Body;
 use std::alloc::Global;
 

@@ -17,9 +17,9 @@ use crate::due::Turn;
 use crate::state::State;
 use ds_base::{Key, NoMemory, TryCopy};
 use ds_effects::Step;
-use ds_effects::effect::{CountsSeen, Due, Effect, GroupRead, Plan};
+use ds_effects::effect::{Due, Effect, Plan};
 use ds_log::shard_of;
-use ds_protocol::{Operation, Ready, Search, group_of};
+use ds_protocol::{CountsSeen, GroupRead, Operation, Ready, Search, group_of};
 use std::alloc::Global;
 
 /// What the read of a group comes to at a step.

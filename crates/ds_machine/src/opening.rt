@@ -14,9 +14,8 @@ ghost use Rattle.ds_machine.specs.States.{IsSession};
 ghost use Rattle.ds_machine.specs.Told.{ToldAlways};
 
 use crate::state::State;
-use ds_effects::Session;
 use ds_effects::effect::{Effect, Plan};
-use ds_protocol::{Operation, Ready, Search, group_of, operation_of, prepare, refusal_of};
+use ds_protocol::{Operation, Ready, Search, Session, group_of, operation_of, prepare, refusal_of};
 use ds_reply::Body;
 use ds_request::Call;
 use std::alloc::Global;

@@ -14,10 +14,10 @@ ghost use Rattle.ds_machine.specs.Turns.{IsDueIn, IsToldIn, IsTurn};
 use crate::due::Turn;
 use crate::state::State;
 use ds_base::{Counts, NoMemory, TryCopy};
-use ds_effects::effect::{Effect, GroupRead, Plan};
+use ds_effects::effect::{Effect, Plan};
 use ds_entity::{Entity, Seen};
 use ds_plain::answer_of;
-use ds_protocol::{Operation, Ready, Search, finish};
+use ds_protocol::{GroupRead, Operation, Ready, Search, finish};
 use ds_reply::Body;
 use std::alloc::Global;
 

@@ -9,7 +9,8 @@ ghost use Rattle.ds_machine.specs.Turns.{IsDueIn, IsToldIn};
 use crate::due::Turn;
 use crate::state::State;
 use ds_base::{Key, NoMemory, copy_of};
-use ds_effects::effect::{Effect, GroupRead, Plan};
+use ds_effects::effect::{Effect, Plan};
+use ds_protocol::GroupRead;
 use ds_reply::Body;
 use std::alloc::Global;
 

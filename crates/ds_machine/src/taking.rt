@@ -6,9 +6,9 @@ ghost use Rattle.ds_machine.specs.Effects.{IsAllowed, MayCommit, MayCommitWrite,
 
 use crate::state::State;
 use ds_base::NoMemory;
-use ds_effects::Session;
 use ds_effects::effect::{Effect, GroupWrite, WriteCommit};
 use ds_journal::{Book, Draft};
+use ds_protocol::Session;
 use ds_reply::Body;
 use std::alloc::Global;
 

@@ -1,17 +1,10 @@
 //! Writing one reply into room that is taken before anything is changed.
-ghost use Rattle.std.specs.Prelude.{◌≡◌, ◌+◌, ◌-◌, ◌^◌, ◌≤◌, ◌++◌, false, min, length, IsTrue};
+ghost use Rattle.std.specs.Prelude.{◌≡◌, ◌+◌, ◌≤◌, ◌++◌, false, length, IsTrue};
 ghost use Rattle.ds_reply.specs.Replies.{reply_text};
 ghost use Rattle.ds_protocol.specs.Saying.{no_memory_reply};
 
 use ds_base::Buffer;
-use ds_reply::{Body, Reply, reply_room, write_reply};
-
-/// How many bytes the reply to a line takes that there was no memory, or 2^64 - 1 where they are more. It takes no memory.
-pub fn room(client: u32, number: u64) -> usize
-    ensures { result ≡ min (length (reply_text (no_memory_reply client number))) (2 ^ 64 - 1) }
-{
-    reply_room(&no_memory(client, number)) as usize
-}
+use ds_reply::{Body, Reply, write_reply};
 
 fn no_memory(client: u32, number: u64) -> Reply
     ensures { result ≡ no_memory_reply client number }
@@ -20,22 +13,6 @@ fn no_memory(client: u32, number: u64) -> Reply
         client,
         line: number,
         body: Body::NoMemory,
-    }
-}
-
-/// Makes room for a reply, and `keep` bytes beside it; false where there is no memory for them.
-pub fn make_room(reply: &Reply, keep: usize, out: &mut Buffer) -> bool
-    ensures same { out.new.bytes ≡ out.old.bytes }
-    ensures kept { out.old.spare ≤ out.new.spare }
-    ensures room { IsTrue result → keep + length (reply_text reply.now) ≤ out.new.spare }
-{
-    let room = reply_room(reply);
-    if room == u64::MAX {
-        return false;
-    }
-    match (room as usize).checked_add(keep) {
-        Some(total) => out.make_room(total).is_ok(),
-        None => false,
     }
 }
 

@@ -1,6 +1,6 @@
 use Rattle.std.proofs.Common.{sym, subst}
 use Rattle.ds_told.specs.Told.{CanBeDrawn}
-use Rattle.ds_judging_lines.specs.Deciding.{seen_by, world_run}
+use Rattle.ds_judging_lines.specs.Deciding.{world_run}
 use Rattle.ds_check.proofs.DrawnLaws.{can_be_drawn}
 use Rattle.ds_check.proofs.SessionLaws.{answer_of, client_below, is_right, is_wrong, none_of, noted_as, session_in, sessions_set}
 use Rattle.ds_check.proofs.walk.is_answered.Goals as goal
@@ -14,11 +14,11 @@ judge-requires-clause-session c =
 
 pub note-requires : goal.note-requires
 note-requires c =
-    let answer = answer_of (world_run c.args.run.now) (seen_by c.index_mut.result.now) c.args.asked c.args.line.now c.in_ok-body.field-0
-    (seen_by c.judge.new.session) c.in-Some.body c.in-Some.is c.in_ok-body.ensures.decided in
+    let answer = answer_of (world_run c.args.run.now) c.index_mut.result.now c.args.asked c.args.line.now c.in_ok-body.field-0
+    c.judge.new.session c.in-Some.body c.in-Some.is c.in_ok-body.ensures.decided in
     subst (λ d. CanBeDrawn d c.in-Some.body) (sym c.of-draws.ensures)
-    (can_be_drawn (world_run c.args.run.now) (seen_by c.index_mut.result.now) c.args.asked.client c.args.asked.request c.in-Some.body
-    (seen_by c.judge.new.session) answer.is_answer)
+    (can_be_drawn (world_run c.args.run.now) c.index_mut.result.now c.args.asked.client c.args.asked.request c.in-Some.body
+    c.judge.new.session answer.is_answer)
 
 pub returns-in_ok-note-in-Some-clause-found : goal.returns-in_ok-note-in-Some-clause-found
 returns-in_ok-note-in-Some-clause-found c =
@@ -26,7 +26,7 @@ returns-in_ok-note-in-Some-clause-found c =
     let w = world_run c.args.run.now in
     let s = c.index_mut.result.now in
     let below = client_below c.args.run.now.history.shards items c.args.asked.client c.requires.answerable.within c.requires.sessions in
-    let answer = answer_of w (seen_by s) c.args.asked c.args.line.now c.in_ok-body.field-0 (seen_by c.judge.new.session) c.in-Some.body
+    let answer = answer_of w s c.args.asked c.args.line.now c.in_ok-body.field-0 c.judge.new.session c.in-Some.body
     c.in-Some.is
     c.in_ok-body.ensures.decided in
     let noted = c.in_ok-note-in-Some.ensures in
@@ -48,7 +48,7 @@ returns-in-None-clause-found c =
     let s = c.index_mut.result.now in
     let below = client_below c.args.run.now.history.shards items c.args.asked.client c.requires.answerable.within c.requires.sessions in
     is_wrong w items c.args.told.now c.args.asked c.args.line.now s below c.index_mut.ensures.value
-    (none_of w (seen_by s) c.args.asked c.args.line.now c.in_ok-body.field-0 (seen_by c.judge.new.session) c.in-None.is
+    (none_of w s c.args.asked c.args.line.now c.in_ok-body.field-0 c.judge.new.session c.in-None.is
     c.in_ok-body.ensures.decided)
 
 pub returns-in-None-clause-sessions : goal.returns-in-None-clause-sessions

@@ -2,7 +2,7 @@ use Rattle.std.proofs.Common.{◌≡◌, ℕ, List, ◌∙◌, length, map, ap, 
 use Rattle.std.specs.Prelude.{Result}
 use Rattle.std.proofs.lemmas.List.{length-map, nil_from_length}
 use Rattle.ds_model.specs.Sessions.{Session, first_sessions}
-use Rattle.ds_judging_lines.specs.Deciding.{seen_by, world_run}
+use Rattle.ds_judging_lines.specs.Deciding.{world_run}
 use Rattle.ds_check.specs.Walks.{AreSessions, IsFirstWrong, IsReplied, IsTaken, IsWalked, asks}
 use Rattle.ds_check.specs.declared.steps.Step.{Step}
 use Rattle.ds_check.proofs.SessionLaws.{first_are, sessions_next}
@@ -15,7 +15,7 @@ steps-init c =
     let first = first_sessions shards in
     let all = c.into_iter-step-iterator.result.rest.items in
     let lines = map (λ line. line.now) c.args.replies.now in
-    let begun : map seen_by c.in_ok-sessions.sessions.items ≡ first = c.in_ok-sessions.ensures
+    let begun : c.in_ok-sessions.sessions.items ≡ first = c.in_ok-sessions.ensures
     ∙ ap first_sessions c.shards.ensures.value in (
       subst (λ (ss : List Session). AreSessions shards ss) (sym begun) (first_are shards),
       subst (λ (ss : List Session). IsSoFar (world_run c.args.run.now) first all lines all ss 0 c.args.told.now) (sym begun)
@@ -31,9 +31,9 @@ take_step-requires-clause-replied c =
     let whole : all ≡ c.args.steps.items = search rules in
     let many : length lines ≡ length c.args.replies.now = length-map c.args.replies.now (λ line. line.now) in
     subst (λ (n : ℕ). IsReplied c.in-Some.step c.steps.answered n) many
-    (replied_next w first all lines c.in-Some.step c.next.new.self.rest.items (map seen_by c.steps.sessions.items) c.steps.answered
+    (replied_next w first all lines c.in-Some.step c.next.new.self.rest.items c.steps.sessions.items c.steps.answered
     c.steps.told
-    (subst (λ (left : List Step). IsSoFar w first all lines left (map seen_by c.steps.sessions.items) c.steps.answered c.steps.told)
+    (subst (λ (left : List Step). IsSoFar w first all lines left c.steps.sessions.items c.steps.answered c.steps.told)
     c.in-Some.ensures.steps.0 c.steps.invariant.1)
     (ap asks whole ∙ c.requires.counted ∙ sym many))
 
@@ -43,8 +43,8 @@ returns-in-Err c =
     let first = first_sessions c.args.run.now.history.shards in
     let all = c.into_iter-step-iterator.result.rest.items in
     let lines = map (λ line. line.now) c.args.replies.now in
-    let now = map seen_by c.steps.sessions.items in
-    let next = map seen_by c.take_step.new.sessions.items in
+    let now = c.steps.sessions.items in
+    let next = c.take_step.new.sessions.items in
     let whole : all ≡ c.args.steps.items = search rules in
     subst (λ (xs : List Step). IsFirstWrong w first xs lines c.in-Err.number) whole
     (so_far_wrong w first all lines c.in-Some.step c.next.new.self.rest.items now next c.steps.answered c.in-Err.number c.steps.told
@@ -60,8 +60,8 @@ steps-preserved c =
     let first = first_sessions c.args.run.now.history.shards in
     let all = c.into_iter-step-iterator.result.rest.items in
     let lines = map (λ line. line.now) c.args.replies.now in
-    let now = map seen_by c.steps.sessions.items in
-    let next = map seen_by c.take_step.new.sessions.items in (
+    let now = c.steps.sessions.items in
+    let next = c.take_step.new.sessions.items in (
       sessions_next c.args.run.now.history.shards w now next c.steps.told c.take_step.new.told lines c.steps.answered c.in-Ok.count
           c.in-Some.step
           c.steps.invariant.0
@@ -84,7 +84,7 @@ returns c =
     let first = first_sessions c.args.run.now.history.shards in
     let all = c.into_iter-step-iterator.result.rest.items in
     let lines = map (λ line. line.now) c.args.replies.now in
-    let now = map seen_by c.steps.sessions.items in
+    let now = c.steps.sessions.items in
     let whole : all ≡ c.args.steps.items = search rules in
     let many : length lines ≡ length c.args.replies.now = length-map c.args.replies.now (λ line. line.now) in
     let none : length c.steps.step-iterator.rest.items ≡ 0 = search rules in

@@ -15,12 +15,6 @@ judge_turn-requires-clause-session c = record {
   own = c.requires.session;
 }
 
-pub judge_turn-requires-clause-lawful : goal.judge_turn-requires-clause-lawful
-judge_turn-requires-clause-lawful c = c.requires.answerable.lawful
-
-pub returns-clause-decided : goal.returns-clause-decided
-returns-clause-decided c = c.judge_turn.ensures.decided
-
 pub returns-clause-kept : goal.returns-clause-kept
 returns-clause-kept c =
     let turn : Turn = record {

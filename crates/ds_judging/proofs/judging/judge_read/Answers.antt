@@ -6,7 +6,7 @@ use Rattle.ds_reply.specs.declared.reply.Body.{Body}
 use Rattle.ds_model.specs.Answers.{AskedAnswers, RequestAnswers}
 use Rattle.ds_model.specs.Asked.{search_of}
 use Rattle.ds_model.specs.Sessions.{Session}
-use Rattle.ds_judging_lines.specs.Deciding.{DecidesTurn, SaidIs, seen_by, world_in}
+use Rattle.ds_judging_lines.specs.Deciding.{DecidesTurn, SaidIs, world_in}
 use Rattle.ds_judging_lines.specs.declared.turn.Turn.{Turn}
 use Rattle.ds_judging.proofs.JudgeLaws.{refusal_read, request_read}
 use Rattle.ds_judging_lines.proofs.Saying.{ok_so}
@@ -28,9 +28,9 @@ judge_request-requires-clause-shard c =
 pub returns-in-Ok-clause-decided : goal.returns-in-Ok-clause-decided
 returns-in-Ok-clause-decided c =
     let turn = c.args.turn.now in
-    let s = seen_by c.args.session.now in
+    let s = c.args.session.now in
     let r = c.in-Ok.request in
-    let after = seen_by c.judge_request.new.session in
+    let after = c.judge_request.new.session in
     let lawful = subst (IsLawful turn.run.now.history.shards turn.client) c.in-Ok.is c.requires.lawful in
     subst (λ q. IfOk c.judge_request.result (λ found. Decided turn s q found after)) (sym c.in-Ok.is)
     (ok_so c.judge_request.result
@@ -41,7 +41,7 @@ returns-in-Ok-clause-decided c =
 pub returns-in-Err-clause-decided : goal.returns-in-Err-clause-decided
 returns-in-Err-clause-decided c =
     let turn = c.args.turn.now in
-    let s = seen_by c.args.session.now in
+    let s = c.args.session.now in
     let quiet = subst (IsLawful turn.run.now.history.shards turn.client) c.in-Err.is c.requires.lawful in
     subst (λ q. IfOk c.said.result (λ found. Decided turn s q found s)) (sym c.in-Err.is)
     (ok_so c.said.result (SaidIs turn c.in-Err.body) (λ found. Decided turn s (Err c.in-Err.body) found s)

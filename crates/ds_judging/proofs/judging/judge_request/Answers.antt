@@ -4,7 +4,7 @@ use Rattle.ds_protocol.specs.Operations.{IsAlwaysRefused}
 use Rattle.ds_protocol.specs.Refused.{operation_body}
 use Rattle.ds_model.specs.Answers.{RequestAnswers}
 use Rattle.ds_model.specs.Asked.{search_of}
-use Rattle.ds_judging_lines.specs.Deciding.{DecidesTurn, HasCounter, SaidIs, seen_by, world_in}
+use Rattle.ds_judging_lines.specs.Deciding.{DecidesTurn, HasCounter, SaidIs, world_in}
 use Rattle.ds_judging.specs.Judging.{IsOperated}
 use Rattle.ds_judging.proofs.OperationLaws.{has_shard_too, not_unread, operation_counter, request_decided, unread_decided}
 use Rattle.ds_judging_lines.proofs.Saying.{ok_so, ok_two, says_same}
@@ -17,10 +17,10 @@ judge_operation-requires-clause-shard c =
 pub returns-in-Ok-clause-decided : goal.returns-in-Ok-clause-decided
 returns-in-Ok-clause-decided c =
     let turn = c.args.turn.now in
-    let s = seen_by c.args.session.now in
+    let s = c.args.session.now in
     let call = c.args.request.call in
     let o = c.in-Ok.operation in
-    let after = seen_by c.judge_operation.new.session in
+    let after = c.judge_operation.new.session in
     ok_so c.judge_operation.result (λ found. DecidesTurn turn (λ said t. IsOperated (world_in turn) turn.client s o said t) found after)
     (λ found. DecidesTurn turn (λ said t. RequestAnswers (world_in turn) turn.client s call (search_of call) said t) found after)
     (λ found decided. request_decided turn s call o found after c.in-Ok.ensures.ok decided) c.judge_operation.ensures.decided
@@ -28,7 +28,7 @@ returns-in-Ok-clause-decided c =
 pub returns-in-Err-clause-decided : goal.returns-in-Err-clause-decided
 returns-in-Err-clause-decided c =
     let turn = c.args.turn.now in
-    let s = seen_by c.args.session.now in
+    let s = c.args.session.now in
     let call = c.args.request.call in
     let b = c.body.result in
     ok_two c.say_refusal.result (SaidIs turn b) (λ found. b ≡ body.NoMemory → ⊥)

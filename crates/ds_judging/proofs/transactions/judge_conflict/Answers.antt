@@ -2,7 +2,7 @@ use Rattle.std.proofs.Common.{List, ap, sym, ◌∙◌}
 use Rattle.std.proofs.lemmas.Result.{IfOk-weaker}
 use Rattle.ds_reply.specs.declared.reply.Body.TheVariants as body
 use Rattle.ds_model.specs.Sessions.{Session}
-use Rattle.ds_judging_lines.specs.Deciding.{DecidesTurn, SaysThen, seen_by, world_in}
+use Rattle.ds_judging_lines.specs.Deciding.{DecidesTurn, SaysThen, world_in}
 use Rattle.std.specs.Prelude.{slice_get, take}
 use Rattle.std.specs.Option.{option_map}
 use Rattle.ds_log.specs.declared.Conflict.{Conflict}
@@ -16,18 +16,18 @@ use Rattle.ds_judging.proofs.transactions.judge_conflict.Goals as goal
 
 pub returns-in_default-clause-decided : goal.returns-in_default-clause-decided
 returns-in_default-clause-decided c =
-    conflict_unplaced c.args.turn.now (seen_by c.args.session.now) c.requires.session.turn c.args.session.now.transaction.transaction
+    conflict_unplaced c.args.turn.now c.args.session.now c.requires.session.turn c.args.session.now.transaction
     c.args.draft.now c.requires.lawful c.requires.draft c.place.result c.place.ensures c.in_default.not-Some
 
 pub returns-in_default-conflict-clause-decided : goal.returns-in_default-conflict-clause-decided
 returns-in_default-conflict-clause-decided c =
     let turn = c.args.turn.now in
-    let s : Session = seen_by c.args.session.now in
+    let s : Session = c.args.session.now in
     let read = c.requires.session.turn in
     let m = c.in-Some.place in
     let one = only_some (IsSeenPlace turn.run.now.history.journal s) (PlaceTold turn s read) c.place.result m c.place.ensures c.in-Some.is
     in
-    conflict_unlooked turn s read c.args.session.now.transaction.transaction c.args.draft.now c.requires.lawful c.requires.draft m
+    conflict_unlooked turn s read c.args.session.now.transaction c.args.draft.now c.requires.lawful c.requires.draft m
     c.conflict.result one
     (c.conflict.ensures ∙ ap (conflict_of (take m turn.run.now.history.journal)) c.as_slice-touched.ensures)
     c.in_default-conflict.not-Some
@@ -35,11 +35,11 @@ returns-in_default-conflict-clause-decided c =
 pub returns-in_default-2-clause-decided : goal.returns-in_default-2-clause-decided
 returns-in_default-2-clause-decided c =
     let turn = c.args.turn.now in
-    let s : Session = seen_by c.args.session.now in
+    let s : Session = c.args.session.now in
     let read = c.requires.session.turn in
     let m = c.in-Some.place in
     let found : Conflict = c.in-Some-conflict.conflict in
-    let o = c.args.session.now.transaction.transaction in
+    let o = c.args.session.now.transaction in
     let one = only_some (IsSeenPlace turn.run.now.history.journal s) (PlaceTold turn s read) c.place.result m c.place.ensures c.in-Some.is
     in
     conflict_unnamed turn s read o c.args.draft.now c.requires.lawful c.requires.draft m found c.in_ok-body.field-0 one
@@ -54,10 +54,10 @@ returns-in_default-2-clause-decided c =
 pub returns-clause-decided : goal.returns-clause-decided
 returns-clause-decided c =
     let turn = c.args.turn.now in
-    let s : Session = seen_by c.args.session.now in
+    let s : Session = c.args.session.now in
     let read = c.requires.session.turn in
-    let o = c.args.session.now.transaction.transaction in
-    let after : Session = seen_by c.say_ended.new.session in
+    let o = c.args.session.now.transaction in
+    let after : Session = c.say_ended.new.session in
     let m = c.in-Some.place in
     let found : Conflict = c.in-Some-conflict.conflict in
     let one = only_some (IsSeenPlace turn.run.now.history.journal s) (PlaceTold turn s read) c.place.result m c.place.ensures c.in-Some.is

@@ -11,7 +11,7 @@ use Rattle.ds_model.specs.Sessions.{Session, saw_counts}
 use Rattle.ds_model.specs.Worlds.{shard_lists}
 use Rattle.ds_reply.specs.declared.reply.Body.{Body}
 use Rattle.ds_reply_lines.specs.ReplyLines.{numbers_at}
-use Rattle.ds_judging_lines.specs.Deciding.{IsOnlyTold, SaidIs, seen_by, told_in}
+use Rattle.ds_judging_lines.specs.Deciding.{IsOnlyTold, SaidIs, told_in}
 use Rattle.ds_judging_reads.specs.Reading.{told_over}
 use Rattle.ds_judging_lines.specs.declared.turn.Turn.{Turn}
 use Rattle.ds_judging_lines.proofs.CountLaws.{are_counts}
@@ -33,7 +33,7 @@ Says turn search ready counts o =
 pub returns-in_default-clause-decided : goal.returns-in_default-clause-decided
 returns-in_default-clause-decided c =
     let turn = c.args.turn.now in
-    let s = seen_by c.args.session.now in
+    let s = c.args.session.now in
     counted_countless turn c.requires.session.turn s c.args.search.now c.args.ready.now.normal c.args.ready.now.window c.requires.ready
     (ap (ancestor_group_refusal s.transaction) c.requires.everywhere) c.requires.texts c.requires.asks c.requires.everywhere
     (subst (Shows turn s) c.in_default.is c.in_ok-counts.ensures)
@@ -41,7 +41,7 @@ returns-in_default-clause-decided c =
 pub finds_counted-requires-clause-counts : goal.finds_counted-requires-clause-counts
 finds_counted-requires-clause-counts c =
     let turn = c.args.turn.now in
-    let s = seen_by c.args.session.now in
+    let s = c.args.session.now in
     let lists = shard_lists turn.run.now.history.shards turn.run.now.history.journal in
     let within = subst (Shows turn s) c.in-Some.is c.in_ok-counts.ensures in
     subst (AreCounts lists) (sym c.as_slice.ensures.value)
@@ -50,7 +50,7 @@ finds_counted-requires-clause-counts c =
 pub returns-in_default-2-clause-decided : goal.returns-in_default-2-clause-decided
 returns-in_default-2-clause-decided c =
     let turn = c.args.turn.now in
-    let s = seen_by c.args.session.now in
+    let s = c.args.session.now in
     counted_decided turn c.requires.session.turn s c.args.search.now c.args.ready.now.normal c.args.ready.now.window c.requires.ready
     (ap (ancestor_group_refusal s.transaction) c.requires.everywhere) c.requires.texts c.requires.asks c.requires.everywhere
     c.in-Some.counts.items None s (subst (Shows turn s) c.in-Some.is c.in_ok-counts.ensures)
@@ -60,7 +60,7 @@ returns-in_default-2-clause-decided c =
 pub see_counts-requires : goal.see_counts-requires
 see_counts-requires c =
     let turn = c.args.turn.now in
-    let s = seen_by c.args.session.now in
+    let s = c.args.session.now in
     let lists = shard_lists turn.run.now.history.shards turn.run.now.history.journal in
     let within = subst (Shows turn s) c.in-Some.is c.in_ok-counts.ensures in
     subst (AreCounts lists) (sym c.as_slice-2.ensures.value)
@@ -69,15 +69,12 @@ see_counts-requires c =
 pub returns-clause-decided : goal.returns-clause-decided
 returns-clause-decided c =
     let turn = c.args.turn.now in
-    let s = seen_by c.args.session.now in
+    let s = c.args.session.now in
     let lists = shard_lists turn.run.now.history.shards turn.run.now.history.journal in
     let says = subst (λ ns. Says turn c.args.search.now c.args.ready.now ns (Some c.in-Some-2.said)) c.as_slice.ensures.value
     (subst (Says turn c.args.search.now c.args.ready.now c.as_slice.result.now) c.in-Some-2.is c.in_ok-said.ensures) in
     counted_decided turn c.requires.session.turn s c.args.search.now c.args.ready.now.normal c.args.ready.now.window c.requires.ready
     (ap (ancestor_group_refusal s.transaction) c.requires.everywhere) c.requires.texts c.requires.asks c.requires.everywhere
-    c.in-Some.counts.items (Some c.in-Some-2.said) (seen_by c.see_counts.new.session)
+    c.in-Some.counts.items (Some c.in-Some-2.said) c.see_counts.new.session
     (subst (Shows turn s) c.in-Some.is c.in_ok-counts.ensures)
     (says.0, says.1, c.see_counts.ensures.seen ∙ ap (λ (ns : List ℕ). saw_counts lists ns s) c.as_slice-2.ensures.value)
-
-pub returns-clause-kept : goal.returns-clause-kept
-returns-clause-kept c = c.see_counts.ensures.kept c.requires.session

@@ -2,7 +2,7 @@ use Rattle.std.proofs.Common.{◌≡◌, ◌+◌, ◌≤◌, sym, ◌∙◌, ari
 use Rattle.std.proofs.lemmas.Result.{IfOk-weaker}
 use Rattle.ds_reply.specs.declared.reply.Body.TheVariants as body
 use Rattle.ds_model.specs.Sessions.{Session, saw_next}
-use Rattle.ds_judging_lines.specs.Deciding.{DecidesTurn, SaysThen, seen_by}
+use Rattle.ds_judging_lines.specs.Deciding.{DecidesTurn, SaysThen}
 use Rattle.ds_judging_lines.proofs.Decisions.{one_number}
 use Rattle.ds_base.specs.Limits.{greatest_id}
 use Rattle.ds_judging_writes.specs.Writing.{IsIdsExhausted}
@@ -13,8 +13,8 @@ use Rattle.ds_judging_writes.proofs.writes.judge_allocate.Goals as goal
 pub returns-then-tells_error-clause-decided : goal.returns-then-tells_error-clause-decided
 returns-then-tells_error-clause-decided c =
     let turn = c.args.turn.now in
-    let s : Session = seen_by c.args.session.now in
-    let after : Session = seen_by c.judge_exhausted.new.session in
+    let s : Session = c.args.session.now in
+    let after : Session = c.judge_exhausted.new.session in
     let read = c.requires.session.turn in
     let told : c.tells_error.result ≡ true = cc in
     let error = c.tells_error.ensures.0 told in
@@ -27,13 +27,13 @@ pub returns-in_default-clause-decided : goal.returns-in_default-clause-decided
 returns-in_default-clause-decided c =
     let fine : Error c.args.turn.now ≡ Some 22
     → ⊥ = λ error. let told : c.tells_error.result ≡ true = c.tells_error.ensures.1 error in cc in
-    allocate_none c.args.turn.now (seen_by c.args.session.now) c.requires.session.turn c.args.count fine
+    allocate_none c.args.turn.now c.args.session.now c.requires.session.turn c.args.count fine
     (λ first told shown within. c.in_default.not-Some first (c.number.ensures ∙ told))
 
-pub returns-then-first-next-clause-decided : goal.returns-then-first-next-clause-decided
-returns-then-first-next-clause-decided c =
+pub returns-then-first-seen_next-clause-decided : goal.returns-then-first-seen_next-clause-decided
+returns-then-first-seen_next-clause-decided c =
     let turn = c.args.turn.now in
-    let s : Session = seen_by c.args.session.now in
+    let s : Session = c.args.session.now in
     let read = c.requires.session.turn in
     let fine : Error turn ≡ Some 22 → ⊥ = λ error. let told : c.tells_error.result ≡ true = c.tells_error.ensures.1 error in cc in
     allocate_none turn s read c.args.count fine (λ first told shown within.
@@ -44,7 +44,7 @@ returns-then-first-next-clause-decided c =
 pub returns-then-not-are_left-clause-decided : goal.returns-then-not-are_left-clause-decided
 returns-then-not-are_left-clause-decided c =
     let turn = c.args.turn.now in
-    let s : Session = seen_by c.args.session.now in
+    let s : Session = c.args.session.now in
     let read = c.requires.session.turn in
     let fine : Error turn ≡ Some 22 → ⊥ = λ error. let told : c.tells_error.result ≡ true = c.tells_error.ensures.1 error in cc in
     allocate_none turn s read c.args.count fine (λ first told shown within.
@@ -57,9 +57,9 @@ returns-then-not-are_left-clause-decided c =
 pub returns-clause-decided : goal.returns-clause-decided
 returns-clause-decided c =
     let turn = c.args.turn.now in
-    let s : Session = seen_by c.args.session.now in
+    let s : Session = c.args.session.now in
     let read = c.requires.session.turn in
-    let after : Session = seen_by c.say_next.new.session in
+    let after : Session = c.say_next.new.session in
     let first = c.in-Some.first in
     let fine : Error turn ≡ Some 22 → ⊥ = λ error. let told : c.tells_error.result ≡ true = c.tells_error.ensures.1 error in cc in
     let left : c.are_left.result ≡ true = cc in

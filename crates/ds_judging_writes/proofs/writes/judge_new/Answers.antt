@@ -2,7 +2,7 @@ use Rattle.std.proofs.Common.{◌≡◌, ◌<◌, ◌≤◌, sym, ◌∙◌, sub
 use Rattle.std.specs.Prelude.{codes}
 use Rattle.std.proofs.lemmas.Result.{IfOk-weaker}
 use Rattle.ds_model.specs.Sessions.{Session}
-use Rattle.ds_judging_lines.specs.Deciding.{DecidesTurn, seen_by, world_in}
+use Rattle.ds_judging_lines.specs.Deciding.{DecidesTurn, world_in}
 use Rattle.ds_judging_lines.proofs.Decisions.{one_number}
 use Rattle.ds_entity.specs.Entities.{EntityParts}
 use Rattle.ds_base.specs.Keys.{root_of}
@@ -19,14 +19,14 @@ use Rattle.ds_judging_writes.proofs.writes.judge_new.Goals as goal
 pub returns-in_default-clause-decided : goal.returns-in_default-clause-decided
 returns-in_default-clause-decided c =
     let lawful : IsLawfulKey c.args.entity.key = subst IsLawfulKey c.key-asked.ensures.value c.key_is_lawful.ensures in
-    new_none c.args.turn.now (seen_by c.args.session.now) c.requires.session.turn c.args.entity lawful c.requires.ends
+    new_none c.args.turn.now c.args.session.now c.requires.session.turn c.args.entity lawful c.requires.ends
     (λ id told shown below. c.in_default.not-Some id (c.last_id.ensures ∙ told))
 
-pub returns-then-id-next-clause-decided : goal.returns-then-id-next-clause-decided
-returns-then-id-next-clause-decided c =
+pub returns-then-id-seen_next-clause-decided : goal.returns-then-id-seen_next-clause-decided
+returns-then-id-seen_next-clause-decided c =
     let turn = c.args.turn.now in
     let lawful : IsLawfulKey c.args.entity.key = subst IsLawfulKey c.key-asked.ensures.value c.key_is_lawful.ensures in
-    new_none turn (seen_by c.args.session.now) c.requires.session.turn c.args.entity lawful c.requires.ends (λ id told shown below.
+    new_none turn c.args.session.now c.requires.session.turn c.args.entity lawful c.requires.ends (λ id told shown below.
     let same : c.in-Some.id ≡ id =
     one_number c.last_id.result (last_id_at (codes "key") (told_by turn.told)) c.in-Some.id id c.last_id.ensures c.in-Some.is told in
     absurd (omega arith))
@@ -35,22 +35,22 @@ pub returns-then-id-ge-MAX_ID-clause-decided : goal.returns-then-id-ge-MAX_ID-cl
 returns-then-id-ge-MAX_ID-clause-decided c =
     let turn = c.args.turn.now in
     let lawful : IsLawfulKey c.args.entity.key = subst IsLawfulKey c.key-asked.ensures.value c.key_is_lawful.ensures in
-    new_none turn (seen_by c.args.session.now) c.requires.session.turn c.args.entity lawful c.requires.ends (λ id told shown below.
+    new_none turn c.args.session.now c.requires.session.turn c.args.entity lawful c.requires.ends (λ id told shown below.
     let same : c.in-Some.id ≡ id =
     one_number c.last_id.result (last_id_at (codes "key") (told_by turn.told)) c.in-Some.id id c.last_id.ensures c.in-Some.is told in
     absurd (omega arith))
 
 pub judge_write-requires-clause-allowed : goal.judge_write-requires-clause-allowed
 judge_write-requires-clause-allowed c =
-    subst (λ (x : EntityParts). MayWriteIn c.args.session.now.transaction.transaction (root_of x.key)) (sym c.renumber.ensures)
-    (new_allowed c.args.turn.now.run.now.defs.now (seen_by c.args.session.now) c.args.entity c.in-Some.id c.requires.unrefused)
+    subst (λ (x : EntityParts). MayWriteIn c.args.session.now.transaction (root_of x.key)) (sym c.renumber.ensures)
+    (new_allowed c.args.turn.now.run.now.defs.now c.args.session.now c.args.entity c.in-Some.id c.requires.unrefused)
 
 pub returns-clause-decided : goal.returns-clause-decided
 returns-clause-decided c =
     let turn = c.args.turn.now in
-    let s : Session = seen_by c.args.session.now in
+    let s : Session = c.args.session.now in
     let read = c.requires.session.turn in
-    let after : Session = seen_by c.judge_write.new.session in
+    let after : Session = c.judge_write.new.session in
     let id = c.in-Some.id in
     let lawful : IsLawfulKey c.args.entity.key = subst IsLawfulKey c.key-asked.ensures.value c.key_is_lawful.ensures in
     let shown : s.next_id ≤ id = omega arith in

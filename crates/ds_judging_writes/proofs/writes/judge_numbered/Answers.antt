@@ -2,7 +2,7 @@ use Rattle.std.proofs.Common.{◌≡◌, ap, ◌∙◌, subst, true, refl}
 use Rattle.std.proofs.lemmas.Result.{IfOk-weaker}
 use Rattle.ds_reply.specs.declared.reply.Body.TheVariants as body
 use Rattle.ds_model.specs.Sessions.{Session, next_above, saw_next, saw_place}
-use Rattle.ds_judging_lines.specs.Deciding.{DecidesTurn, SaysThen, seen_by, world_in}
+use Rattle.ds_judging_lines.specs.Deciding.{DecidesTurn, SaysThen, world_in}
 use Rattle.ds_judging_lines.proofs.Decisions.{one_number}
 use Rattle.ds_history.specs.Writers.{nth_commit}
 use Rattle.ds_log.specs.Logs.{key_of}
@@ -13,7 +13,7 @@ use Rattle.ds_judging_writes.proofs.writes.judge_numbered.Goals as goal
 pub returns-then-not-same-clause-decided : goal.returns-then-not-same-clause-decided
 returns-then-not-same-clause-decided c =
     let turn = c.args.turn.now in
-    let s : Session = seen_by c.args.session.now in
+    let s : Session = c.args.session.now in
     let read = c.requires.session.turn in
     alone_none turn s read c.args.write c.requires.lawful c.requires.outside (λ n told later there.
     let is : c.args.number ≡ n =
@@ -25,9 +25,9 @@ returns-then-not-same-clause-decided c =
 pub returns-clause-decided : goal.returns-clause-decided
 returns-clause-decided c =
     let turn = c.args.turn.now in
-    let s : Session = seen_by c.args.session.now in
+    let s : Session = c.args.session.now in
     let read = c.requires.session.turn in
-    let after : Session = seen_by c.say_alone.new.session in
+    let after : Session = c.say_alone.new.session in
     let n = c.args.number in
     let above : c.next_above-above.result ≡ next_above (key_of c.args.write).elems = cc in
     let all : c.in_ok-same.same ≡ true = cc in

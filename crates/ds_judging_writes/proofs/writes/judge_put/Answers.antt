@@ -1,7 +1,7 @@
 use Rattle.std.proofs.Common.{◌≡◌, sym, subst, Some, true, false}
 use Rattle.std.proofs.lemmas.Result.{IfOk-weaker}
 use Rattle.ds_model.specs.Sessions.{Session}
-use Rattle.ds_judging_lines.specs.Deciding.{DecidesTurn, seen_by, world_in}
+use Rattle.ds_judging_lines.specs.Deciding.{DecidesTurn, world_in}
 use Rattle.ds_base.specs.Keys.{KeyParts}
 use Rattle.ds_bytes.specs.Lawful.{IsLawfulKey}
 use Rattle.ds_judging_writes.specs.Committing.{IsPut}
@@ -13,9 +13,9 @@ use Rattle.ds_judging_writes.proofs.writes.judge_put.Goals as goal
 pub returns-then-tells_error-clause-decided : goal.returns-then-tells_error-clause-decided
 returns-then-tells_error-clause-decided c =
     let turn = c.args.turn.now in
-    let s : Session = seen_by c.args.session.now in
+    let s : Session = c.args.session.now in
     let read = c.requires.session.turn in
-    let after : Session = seen_by c.judge_not_issued.new.session in
+    let after : Session = c.judge_not_issued.new.session in
     let lawful : IsLawfulKey c.args.entity.key = subst IsLawfulKey c.key-asked.ensures.value c.key_is_lawful.ensures in
     let told : c.tells_error.result ≡ true = cc in
     IfOk-weaker c.judge_not_issued.result (λ found. DecidesTurn turn (IsIdNotIssued s c.key-asked.result.now) found after)
@@ -28,9 +28,9 @@ returns-then-tells_error-clause-decided c =
 pub returns-then-tells_error-2-clause-decided : goal.returns-then-tells_error-2-clause-decided
 returns-then-tells_error-2-clause-decided c =
     let turn = c.args.turn.now in
-    let s : Session = seen_by c.args.session.now in
+    let s : Session = c.args.session.now in
     let read = c.requires.session.turn in
-    let after : Session = seen_by c.judge_put_exhausted.new.session in
+    let after : Session = c.judge_put_exhausted.new.session in
     let lawful : IsLawfulKey c.args.entity.key = subst IsLawfulKey c.key-asked.ensures.value c.key_is_lawful.ensures in
     let told : c.tells_error-2.result ≡ true = cc in
     IfOk-weaker c.judge_put_exhausted.result (λ found. DecidesTurn turn (IsPutExhausted s c.args.incomplete c.key-asked.result.now) found
@@ -44,9 +44,9 @@ returns-then-tells_error-2-clause-decided c =
 pub returns-then-incomplete-clause-decided : goal.returns-then-incomplete-clause-decided
 returns-then-incomplete-clause-decided c =
     let turn = c.args.turn.now in
-    let s : Session = seen_by c.args.session.now in
+    let s : Session = c.args.session.now in
     let read = c.requires.session.turn in
-    let after : Session = seen_by c.judge_new.new.session in
+    let after : Session = c.judge_new.new.session in
     let lawful : IsLawfulKey c.args.entity.key = subst IsLawfulKey c.key-asked.ensures.value c.key_is_lawful.ensures in
     let issued : Error turn ≡ Some 21 → ⊥ = λ error. let told : c.tells_error.result ≡ true = c.tells_error.ensures.1 error in cc in
     let left : Error turn ≡ Some 22 → ⊥ = λ error. let told : c.tells_error-2.result ≡ true = c.tells_error-2.ensures.1 error in cc in
@@ -61,9 +61,9 @@ returns-then-incomplete-clause-decided c =
 pub returns-else-incomplete-clause-decided : goal.returns-else-incomplete-clause-decided
 returns-else-incomplete-clause-decided c =
     let turn = c.args.turn.now in
-    let s : Session = seen_by c.args.session.now in
+    let s : Session = c.args.session.now in
     let read = c.requires.session.turn in
-    let after : Session = seen_by c.judge_complete.new.session in
+    let after : Session = c.judge_complete.new.session in
     let lawful : IsLawfulKey c.args.entity.key = subst IsLawfulKey c.key-asked.ensures.value c.key_is_lawful.ensures in
     let issued : Error turn ≡ Some 21 → ⊥ = λ error. let told : c.tells_error.result ≡ true = c.tells_error.ensures.1 error in cc in
     let left : Error turn ≡ Some 22 → ⊥ = λ error. let told : c.tells_error-2.result ≡ true = c.tells_error-2.ensures.1 error in cc in

@@ -4,10 +4,11 @@ ghost use Rattle.ds_model.specs.Answers.{begun};
 ghost use Rattle.ds_model.specs.Groups.{place_in, touching, touching_if, writing, with_transaction};
 ghost use Rattle.ds_model.specs.Sessions.{first_session, greater_counts, saw_place, saw_next, saw_entries};
 
-use crate::effect::{CountSeen, CountsSeen, GroupRead};
+use crate::seen::{CountSeen, CountsSeen, GroupRead};
+use crate::transaction::OpenTransaction;
+use crate::watermark::Watermark;
 use ds_base::{Key, NoMemory};
 use ds_log::Write;
-use ds_protocol::{OpenTransaction, Watermark};
 use ds_reply::Body;
 use ds_txn::Txn;
 use std::alloc::Global;
@@ -18,8 +19,10 @@ use std::marker::Model;
 /// Contracts see it as the session of the definitions.
 #[derive(Drop)]
 pub struct Session {
-    seen: Watermark,
-    transaction: OpenTransaction,
+    /// What it was shown.
+    pub seen: Watermark,
+    /// Its transaction, if there is one.
+    pub transaction: OpenTransaction,
 }
 
 impl Model for Session {
