@@ -1,12 +1,13 @@
 -- What the calls of the writer make of what it keeps.
 use Rattle.std.proofs.Common.{◌≡◌, ℕ, ◌+◌, ◌<◌, ◌^◌, List, [], ◌∷◌, ◌++◌, drop, length, fold, refl, ap, sym, ◌∙◌, subst, arith}
-use Rattle.std.proofs.Common.{append_assoc, length-append, Option, Some, None, false}
-use Rattle.std.specs.Prelude.{is_some}
+use Rattle.std.proofs.Common.{append_assoc, length-append, Option, Some, None, false, All}
+use Rattle.std.specs.Prelude.{is_some, IfSome}
 use Rattle.std.proofs.lemmas.List.{append-nil}
+use Rattle.std.proofs.lemmas.List.Elements.{All-nil, All-push}
 use Rattle.std.proofs.Math.Seq.{drop-append_seam, drop-length}
 use Rattle.ds_hub.specs.Line.{HubId, Line}
 use Rattle.ds_hub.specs.Logs.{Fits, changed, taken_in, told_by, queued, IsMarked}
-use Rattle.ds_hub.specs.Holding.{IsOf}
+use Rattle.ds_hub.specs.Holding.{IsOf, AllBelong, start_of}
 use Rattle.ds_hub.specs.Running.{IsRunning, unseen}
 use Rattle.ds_hub.specs.declared.version.Logged.{Logged}
 use Rattle.ds_hub.specs.declared.rule.Origin.{Origin}
@@ -68,16 +69,25 @@ module _ {T O E : Type 0} (asks : E → O) (applied : T → O → T) where
       taken (changed applied state l.operation) l.mark log told m.3
       ∙ ap (λ o. (fold (told_by asks applied) (changed applied state o) told, last_mark asks l.mark log)) (sym m.2)
 
+module _ {T O E : Type 0} (asks : E → O) (applied : T → O → T) (belongs : T → E → Type 0) where
+  -- one more of what belongs
+  belong_more : (start : Option T) (xs : List E) (x : E) → AllBelong belongs start xs → IfSome start (λ s. belongs s x)
+      → AllBelong belongs start (xs ++ x ∷ [])
+  belong_more None xs x all own = all
+  belong_more (Some s) xs x all own = All-push (belongs s) xs x all own
+
   pub runs_added : (hub : HubId) (knows : Option (Origin T E)) (state : T) (shown : Line E) (log : List (Logged O E)) (announced mark : Line E) (waiting : ℕ) (op : O) (t : E)
-      → IsRunning asks applied hub knows state shown log announced waiting → length shown.list + length (unseen shown announced) < 2 ^ 62
+      → IsRunning asks applied belongs hub knows state shown log announced waiting → length shown.list + length (unseen shown announced) < 2 ^ 62
       → mark.hub ≡ announced.hub → mark.list ≡ announced.list ++ t ∷ [] → asks t ≡ op
-      → IsRunning asks applied hub knows state shown (log ++ logged asks op mark ∷ []) mark (waiting + 1)
-  runs_added hub knows state shown log announced mark waiting op t r room same list is =
+      → IfSome (start_of knows) (λ s. belongs s t)
+      → IsRunning asks applied belongs hub knows state shown (log ++ logged asks op mark ∷ []) mark (waiting + 1)
+  runs_added hub knows state shown log announced mark waiting op t r room same list is own =
       let all : mark.list ≡ (shown.list ++ unseen shown announced) ++ t ∷ [] = list ∙ ap (λ l. l ++ t ∷ []) r.whole in
       let behind : mark.list ≡ shown.list ++ (unseen shown announced ++ t ∷ []) = all ∙ append_assoc shown.list (unseen shown announced) (t ∷ []) in
       let more = unseen_is shown mark (unseen shown announced ++ t ∷ []) behind in record {
         told = r.told;
         fits = r.fits;
+        belong = rw more (belong_more (start_of knows) (unseen shown announced) t r.belong own);
         shown_hub = r.shown_hub;
         announced_hub = same ∙ r.announced_hub;
         marked = rw more (marked_more asks shown log (unseen shown announced) op t mark r.marked (same ∙ (r.announced_hub ∙ sym r.shown_hub)) all is);
@@ -86,17 +96,23 @@ module _ {T O E : Type 0} (asks : E → O) (applied : T → O → T) where
         room = omega (arith, ap length all, room, length-append shown.list (unseen shown announced), length-append (shown.list ++ unseen shown announced) (t ∷ []));
       }
 
+  -- nothing is pending where the hub begins
+  belong_none : (hub : HubId) (knows : Option (Origin T E)) → IsOf hub knows → AllBelong belongs (start_of knows) []
+  belong_none hub None told = told
+  belong_none hub (Some origin) told = All-nil (belongs origin.start)
+
   -- the copy that took in the log is shown, and nothing is left
   pub runs_published : (hub : HubId) (knows known : Option (Origin T E)) (state next : T) (shown after announced : Line E) (log : List (Logged O E)) (waiting : ℕ)
-      → IsRunning asks applied hub knows state shown log announced waiting
-      → after ≡ last_mark asks shown log → known ≡ knows → Fits (told_by asks applied) next after knows
-      → IsRunning asks applied hub known next after [] announced 0
+      → IsRunning asks applied belongs hub knows state shown log announced waiting
+      → after ≡ last_mark asks shown log → known ≡ knows → Fits (told_by asks applied) belongs next after knows
+      → IsRunning asks applied belongs hub known next after [] announced 0
   runs_published hub knows known state next shown after announced log waiting r is same fits =
       let last = last_is asks shown log (unseen shown announced) r.marked in
       let list : announced.list ≡ after.list = r.whole ∙ (sym last.1 ∙ ap (λ l. l.list) (sym is)) in
       let none = unseen_is after announced [] (list ∙ sym (append-nil after.list)) in record {
         told = subst (IsOf hub) (sym same) r.told;
-        fits = subst (Fits (told_by asks applied) next after) (sym same) fits;
+        fits = subst (Fits (told_by asks applied) belongs next after) (sym same) fits;
+        belong = rw none (belong_none hub known (subst (IsOf hub) (sym same) r.told));
         shown_hub = ap (λ l. l.hub) is ∙ (last.0 ∙ r.shown_hub);
         announced_hub = r.announced_hub;
         marked = rw none tt;

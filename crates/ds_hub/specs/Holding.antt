@@ -1,5 +1,5 @@
 -- What contracts see of a hub's readers, views and notes, and of its writer.
-use Rattle.std.specs.Prelude.{◌≡◌, Bool, List, fold, is_some, Option, Some, None, Result, Ok, Err}
+use Rattle.std.specs.Prelude.{◌≡◌, Bool, List, All, fold, is_some, Option, Some, None, Result, Ok, Err}
 use Rattle.ds_hub.specs.Line.{HubId}
 use Rattle.ds_hub.specs.declared.rule.Origin.{Origin}
 
@@ -30,6 +30,11 @@ module _ {T E : Type 0} where
   abbrev pub IsFold : (T → E → T) → Option T → List E → T → Type 0
   IsFold makes None list state = ⊥
   IsFold makes (Some start) list state = state ≡ fold makes start list
+
+  -- all of the list belongs to a hub that begins with the start, which is known
+  abbrev pub AllBelong : (T → E → Type 0) → Option T → List E → Type 0
+  AllBelong belongs None list = ⊥
+  AllBelong belongs (Some start) list = All (belongs start) list
 
   -- the state with which the hub begins, for who was told
   abbrev pub start_of : Option (Origin T E) → Option T

@@ -1,5 +1,5 @@
 -- What the two copies take in, and what the one that is shown stands for.
-use Rattle.std.specs.Prelude.{◌≡◌, ℕ, List, [], ◌∷◌, ◌++◌, fold, Option, Some, None}
+use Rattle.std.specs.Prelude.{◌≡◌, ℕ, List, [], ◌∷◌, ◌++◌, All, fold, Option, Some, None}
 use mathlib.Core.Option.{some}
 use lib.ListN.{get_elem?}
 use Rattle.ds_hub.specs.Line.{Line}
@@ -20,13 +20,23 @@ abbrev pub taken_in : {T O E : Type 0} → (T → O → T) → T × Line E → L
 taken_in applied (state, line) logged = (changed applied state logged.operation, logged.mark)
 
 module _ {T E : Type 0} where
-  -- Whoever knows where the hub begins: the copy that is shown is of this hub, and is the fold of its prefix from there
-  abbrev pub Fits : (T → E → T) → T → Line E → Option (Origin T E) → Type 0
-  Fits makes state line None = Unit {0}
-  Fits makes state line (Some origin) = (line.hub ≡ origin.prefix.hub) × (state ≡ fold makes origin.start line.list)
+  -- Whoever knows where the hub begins: the copy that is shown is of this hub, is the fold of its prefix from there, and all of its
+  -- prefix belongs there
+  abbrev pub Fits : (T → E → T) → (T → E → Type 0) → T → Line E → Option (Origin T E) → Type 0
+  Fits makes belongs state line None = Unit {0}
+  Fits makes belongs state line (Some origin) =
+      (line.hub ≡ origin.prefix.hub) × (state ≡ fold makes origin.start line.list) × All (belongs origin.start) line.list
 
-  abbrev pub AllFit : (T → E → T) → T → Line E → List (Option (Origin T E)) → Type 0
-  AllFit makes state line views = (seat : ℕ) (v : Option (Origin T E)) → get_elem? views seat ≡ some v → Fits makes state line v
+  -- whoever knows where the hub begins knows that it begins with this state
+  abbrev pub BeginsWith : T → Option (Origin T E) → Type 0
+  BeginsWith start None = Unit {0}
+  BeginsWith start (Some origin) = origin.start ≡ start
+
+  -- so it is with all, and they know of one beginning
+  abbrev pub AllFit : (T → E → T) → (T → E → Type 0) → T → Line E → List (Option (Origin T E)) → Type 0
+  AllFit makes belongs state line views =
+      (start : T) × ((seat : ℕ) (v : Option (Origin T E)) → get_elem? views seat ≡ some v
+      → BeginsWith start v × Fits makes belongs state line v)
 
 -- what is in the log, and then what is kept aside, if anything is
 abbrev pub queued : {L : Type 0} → List L → Option L → List L

@@ -25,6 +25,9 @@ pub trait Absorb<O: Drop> {
     // The operation that a told element stands for.
     ghost asks: { Self.Told → O };
 
+    // Whether what is told belongs to a hub that begins with a state: nothing else is added, so each list of the hub has such alone.
+    ghost belongs: { Self.State → Self.Told → Type 0 } = { λ start told. Unit {0} };
+
     // What shows that absorbing never fails, if anything does.
     ghost never_fails: { Type 0 } = { ⊥ };
 

@@ -1,7 +1,7 @@
 //! A hub's readers, and the views that they enter.
 ghost use Rattle.std.specs.Prelude.{◌≡◌, ◌⊎◌, length, MatchResult};
 ghost use mathlib.Core.List.{IsPrefix};
-ghost use Rattle.ds_hub.specs.Holding.{IsFold};
+ghost use Rattle.ds_hub.specs.Holding.{IsFold, AllBelong};
 ghost use Rattle.ds_hub.specs.Logs.{told_by};
 
 use crate::absorb::Absorb;
@@ -66,7 +66,7 @@ impl<O: Drop, S: Absorb<O> + Drop> Model for View<O, S> {
     } };
 
     ghost invariant = { λ v. IsOf v.reading.part.value.prefix.hub (knows v.reading.place)
-        × Fits (told_by S.asks S.applied) (S.state v.reading.part.value.state) v.reading.part.value.prefix (knows v.reading.place) };
+        × Fits (told_by S.asks S.applied) S.belongs (S.state v.reading.part.value.state) v.reading.part.value.prefix (knows v.reading.place) };
 }
 
 impl<O: Drop, S: Absorb<O> + Drop> Reader<O, S> {
@@ -130,10 +130,11 @@ impl<O: Drop, S: Absorb<O> + Drop> View<O, S> {
         self.reading.get().prefix.len()
     }
 
-    /// The state: the fold of the view's list from the state with which the hub begins.
+    /// The state: the fold of the view's list from the state with which the hub begins, to which all of the list belongs.
     pub fn state(&self) -> &S
         ensures state { result.now ≡ self.now.state }
         ensures fold { IsFold (told_by S.asks S.applied) self.now.start self.now.list (S.state result.now) }
+        ensures belong { AllBelong S.belongs self.now.start self.now.list }
     {
         &self.reading.get().state
     }

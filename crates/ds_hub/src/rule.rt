@@ -1,4 +1,4 @@
-//! The rule of the two copies: the copy that is shown is the fold of its prefix.
+//! The rule of the two copies: the copy that is shown is the fold of its prefix, all of which belongs to the hub.
 use crate::absorb::Absorb;
 use crate::prefix::Prefix;
 use crate::version::Version;
@@ -15,7 +15,7 @@ pub struct Origin<T, E> {
 /// What a reader or the writer knows: where its hub begins, once it was told.
 pub type Knows<O, S> = Option<Origin<<S as Absorb<O>>::State, <S as Absorb<O>>::Told>>;
 
-/// The copy that is shown is the fold of its prefix, from where everyone knows the hub to begin.
+/// The copy that is shown is the fold of its prefix, from where everyone knows the hub to begin, and all of its prefix belongs there.
 pub struct ShownIsFold<O> {
     of: PhantomData<O>,
 }
@@ -24,7 +24,7 @@ impl<O: Drop, S: Absorb<O> + Drop> Protocol<Version<S::Told, S>, Knows<O, S>> fo
     ghost use Rattle.std.specs.Prelude.{None};
     ghost use Rattle.ds_hub.specs.Logs.{AllFit, told_by};
 
-    ghost holds = { λ x views. AllFit (told_by S.asks S.applied) (S.state x.state) x.prefix views };
+    ghost holds = { λ x views. AllFit (told_by S.asks S.applied) S.belongs (S.state x.state) x.prefix views };
 
     ghost first = { None };
 }
@@ -49,7 +49,7 @@ impl<O: Drop, S: Absorb<O> + Drop> Outcome<Version<S::Told, S>, Knows<O, S>> for
     ghost use Rattle.std.specs.Prelude.{◌≡◌};
     ghost use Rattle.ds_hub.specs.Logs.{Fits, told_by};
 
-    ghost then = { λ v x y w. (w ≡ v) × Fits (told_by S.asks S.applied) (S.state y.state) y.prefix v };
+    ghost then = { λ v x y w. (w ≡ v) × Fits (told_by S.asks S.applied) S.belongs (S.state y.state) y.prefix v };
 }
 
 /// The writer hands on all that it knows, and a new reader takes that over.

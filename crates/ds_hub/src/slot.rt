@@ -1,7 +1,7 @@
 //! A reader, or the view that it entered.
-ghost use Rattle.std.specs.Prelude.{◌≡◌, ◌⊎◌, IsTrue, None, is_some, length, MatchOption};
+ghost use Rattle.std.specs.Prelude.{◌≡◌, ◌⊎◌, IsTrue, None, is_some, length, IfSome, MatchOption};
 ghost use mathlib.Core.List.{IsPrefix};
-ghost use Rattle.ds_hub.specs.Holding.{IsFold, slotted};
+ghost use Rattle.ds_hub.specs.Holding.{IsFold, AllBelong, slotted};
 ghost use Rattle.ds_hub.specs.Logs.{told_by};
 
 use crate::absorb::Absorb;
@@ -38,14 +38,6 @@ impl<O: Drop, S: Absorb<O> + Drop> Slot<O, S> {
         Slot { place: Err(reader) }
     }
 
-    /// The reader. A view is left.
-    pub fn into_reader(self) -> Reader<O, S>
-        ensures { result ≡ record { hub = self.hub; start = self.start; known = self.known } }
-    {
-        let Slot { place } = self;
-        left(place)
-    }
-
     /// Takes the state that was published last, and waits for nobody: a view that the slot had is left before. What is known
     /// after begins with what was known before. It says whether there is a view then; there is none where the writer has ended.
     pub fn enter(&mut self) -> bool
@@ -64,12 +56,13 @@ impl<O: Drop, S: Absorb<O> + Drop> Slot<O, S> {
         replace_with(&mut self.place, (), left_in)
     }
 
-    /// The state that the view shows: the fold of what is known from the state with which the hub begins. `None` where there is
-    /// no view.
+    /// The state that the view shows: the fold of what is known from the state with which the hub begins, to which all of that
+    /// belongs. `None` where there is no view.
     pub fn state(&self) -> Option<&S>
-        ensures { MatchOption result (self.now.shown ≡ None)
+        ensures shows { MatchOption result (self.now.shown ≡ None)
             (λ state. (self.now.shown ≡ Some state.now)
             × IsFold (told_by S.asks S.applied) self.now.start self.now.known (S.state state.now)) }
+        ensures belong { IfSome result (λ _. AllBelong S.belongs self.now.start self.now.known) }
     {
         match &self.place {
             Ok(view) => Some(view.state()),

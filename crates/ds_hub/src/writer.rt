@@ -1,5 +1,5 @@
 //! A hub's writer.
-ghost use Rattle.std.specs.Prelude.{◌≡◌, ◌+◌, ◌<◌, ◌^◌, ◌∷◌, ◌++◌, ◌↔◌, IsTrue, false, is_some, IsOk, [], length, MatchResult};
+ghost use Rattle.std.specs.Prelude.{◌≡◌, ◌+◌, ◌<◌, ◌^◌, ◌∷◌, ◌++◌, ◌↔◌, IsTrue, false, is_some, IsOk, IfSome, [], length, MatchResult};
 ghost use mathlib.Core.List.{IsPrefix};
 ghost use Rattle.ds_hub.specs.Logs.{queued};
 
@@ -10,7 +10,7 @@ use crate::note::Note;
 use crate::prefix::{Head, Prefix};
 use crate::reader::Reader;
 use crate::rule::{Knows, ShownIsFold, Stays};
-use crate::tells::{InSnapshot, Itself, Tells};
+use crate::tells::{InSnapshot, Tells};
 use crate::version::{Logged, Version};
 use std::alloc::AllocError;
 use std::marker::Model;
@@ -56,7 +56,7 @@ impl<O: Drop, S: Absorb<O> + Drop> Model for Writer<O, S> {
       is_parked = is_some w.parked;
     } };
 
-    ghost invariant = { λ w. IsRunning S.asks S.applied w.head w.copies.knows (S.state w.copies.shown.state) w.copies.shown.prefix
+    ghost invariant = { λ w. IsRunning S.asks S.applied S.belongs w.head w.copies.knows (S.state w.copies.shown.state) w.copies.shown.prefix
         (queued w.copies.log w.parked) w.announced w.waiting };
 }
 
@@ -82,12 +82,13 @@ impl<O: Drop, S: Absorb<O> + Drop> Writer<O, S> {
         self.parked.is_some()
     }
 
-    /// Adds an operation to the pending ones, of which it tells what `M` says of `about`, which stands for the operation. `Err`
-    /// hands it back when out of memory, which an operation that is kept aside counts as, and changes nothing. After an Ok
-    /// `is_parked` says whether `publish` still wants memory.
+    /// Adds an operation to the pending ones, of which it tells what `M` says of `about`, which stands for the operation and
+    /// belongs to the state with which the hub begins. `Err` hands it back when out of memory, which an operation that is kept
+    /// aside counts as, and changes nothing. After an Ok `is_parked` says whether `publish` still wants memory.
     pub fn add_as<X, M: Tells<X, S::Told>>(&mut self, op: O, about: &X) -> Result<(), O>
         requires room { length self.old.published + length self.old.pending < 2 ^ 62 }
         requires asks { S.asks (M.told about.now) ≡ op }
+        requires belongs { IfSome self.old.start (λ start. S.belongs start (M.told about.now)) }
         ensures { MatchResult result (λ _. self.new ≡ record self.old {
           pending = self.old.pending ++ M.told about.now ∷ [];
           is_parked = self.new.is_parked;
@@ -103,18 +104,6 @@ impl<O: Drop, S: Absorb<O> + Drop> Writer<O, S> {
         self.parked = let_in(&mut self.copies, Some(logged));
         self.waiting += 1;
         Ok(())
-    }
-
-    /// Adds an operation to the pending ones, and tells by reference what stands for it, which is copied nowhere: else as `add`.
-    pub fn add_told(&mut self, op: O, told: &S::Told) -> Result<(), O>
-        requires room { length self.old.published + length self.old.pending < 2 ^ 62 }
-        requires asks { S.asks told.now ≡ op }
-        ensures { MatchResult result (λ _. self.new ≡ record self.old {
-          pending = self.old.pending ++ told.now ∷ [];
-          is_parked = self.new.is_parked;
-        }) (λ back. (back ≡ op) × (self.new ≡ self.old)) }
-    {
-        self.add_as::<S::Told, Itself>(op, told)
     }
 
     /// Takes in the operation that is kept aside, if there is one: it waits until there is memory for it. In a hub whose
@@ -228,12 +217,13 @@ impl<O: Drop, S: Absorb<O> + Drop> Writer<O, S> {
 }
 
 impl<O: Drop, S: Absorb<O, Told = O> + Drop> Writer<O, S> {
-    /// Adds an operation to the pending ones, in a hub that tells its operations themselves. `Err` hands it back for want of
-    /// memory, which an operation that is kept aside counts as, and changes nothing. After an Ok `is_parked` says whether
-    /// `publish` still wants memory.
+    /// Adds an operation to the pending ones, in a hub that tells its operations themselves and to whose first state it belongs.
+    /// `Err` hands it back for want of memory, which an operation that is kept aside counts as, and changes nothing. After an Ok
+    /// `is_parked` says whether `publish` still wants memory.
     pub fn add(&mut self, op: O) -> Result<(), O>
         requires room { length self.old.published + length self.old.pending < 2 ^ 62 }
         requires asks { S.asks op ≡ op }
+        requires belongs { IfSome self.old.start (λ start. S.belongs start op) }
         ensures { MatchResult result (λ _. self.new ≡ record self.old {
           pending = self.old.pending ++ op ∷ [];
           is_parked = self.new.is_parked;

@@ -6,7 +6,7 @@ ghost use mathlib.Core.List.{IsPrefix};
 use crate::hub::look;
 use crate::opened::{Sum, TwoReaders, two_readers};
 use ds_hub::{
-    Absorb, Hub, NoMemory, Note, Reader, Readers, Slot, Writer, enter_all, leave_all, make,
+    Absorb, Hub, Itself, NoMemory, Note, Reader, Readers, Slot, Writer, enter_all, leave_all, make,
 };
 use std::alloc::Global;
 use std::sync::Wait;
@@ -113,17 +113,28 @@ fn is_left_by_a_drop<R: Wait>(rt: &R, alloc: Global) -> Result<bool, NoMemory> {
     Ok(entered && first && second && seen)
 }
 
-// A slot learns what is published, and tells it on. The writer confirms what it learnt, and what its reader knows at last.
-fn learns<R: Wait>(rt: &R, writer: &mut Writer<u64, Sum>, mut slot: Slot<u64, Sum>) -> Option<u64>
+// A slot learns what is published, and tells it to a reader. The writer confirms what it learnt, and what the reader knows then.
+fn learns<R: Wait>(
+    rt: &R,
+    writer: &mut Writer<u64, Sum>,
+    mut slot: Slot<u64, Sum>,
+    reader: &mut Reader<u64, Sum>,
+) -> Option<u64>
     requires hub { slot.hub ≡ writer.old.hub }
+    requires same { reader.old.hub ≡ writer.old.hub }
     requires idle { writer.old.pending ≡ [] }
 {
     let published = publish_one(rt, writer, 7);
     slot.learn(writer.tell());
-    writer.confirm_note(rt, &slot.tell());
-    let reader = slot.into_reader();
-    let known = confirmed(rt, writer, &reader);
-    if published { Some(known) } else { None }
+    let note = slot.tell();
+    writer.confirm_note(rt, &note);
+    reader.learn(note);
+    let known = confirmed(rt, writer, reader);
+    if published && slot.len() == known {
+        Some(known)
+    } else {
+        None
+    }
 }
 
 // How much a reader knows, which begins what is published.
@@ -139,9 +150,9 @@ fn learnt<R: Wait>(rt: &R, alloc: Global) -> Result<Option<u64>, NoMemory> {
     let TwoReaders {
         mut writer,
         one,
-        two: _two,
+        mut two,
     } = new_hub(rt, alloc)?;
-    Ok(learns(rt, &mut writer.writer, Slot::new(one)))
+    Ok(learns(rt, &mut writer.writer, Slot::new(one), &mut two))
 }
 
 // Takes the last of two readers out, lets it look, and puts it into the place of the first, which goes behind it: how much each place
@@ -196,12 +207,12 @@ impl Absorb<()> for Tally {
     }
 }
 
-// Tells a number by reference and publishes it: the note tells just that.
+// Tells a number by reference, which is copied nowhere, and publishes it: the note tells just that.
 fn tell_one<R: Wait>(rt: &R, writer: &mut Writer<(), Tally>, number: &u64) -> Option<Note<u64>>
     requires { (writer.old.published ≡ []) × (writer.old.pending ≡ []) }
     ensures { IfSome result (λ note. note.list ≡ number.now ∷ []) }
 {
-    if writer.add_told((), number).is_err() {
+    if writer.add_as::<u64, Itself>((), number).is_err() {
         return None;
     }
     writer.take_in_parked(rt);

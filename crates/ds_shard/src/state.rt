@@ -16,13 +16,16 @@ use std::sync::ledger::Ledger;
 const MOST_ENTRIES: u64 = 0x4000_0000_0000_0000;
 
 /// A shard as the state of a hub, which keeps two copies of it: each absorbs the same entries in the same order. It lends no shard, and its
-/// tables on ledgers of its store alone: those that are cut into as many parts as it says.
+/// tables on ledgers of its store alone: those that are cut into as many parts as it says. It knows which shard it is, of how many, so
+/// that its hub takes in entries of this shard alone.
 ///
-/// Contracts see that number, and the shard.
+/// Contracts see that number, its place, and the shard.
 #[derive(Drop)]
 pub struct ShardState {
     shard: Shard,
     ledger: u64,
+    shards: u32,
+    number: u32,
 }
 
 impl Model for ShardState {
@@ -30,22 +33,28 @@ impl Model for ShardState {
 
     ghost Value = { StateParts };
 
-    ghost view = { λ s. record { ledger = s.ledger; shard = s.shard } };
+    ghost view = { λ s. record {
+      ledger = s.ledger;
+      place = record { shards = s.shards; number = s.number };
+      shard = s.shard;
+    } };
 }
 
 impl ShardState {
-    /// The two copies of a shard that has absorbed no entry, with these definitions and a window of 1 to 65,536 stamps, whose seeks and
-    /// look-ups count on ledgers of so many parts. A refusal is lack of memory.
+    /// The two copies of the shard of this number, of so many, that has absorbed no entry, with these definitions and a window of 1 to
+    /// 65,536 stamps, whose seeks and look-ups count on ledgers of so many parts. A refusal is lack of memory.
     pub fn make_both(
         alloc: Global,
         defs: &Defs,
         window: u64,
         ledger: u64,
+        shards: u32,
+        number: u32,
     ) -> Result<(ShardState, ShardState), NoMemory>
         requires least { 1 ≤ window }
         requires most { window ≤ 65536 }
-        ensures first { IfOk result (λ both. both.0 ≡ begun ledger defs.now window) }
-        ensures second { IfOk result (λ both. both.1 ≡ begun ledger defs.now window) }
+        ensures first { IfOk result (λ both. both.0 ≡ begun ledger (record { shards = shards; number = number }) defs.now window) }
+        ensures second { IfOk result (λ both. both.1 ≡ begun ledger (record { shards = shards; number = number }) defs.now window) }
     {
         let first = Shard::make(alloc, defs, window)?;
         let second = Shard::make(alloc, defs, window)?;
@@ -53,10 +62,14 @@ impl ShardState {
             ShardState {
                 shard: first,
                 ledger,
+                shards,
+                number,
             },
             ShardState {
                 shard: second,
                 ledger,
+                shards,
+                number,
             },
         ))
     }
@@ -72,7 +85,7 @@ impl ShardState {
 }
 
 impl Absorb<Entry> for ShardState {
-    ghost use Rattle.ds_shard.specs.States.{state_after};
+    ghost use Rattle.ds_shard.specs.States.{state_after, IsOfShard};
 
     type State = ShardState;
 
@@ -83,6 +96,8 @@ impl Absorb<Entry> for ShardState {
     ghost applied = { state_after };
 
     ghost asks = { λ told. told };
+
+    ghost belongs = { λ start entry. IsOfShard start.place entry };
 
     /// Absorbs the entry. It refuses where memory is wanted, and at a count of 2^62 entries, which is as far away.
     fn absorb(&mut self, entry: &Entry) -> Result<(), NoMemory> {

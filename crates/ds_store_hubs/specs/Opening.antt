@@ -25,7 +25,8 @@ ledger_parts = 1
 abbrev pub hubs_of : OpenedParts → List HubId
 hubs_of opened = map (λ shard. shard.0) opened.shards
 
--- each shard's hub begins with a shard that has absorbed nothing, under the definitions and the window, and is read on these ledgers
+-- each shard's hub begins with the shard of its number, which has absorbed nothing, under the definitions and the window, and is read on
+-- these ledgers
 abbrev pub AreBegun : OpenedParts → Type 0
 AreBegun opened = opened.shards ≡ origins opened.ledger opened.definitions opened.window (hubs_of opened)
 

@@ -1,9 +1,10 @@
 //! The entries of a shard on their way from the journal's commits to the shard's hub.
-ghost use Rattle.std.specs.Prelude.{◌≡◌, ◌+◌, ◌≤◌, ◌++◌, ◌∷◌, [], IfOk, OnOk, MatchOption, length, take};
+ghost use Rattle.std.specs.Prelude.{◌≡◌, ◌+◌, ◌≤◌, ◌++◌, ◌∷◌, [], All, IfOk, IfSome, OnOk, MatchOption, length, take};
 ghost use Rattle.std.specs.VecDeque.{deque_len, deque_capacity};
 ghost use Rattle.ds_base.specs.Limits.{most_shards};
 ghost use Rattle.ds_log.specs.Logs.{shard_list};
 ghost use Rattle.ds_log.specs.UpTo.{commits_of, last_number};
+ghost use Rattle.ds_shard.specs.States.{IsOfShard};
 ghost use Rattle.ds_store_hubs.specs.Rising.{Rises};
 
 use ds_base::NoMemory;
@@ -61,8 +62,8 @@ pub fn take_in(waiting: &mut VecDeque<Entry>, commits: &mut ShardCommits, entrie
     }
 }
 
-/// Publishes what is pending and so many of the entries that wait, the first ones. A refusal is lack of memory; it may then have published
-/// what was pending, and added some.
+/// Publishes what is pending and so many of the entries that wait, the first ones, all of which are of the writer's shard. A refusal is
+/// lack of memory; it may then have published what was pending, and added some.
 ///
 /// Behind an entry that is kept aside when out of memory none is added, so what is pending is then published first.
 pub fn publish_waiting<R: Wait>(
@@ -71,7 +72,8 @@ pub fn publish_waiting<R: Wait>(
     writer: &mut Writer<Entry, ShardState>,
     count: u64,
 ) -> Result<(), NoMemory>
-    requires { count ≤ length waiting.old.items }
+    requires many { count ≤ length waiting.old.items }
+    requires belong { IfSome writer.old.start (λ start. All (IsOfShard start.place) waiting.old.items) }
     ensures same { (writer.new.hub ≡ writer.old.hub) × (writer.new.start ≡ writer.old.start) }
     ensures kept { (writer.new.published ++ writer.new.pending) ++ waiting.new.items ≡ (writer.old.published ++ writer.old.pending) ++
         waiting.old.items }
@@ -100,7 +102,8 @@ fn add_waiting(
     writer: &mut Writer<Entry, ShardState>,
     count: u64,
 ) -> Result<(), NoMemory>
-    requires { count ≤ length waiting.old.items }
+    requires many { count ≤ length waiting.old.items }
+    requires belong { IfSome writer.old.start (λ start. All (IsOfShard start.place) waiting.old.items) }
     ensures same { (writer.new.hub ≡ writer.old.hub) × (writer.new.start ≡ writer.old.start)
         × (writer.new.published ≡ writer.old.published) }
     ensures kept { (writer.new.published ++ writer.new.pending) ++ waiting.new.items ≡ (writer.old.published ++ writer.old.pending) ++
@@ -119,8 +122,9 @@ fn add_waiting(
     Ok(())
 }
 
-/// Adds an entry to what is pending. It comes back where there is no memory.
+/// Adds an entry of its shard to what is pending. It comes back where there is no memory.
 fn added(writer: &mut Writer<Entry, ShardState>, entry: Entry) -> Option<Entry>
+    requires { IfSome writer.old.start (λ start. IsOfShard start.place entry) }
     ensures same { (writer.new.hub ≡ writer.old.hub) × (writer.new.start ≡ writer.old.start)
         × (writer.new.published ≡ writer.old.published) }
     ensures pending { MatchOption result (writer.new.pending ≡ writer.old.pending ++ entry ∷ []) (λ back. (back ≡ entry)

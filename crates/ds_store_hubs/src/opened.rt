@@ -2,8 +2,8 @@
 ghost use Rattle.std.specs.Prelude.{◌≡◌, ◌+◌, ◌≤◌, ◌++◌, ◌∷◌, [], None, Some, length, map, replicate, All, IfOk, MatchOption};
 ghost use Rattle.ds_base.specs.Limits.{first_drawn_id, most_shards};
 ghost use Rattle.ds_hub.specs.Holding.{hub_in};
-ghost use Rattle.ds_shard.specs.States.{begun};
 ghost use Rattle.ds_store_hubs.specs.Opening.{OpenedParts, AreBegun, ledger_parts};
+ghost use Rattle.ds_store_hubs.specs.Origins.{origins_from};
 
 use crate::journal_state::JournalState;
 use ds_base::limits::FIRST_DRAWN_ID;
@@ -171,11 +171,13 @@ fn open_shards<R: Wait, H: Wait + Drop + Copy>(
     requires passes { 1 ≤ passes }
     requires window { (1 ≤ window) × (window ≤ 65536) }
     ensures many { IfOk result (λ opened. length opened.items ≡ shards) }
-    ensures begun { IfOk result (λ opened. All (λ shard. shard.1 ≡ Some (begun ledger_parts defs.now window)) opened.items) }
+    ensures begun { IfOk result (λ opened. opened.items
+        ≡ origins_from ledger_parts shards defs.now window 0 (map (λ shard. shard.0) opened.items)) }
 {
     let mut opened = Vec::with_capacity(alloc, shards as usize)?;
-    for _shard in 0..shards {
-        opened.push(open_shard(rt, handle, alloc, defs, passes, window)?)?;
+    for number in 0..shards {
+        let both = ShardState::make_both(alloc, defs, window, LEDGER_PARTS, shards, number)?;
+        opened.push(open_shard(rt, handle, alloc, both, passes)?)?;
     }
     Ok(opened)
 }
@@ -184,15 +186,14 @@ fn open_shard<R: Wait, H: Wait + Drop>(
     rt: &R,
     handle: H,
     alloc: Global,
-    defs: &Defs,
+    both: (ShardState, ShardState),
     passes: u32,
-    window: u64,
 ) -> Result<OpenedShard<H>, NoMemory>
+    requires alike { both.0 ≡ both.1 }
     requires passes { 1 ≤ passes }
-    requires window { (1 ≤ window) × (window ≤ 65536) }
-    ensures { IfOk result (λ shard. shard.1 ≡ Some (begun ledger_parts defs.now window)) }
+    ensures { IfOk result (λ shard. shard.1 ≡ Some both.0) }
 {
-    let (first, second) = ShardState::make_both(alloc, defs, window, LEDGER_PARTS)?;
+    let (first, second) = both;
     let Hub { writer, readers } = ds_hub::make(rt, alloc, first, second, passes)?;
     Ok(OpenedShard {
         writer: HeldWriter::new(handle, writer),

@@ -1,5 +1,5 @@
 -- The slots of a pass, of which one changes.
-use Rattle.std.proofs.Common.{◌≡◌, ℕ, zero, suc, ◌<◌, List, [], ◌∷◌, length, map, set, get_or, Some, refl, ap, ◌∙◌, sym, arith}
+use Rattle.std.proofs.Common.{◌≡◌, ℕ, zero, suc, ◌+◌, ◌<◌, List, [], ◌∷◌, length, map, set, get_or, Some, refl, ap, ◌∙◌, sym, arith}
 use Rattle.std.specs.Prelude.{slice_get}
 use Rattle.std.proofs.lemmas.List.{map-set, length-map}
 use Rattle.std.proofs.lemmas.Option.{slice_get_within}
@@ -12,7 +12,8 @@ use Rattle.ds_indexdef.specs.declared.IndexDef.{IndexDef}
 use Rattle.ds_log.specs.declared.Entry.{Entry}
 use Rattle.ds_model.specs.Sessions.{count_of, list_of}
 use Rattle.ds_shard.specs.States.{StateParts, begun}
-use Rattle.ds_store_hubs.specs.Origins.{origin_of, origins}
+use Rattle.ds_store_hubs.specs.Origins.{origin_of, origins, origins_from}
+use Rattle.ds_store_hubs.proofs.ShardHubs.{origins-many}
 use Rattle.ds_store_passes.proofs.Growing.{begins_itself, longer_at}
 
 -- what is written at a place stands there
@@ -42,46 +43,75 @@ count_there [] i = refl
 count_there (x ∷ xs) zero = refl
 count_there (x ∷ xs) (suc i) = count_there xs i
 
-module _ {S : Type 0} where
-  -- the slot of a shard is of its hub, which begins where each shard does
-  pub hub_there : (ledger : ℕ) (definitions : List IndexDef) (window : ℕ) (slots : List (Slotted StateParts Entry S)) (hubs : List HubId)
-      (i : ℕ) (hub : HubId)
-      (slot : Slotted StateParts Entry S) → map hub_in slots ≡ origins ledger definitions window hubs → slice_get hubs i ≡ Some hub
-      → slot ≡ get_or slots i slot → hub_in slot ≡ origin_of ledger definitions window hub
-  hub_there ledger definitions window [] [] i hub slot are is at_i = absurd (cc (is))
-  hub_there ledger definitions window [] (h ∷ hs) i hub slot are is at_i = absurd (cc (are))
-  hub_there ledger definitions window (s ∷ ss) [] i hub slot are is at_i = absurd (cc (is))
-  hub_there ledger definitions window (s ∷ ss) (h ∷ hs) zero hub slot are is at_i =
-      let head : hub_in s ≡ origin_of ledger definitions window h = cc (are) in
+module _ {S : Type 0} (ledger shards : ℕ) (definitions : List IndexDef) (window : ℕ) where
+  hub_from : (number : ℕ) (slots : List (Slotted StateParts Entry S)) (hubs : List HubId) (i : ℕ) (hub : HubId)
+      (slot : Slotted StateParts Entry S)
+      → map hub_in slots ≡ origins_from ledger shards definitions window number hubs → slice_get hubs i ≡ Some hub
+      → slot ≡ get_or slots i slot
+      → hub_in slot ≡ origin_of ledger (record { shards = shards; number = number + i }) definitions window hub
+  hub_from number [] [] i hub slot are is at_i = absurd (cc (is))
+  hub_from number [] (h ∷ hs) i hub slot are is at_i = absurd (cc (are))
+  hub_from number (s ∷ ss) [] i hub slot are is at_i = absurd (cc (is))
+  hub_from number (s ∷ ss) (h ∷ hs) zero hub slot are is at_i =
+      let head : hub_in s ≡ origin_of ledger (record { shards = shards; number = number }) definitions window h = cc (are) in
       let same : h ≡ hub = cc (is) in
-      ap hub_in at_i ∙ head ∙ ap (origin_of ledger definitions window) same
-  hub_there ledger definitions window (s ∷ ss) (h ∷ hs) (suc i) hub slot are is at_i =
-      hub_there ledger definitions window ss hs i hub slot (cc (are)) is at_i
+      let first : number ≡ number + 0 = omega arith in
+      ap hub_in at_i ∙ head
+      ∙ (λ k. origin_of ledger (record { shards = shards; number = first k }) definitions window (same k))
+  hub_from number (s ∷ ss) (h ∷ hs) (suc i) hub slot are is at_i =
+      let later : number + 1 + i ≡ number + suc i = omega arith in
+      hub_from (number + 1) ss hs i hub slot (cc (are)) is at_i
+      ∙ ap (λ n. origin_of ledger (record { shards = shards; number = n }) definitions window hub) later
+
+  start_from : (number : ℕ) (slots : List (Slotted StateParts Entry S)) (hubs : List HubId) (i : ℕ) (slot : Slotted StateParts Entry S)
+      → map hub_in slots ≡ origins_from ledger shards definitions window number hubs → i < length slots → slot ≡ get_or slots i slot
+      → slot.start ≡ Some (begun ledger (record { shards = shards; number = number + i }) definitions window)
+  start_from number [] hubs i slot are lt is = absurd (omega (arith, lt))
+  start_from number (s ∷ ss) [] i slot are lt is = absurd (cc (are))
+  start_from number (s ∷ ss) (h ∷ hs) zero slot are lt is =
+      let head : hub_in s ≡ origin_of ledger (record { shards = shards; number = number }) definitions window h = cc (are) in
+      let first : number ≡ number + 0 = omega arith in
+      ap (λ o. o.1) (ap hub_in is ∙ head)
+      ∙ ap (λ n. Some (begun ledger (record { shards = shards; number = n }) definitions window)) first
+  start_from number (s ∷ ss) (h ∷ hs) (suc i) slot are lt is =
+      let later : number + 1 + i ≡ number + suc i = omega arith in
+      start_from (number + 1) ss hs i slot (cc (are)) (omega (arith, lt)) is
+      ∙ ap (λ n. Some (begun ledger (record { shards = shards; number = n }) definitions window)) later
+
+-- the slot of a shard is of its hub, which begins with the shard of that number
+pub hub_there : {S : Type 0} (ledger : ℕ) (definitions : List IndexDef) (window : ℕ) (slots : List (Slotted StateParts Entry S))
+    (hubs : List HubId) (i : ℕ) (hub : HubId)
+    (slot : Slotted StateParts Entry S) → map hub_in slots ≡ origins ledger definitions window hubs → slice_get hubs i ≡ Some hub
+    → slot ≡ get_or slots i slot
+    → hub_in slot ≡ origin_of ledger (record { shards = length hubs; number = i }) definitions window hub
+hub_there ledger definitions window slots hubs i hub slot are is at_i =
+    let same : 0 + i ≡ i = omega arith in
+    hub_from ledger (length hubs) definitions window 0 slots hubs i hub slot are is at_i
+    ∙ ap (λ n. origin_of ledger (record { shards = length hubs; number = n }) definitions window hub) same
 
 -- and begins with a shard that has absorbed nothing
 pub start_there : {S : Type 0} (ledger : ℕ) (definitions : List IndexDef) (window : ℕ) (slots : List (Slotted StateParts Entry S))
     (hubs : List HubId) (i : ℕ)
     (slot : Slotted StateParts Entry S) → map hub_in slots ≡ origins ledger definitions window hubs → i < length slots
-    → slot ≡ get_or slots i slot → slot.start ≡ Some (begun ledger definitions window)
-start_there ledger definitions window [] hubs i slot are lt is = absurd (omega (arith, lt))
-start_there ledger definitions window (s ∷ ss) [] i slot are lt is = absurd (cc (are))
-start_there ledger definitions window (s ∷ ss) (h ∷ hs) zero slot are lt is =
-    let head : hub_in s ≡ origin_of ledger definitions window h = cc (are) in ap (λ o. o.1) (ap hub_in is ∙ head)
-start_there ledger definitions window (s ∷ ss) (h ∷ hs) (suc i) slot are lt is =
-    start_there ledger definitions window ss hs i slot (cc (are)) (omega (arith, lt)) is
+    → slot ≡ get_or slots i slot
+    → slot.start ≡ Some (begun ledger (record { shards = length hubs; number = i }) definitions window)
+start_there ledger definitions window slots hubs i slot are lt is =
+    let same : 0 + i ≡ i = omega arith in
+    start_from ledger (length hubs) definitions window 0 slots hubs i slot are lt is
+    ∙ ap (λ n. Some (begun ledger (record { shards = length hubs; number = n }) definitions window)) same
 
--- where a shard has a hub, a pass has a slot
+-- there are as many slots as hubs
+pub slots_many : {S : Type 0} (ledger : ℕ) (definitions : List IndexDef) (window : ℕ) (slots : List (Slotted StateParts Entry S))
+    (hubs : List HubId) → map hub_in slots ≡ origins ledger definitions window hubs → length slots ≡ length hubs
+slots_many ledger definitions window slots hubs are =
+    sym (length-map slots hub_in) ∙ ap length are ∙ origins-many ledger (length hubs) definitions window 0 hubs
+
+-- so where a shard has a hub, a pass has a slot
 pub slot_within : {S : Type 0} (ledger : ℕ) (definitions : List IndexDef) (window : ℕ) (slots : List (Slotted StateParts Entry S))
     (hubs : List HubId) (i : ℕ)
     (hub : HubId) → map hub_in slots ≡ origins ledger definitions window hubs → slice_get hubs i ≡ Some hub → i < length slots
 slot_within ledger definitions window slots hubs i hub are is =
-    omega (
-      arith,
-      slice_get_within hubs i hub is,
-      length-map slots hub_in,
-      length-map hubs (origin_of ledger definitions window),
-      ap length are,
-    )
+    omega (arith, slice_get_within hubs i hub is, slots_many ledger definitions window slots hubs are)
 
 module _ {T S : Type 0} where
   -- its list is the pass's of its shard, and as long as the pass's count

@@ -47,7 +47,7 @@ fn shard_desk<J: Names, H: Wait + Drop>(
     journal: Reader<(), JournalState>,
 ) -> ShardDesk<J, H>
     requires hub { slice_get J.shards number ≡ Some opened.0 }
-    requires begun { opened.1 ≡ Some (begun J.ledger J.definitions J.window) }
+    requires begun { opened.1 ≡ Some (begun J.ledger (record { shards = shards; number = number }) J.definitions J.window) }
     requires journal { (journal.hub ≡ J.journal) × (journal.known ≡ []) }
     requires many { (shards ≡ length J.shards) × (1 ≤ shards) × (shards ≤ most_shards) }
 {

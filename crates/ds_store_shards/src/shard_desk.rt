@@ -39,7 +39,8 @@ pub struct ShardDesk<J: Names, H: Wait + Drop> {
     /// The store's names.
     pub of: PhantomData<J>,
     pub ghost of_shard: { slice_get J.shards number ≡ Some writer.writer.hub },
-    pub ghost begun: { writer.writer.start ≡ Some (begun J.ledger J.definitions J.window) },
+    pub ghost begun: { writer.writer.start
+        ≡ Some (begun J.ledger (record { shards = shards; number = number }) J.definitions J.window) },
     pub ghost of_journal: { journal.hub ≡ J.journal },
     pub ghost of_all: { (shards ≡ length J.shards) × (1 ≤ shards) × (shards ≤ 16) },
     pub ghost list: { (writer.writer.published ++ writer.writer.pending) ++ waiting.items ≡ shard_list journal.known number shards },

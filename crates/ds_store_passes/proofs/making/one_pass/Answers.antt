@@ -1,13 +1,12 @@
 use Rattle.std.proofs.Common.{◌<◌, ◌≤◌, ℕ, List, [], length, replicate, ap, sym, subst, ◌∙◌, arith}
 use Rattle.std.specs.Prelude.{All, Option}
-use Rattle.std.proofs.lemmas.List.{length-map}
 use Rattle.std.proofs.lemmas.List.Elements.{All-nil}
 use Rattle.ds_base.specs.Limits.{first_drawn_id}
 use Rattle.ds_draw.specs.Draws.{SeatView, new_seat}
 use Rattle.ds_hub.specs.Line.{HubId}
 use Rattle.ds_log.specs.declared.Entry.{Entry}
 use Rattle.ds_shard.specs.States.{StateParts}
-use Rattle.ds_store_hubs.specs.Origins.{origin_of}
+use Rattle.ds_store_hubs.proofs.ShardHubs.{origins-many}
 use Rattle.ds_store_passes.specs.Passes.{OwnSeen}
 use Rattle.ds_store_passes.proofs.making.one_pass.Goals as goal
 
@@ -49,7 +48,7 @@ returns-clause-pass g c =
     let own = c.in_ok-commits.ensures.seat (new_seat g.J.Names.commits 1) c.requires.commits in
     let drawn = c.in_ok-ids.ensures.seat (new_seat g.J.Names.ids first_drawn_id) c.requires.ids in
     let many = ap (λ (os : List (HubId × Option StateParts)). length os) c.requires.shards
-    ∙ length-map g.J.Names.shards (origin_of g.J.Names.ledger g.J.Names.definitions g.J.Names.window) in
+    ∙ origins-many g.J.Names.ledger (length g.J.Names.shards) g.J.Names.definitions g.J.Names.window 0 g.J.Names.shards in
     let none : List Entry = [] in
     let lists = c.in_ok-shards.ensures.known ∙ ap (λ n. replicate n none) many in
     λ i. record {

@@ -11,7 +11,7 @@ publish_as-requires g c =
     let log = sym (queued-none c.let_in.new.copies.log c.let_in.result (sym c.is_some.ensures ∙ c.if-is_some.false))
     ∙ (c.let_in.ensures.queued ∙ ap (λ p. queued w.copies.log p) c.take-parked.ensures.value) in
     rw (log, same.0, same.1, same.2)
-    (λ next is. publishes g.S.Absorb.asks g.S.Absorb.applied g.S.Absorb.state w.head w.copies.knows w.copies.shown (queued w.copies.log w.parked) w.announced w.waiting w.copies.seat c.self.invariant next is)
+    (λ next is. publishes g.S.Absorb.asks g.S.Absorb.applied g.S.Absorb.belongs g.S.Absorb.state w.head w.copies.knows w.copies.shown (queued w.copies.log w.parked) w.announced w.waiting w.copies.seat c.self.invariant next is)
 
 pub invariant_of-self : goal.invariant_of-self
 invariant_of-self g c =
@@ -31,7 +31,7 @@ invariant_of-self-in-Ok g c =
     let ok = rw (log, same.1, same.2) at c.in-Ok.ensures.ok in
     let is = ok.0 ∙ taken g.S.Absorb.asks g.S.Absorb.applied (g.S.Absorb.state w.copies.shown.state) w.copies.shown.prefix queue _ c.self.invariant.marked in
     rw (queued-none c.publish_as.new.self.log c.let_in.result none, ok.1)
-    (runs_published g.S.Absorb.asks g.S.Absorb.applied w.head w.copies.knows _ _ _ w.copies.shown.prefix _ w.announced queue w.waiting c.self.invariant (ap (λ p. p.1) is) ok.2.0 ok.2.1)
+    (runs_published g.S.Absorb.asks g.S.Absorb.applied g.S.Absorb.belongs w.head w.copies.knows _ _ _ w.copies.shown.prefix _ w.announced queue w.waiting c.self.invariant (ap (λ p. p.1) is) ok.2.0 ok.2.1)
 
 pub returns-in-Ok-clause-lists : goal.returns-in-Ok-clause-lists
 returns-in-Ok-clause-lists g c =

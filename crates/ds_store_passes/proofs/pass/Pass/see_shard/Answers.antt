@@ -1,9 +1,15 @@
-use Rattle.std.proofs.Common.{Some, ap, sym, subst, ◌∙◌}
+use Rattle.std.proofs.Common.{Some, ap, sym, subst, ◌∙◌, arith}
 use Rattle.std.proofs.lemmas.List.{map-set}
 use mathlib.Core.List.{IsPrefix}
 use Rattle.ds_hub.specs.Holding.{hub_in, known_in}
 use Rattle.ds_store_passes.proofs.SlotLists.{hub_there, hubs_stay, lists_grow, list_written, slot_within}
 use Rattle.ds_store_passes.proofs.pass.Pass.see_shard.Goals as goal
+
+pub index_mut-requires : goal.index_mut-requires
+index_mut-requires g c =
+    let within = slot_within g.J.Names.ledger g.J.Names.definitions g.J.Names.window c.self.inside.shards.items g.J.Names.shards c.args.shard
+    c.args.writer.now.hub c.self.invariant.1 c.requires.hub in
+    omega (arith, within, c.self.inside.shards.ok.0)
 
 pub see_shard_in-requires : goal.see_shard_in-requires
 see_shard_in-requires g c =

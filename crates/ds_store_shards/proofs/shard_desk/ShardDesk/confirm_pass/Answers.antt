@@ -1,7 +1,14 @@
-use Rattle.std.proofs.Common.{ap, sym, subst, ◌∙◌}
+use Rattle.std.proofs.Common.{ap, sym, subst, ◌∙◌, arith}
 use mathlib.Core.List.{IsPrefix}
 use Rattle.ds_store_passes.proofs.SlotLists.{hub_there, list_there, slot_within}
 use Rattle.ds_store_shards.proofs.shard_desk.ShardDesk.confirm_pass.Goals as goal
+
+pub index-slot-requires : goal.index-slot-requires
+index-slot-requires g c =
+    let shard = c.args.self.now in
+    let within = slot_within g.J.Names.ledger g.J.Names.definitions g.J.Names.window c.pass.inside.shards.items g.J.Names.shards
+    shard.number shard.writer.writer.hub c.pass.invariant.1 shard.of_shard in
+    omega (arith, within, c.pass.inside.shards.ok.0)
 
 pub confirm_note-requires : goal.confirm_note-requires
 confirm_note-requires g c =
