@@ -10,13 +10,17 @@ use Rattle.ds_base.specs.Least.{least_of}
 use Rattle.ds_entity.specs.Entities.{EntityParts}
 use Rattle.ds_bytes.specs.Rows.{RowParts}
 use Rattle.ds_query.specs.declared.branch.Branch.{Branch}
+use Rattle.ds_query.specs.declared.branch.Normal.{Normal}
+use Rattle.ds_query.specs.declared.branch.Window.{Window}
 use Rattle.ds_query.specs.declared.row.Place.{Place}
 use Rattle.ds_planner.specs.Parts.{branch_of_part, parts}
 use Rattle.ds_rows.specs.Versions.{entities_at}
-use Rattle.ds_branch.specs.BoundSums.{Asked, BoundsAddUp, bound_at, bound_of_all}
+use Rattle.ds_branch.specs.BoundSums.{Asked, BoundsAddUp, bound_at, bound_of_all, bound_over}
 use Rattle.ds_pages.specs.Pages.{is_between, is_up_to}
 use Rattle.ds_model.specs.Bounds.{given, least, part_rows, stop_at}
 use Rattle.ds_model.specs.Rows.{place_of, rows}
+use Rattle.ds_engine.specs.Searches.{search_bound}
+use Rattle.ds_engine.specs.Snapshots.{SnapshotParts, asked_in}
 
 least-le : {X : Type 0} (f h : X → ℕ) (xs : List X) → ((x : X) → f x ≤ h x) → least_of (map f xs) ≤ least_of (map h xs)
 least-le f h [] less = omega arith
@@ -68,6 +72,25 @@ sum-le f h (x ∷ xs) less =
     let first = less x in
     let rest = sum-le f h xs less in
     omega (arith, one, two, first, rest)
+
+-- and of all branches over all shards
+pub search-le : (n : Normal) (w : Window) (most : Option ℕ) (snapshots : List SnapshotParts)
+    → search_bound n w most snapshots ≤ search_bound n w None snapshots
+search-le n w most snapshots =
+    sum-le (bound_over w.start w.end most (map asked_in snapshots)) (bound_over w.start w.end None (map asked_in snapshots)) n.branches
+    (λ q. sum-le (bound_at q w.start w.end most) (bound_at q w.start w.end None) (map asked_in snapshots) (bound-le q w.start w.end most))
+
+-- Steps that were within the bound of the scans, each given row having taken one, and then a look-up for some of these rows.
+pub doubled : (n : Normal) (w : Window) (most : Option ℕ) (snapshots : List SnapshotParts) (start scanned rows new : ℕ)
+    → scanned ≤ start + search_bound n w most snapshots → start + rows ≤ scanned → new ≤ scanned + rows
+    → new ≤ start + 2 * search_bound n w None snapshots
+doubled n w most snapshots start scanned rows new within each looked =
+    let fewer = search-le n w most snapshots in
+    omega (arith, within, each, looked, fewer)
+
+-- and where nothing was looked up
+pub once : (start new bound : ℕ) → new ≤ start + bound → new ≤ start + 2 * bound
+once start new bound within = omega (arith, within)
 
 -- ---- loops whose items take steps
 

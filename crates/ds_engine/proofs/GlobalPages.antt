@@ -13,20 +13,17 @@ use Rattle.ds_query.specs.declared.branch.Branch.{Branch}
 use Rattle.ds_query.specs.declared.branch.Normal.{Normal}
 use Rattle.ds_query.specs.declared.branch.Window.{Window}
 use Rattle.ds_query.specs.declared.row.Place.{Place}
-use Rattle.ds_hub.specs.Growing.{AreLonger}
-use Rattle.ds_log.specs.declared.Commit.{Commit}
 use Rattle.ds_log.specs.declared.Entry.{Entry}
 use Rattle.ds_shard.specs.Shards.{EntriesAreKept, floor_of}
 use Rattle.ds_model.specs.ByKey.{left_by, shard_views}
 use Rattle.ds_pages.specs.Pages.{Page}
 use Rattle.ds_model.specs.Results.{items_of, result}
 use Rattle.ds_model.specs.Views.{global_view}
-use Rattle.ds_model.specs.Worlds.{shard_lists}
 use Rattle.ds_model.proofs.ResultOrder.{items_sorted, result_sorted}
-use Rattle.ds_model.proofs.ShardViews.{views_differ, views_items, views_result}
+use Rattle.ds_model.proofs.ShardViews.{AreOwn, own_differ, own_items, own_result}
 use Rattle.ds_engine.specs.Searches.{AreOfShards, IsResultOf, all_entities}
 use Rattle.ds_engine.specs.Snapshots.{SnapshotParts, entities_in, newest, snapshot_of}
-use Rattle.ds_engine.proofs.Lists.{all_left, all_left-longer, global-longer, own_shards}
+use Rattle.ds_engine.proofs.Lists.{all_left, all_left-views, left, left_own_shards}
 
 floor-le : (window count : ℕ) → 1 ≤ window → floor_of window count ≤ count
 floor-le window count some = by (nat_lt count window) refl where
@@ -70,31 +67,27 @@ found_over n w es fs results next same items found = record {
       ∙ items q.select)
       (each qs (All-tail (λ (b : Branch). results ≡ items_of n.merged b.select es (result n w es).rows) q qs all))
 
--- In each journal whose shards' lists begin with those that the shards absorbed.
+-- Where the entries that the shards absorbed are of their shards.
 pub found_globally : EntriesAreKept → (definitions : List IndexDef) (window : ℕ) → 1 ≤ window → (lists : List (List Entry))
     (snapshots : List SnapshotParts) → snapshots ≡ newest definitions window lists
     → (n : Normal) (w : Window) (results : List Item) (next : Option Place)
     → (AreOfShards (length (map entities_in snapshots)) 0 (map entities_in snapshots)
     → IsResultOf n w (all_entities (map entities_in snapshots)) results next)
-    → (shards : ℕ) (journal : List Commit) → shards ≡ length lists → AreLonger lists (shard_lists shards journal)
-    → IsResultOf n w (global_view lists (map length lists)) results next
-found_globally kept definitions window some lists snapshots are n w results next found shards journal many longer =
+    → AreOwn (length lists) 0 lists → IsResultOf n w (global_view lists (map length lists)) results next
+found_globally kept definitions window some lists snapshots are n w results next found own =
+    let shards : ℕ = length lists in
+    let counts : List ℕ = map length lists in
     let views : map entities_in snapshots ≡ all_left lists =
     ap (map entities_in) are ∙ newest_views kept definitions window some lists in
-    let counts : List ℕ = map length lists in
-    let es : List EntityParts = shard_views (shard_lists shards journal) counts in
-    let global : List EntityParts = global_view (shard_lists shards journal) counts in
-    let own : AreOfShards (length (map entities_in snapshots)) 0 (map entities_in snapshots) =
+    let es : List EntityParts = shard_views lists counts in
+    let global : List EntityParts = global_view lists counts in
+    let of_shards : AreOfShards (length (map entities_in snapshots)) 0 (map entities_in snapshots) =
     subst (λ vs. AreOfShards (length vs) 0 vs) (sym views)
-    (subst (λ m. AreOfShards m 0 (all_left lists)) (many ∙ sym (length-map lists (λ entries. left_by entries (length entries))))
-    (own_shards shards journal lists longer)) in
-    let same : result n w es ≡ result n w global =
-    sym (result_sorted n w es) ∙ views_result journal shards counts n w in
+    (subst (λ m. AreOfShards m 0 (all_left lists)) (sym (length-map lists left)) (left_own_shards shards 0 lists own)) in
+    let same : result n w es ≡ result n w global = sym (result_sorted n w es) ∙ own_result shards lists counts own n w in
     let items : (selected : Select)
     → items_of n.merged selected es (result n w global).rows ≡ items_of n.merged selected global (result n w global).rows =
-    λ selected. sym (items_sorted n.merged selected es (result n w global).rows (views_differ journal shards counts))
-    ∙ views_items journal shards counts n.merged selected (result n w global).rows in
-    subst (λ vs. IsResultOf n w vs results next) (sym (global-longer lists (shard_lists shards journal) longer))
-    (found_over n w es global results next same items
-    (subst (λ vs. IsResultOf n w vs results next) (ap all_entities views ∙ all_left-longer lists (shard_lists shards journal) longer)
-    (found own)))
+    λ selected. sym (items_sorted n.merged selected es (result n w global).rows (own_differ shards lists counts own))
+    ∙ own_items shards lists counts own n.merged selected (result n w global).rows in
+    found_over n w es global results next same items
+    (subst (λ vs. IsResultOf n w vs results next) (ap all_entities views ∙ all_left-views lists) (found of_shards))

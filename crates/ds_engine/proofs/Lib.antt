@@ -1,4 +1,5 @@
 pub mod Apart
+pub mod FewRows
 pub mod FewerSteps
 pub mod GlobalPages
 pub mod GroupPages

@@ -21,7 +21,7 @@ use Rattle.ds_base.specs.Sorting.{sorted_by}
 use Rattle.ds_pages.specs.Pages.{last_of, page_of, plus_limit, with_places}
 use Rattle.ds_pages.specs.Places.{compare_rows}
 use Rattle.ds_pages.specs.declared.row_page.RowPage.{RowPage}
-use Rattle.ds_branch.specs.BoundSums.{bound_of_all}
+use Rattle.ds_branch.specs.BoundSums.{bound_at, bound_of_all}
 use Rattle.ds_model.specs.Bounds.{given}
 use Rattle.ds_model.specs.Results.{items_of, item_of, result}
 use Rattle.ds_engine.specs.Snapshots.{SnapshotParts, asked_in, entities_in}
@@ -90,9 +90,13 @@ shard_rows n w entities = flat_map (branch_rows n w entities) n.branches
 abbrev pub rows_of_shards : Normal → Window → List (List EntityParts) → List RowParts
 rows_of_shards n w = flat_map (shard_rows n w)
 
--- what one branch gives of these shards
+-- what one branch gives of a shard as it stands
+abbrev pub given_in : Normal → Window → Branch → SnapshotParts → List RowParts
+given_in n w q s = given q w.start w.end (most_of n w) (entities_in s)
+
+-- what it gives of these shards
 abbrev pub given_over : Normal → Window → Branch → List SnapshotParts → List RowParts
-given_over n w q = flat_map (λ s. given q w.start w.end (most_of n w) (entities_in s))
+given_over n w q = flat_map (given_in n w q)
 
 -- the page of rows in any order, of which each is a result of its own
 abbrev pub page_in_order : List Column → Window → List RowParts → RowPage
@@ -119,6 +123,10 @@ abbrev pub look_ups : Select → ℕ → ℕ
 look_ups select.Entities results = results
 look_ups select.Keys results = 0
 look_ups (select.Projection names) results = 0
+
+-- the most steps of the answer of one branch in one shard
+abbrev pub bound_in : Window → Option ℕ → Branch → SnapshotParts → ℕ
+bound_in w most q s = bound_at q w.start w.end most (asked_in s)
 
 -- the most steps of the answers of all branches over all shards
 abbrev pub search_bound : Normal → Window → Option ℕ → List SnapshotParts → ℕ

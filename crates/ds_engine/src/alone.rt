@@ -1,82 +1,47 @@
 //! A query of one branch over one shard.
-ghost use Rattle.std.specs.Prelude.{◌≡◌, ◌+◌, ◌≤◌, List, drop, false, map, None, IfOk, OnOk};
+ghost use Rattle.std.specs.Prelude.{◌≡◌, ◌+◌, ◌≤◌, List, drop, false, length, map, None, IfOk, OnErr, OnOk};
 ghost use Rattle.ds_base.specs.declared.column.Column.{Column};
 ghost use Rattle.ds_query.specs.Lawful.{IsLawfulBranch};
 ghost use Rattle.ds_query.specs.declared.row.Row.{Row};
 ghost use Rattle.ds_pages.specs.Pages.{last_of};
 ghost use Rattle.ds_pages.specs.Places.{placed};
-ghost use Rattle.ds_model.specs.Bounds.{given};
 ghost use Rattle.ds_branch.specs.Behind.{IsCollected};
-ghost use Rattle.ds_branch.specs.BoundSums.{bound_at};
 ghost use Rattle.ds_engine.specs.Plans.{IsPlanFor};
-ghost use Rattle.ds_engine.specs.Searches.{IsCutOf, most_of};
-ghost use Rattle.ds_engine.specs.Snapshots.{asked_in, entities_in};
+ghost use Rattle.ds_engine.specs.Searches.{IsCutOf, bound_in, given_in, most_of};
 
-use crate::rows::most_of;
+use crate::planned::PlannedQuery;
 use crate::snapshot::ShardSnapshot;
 use ds_base::{NoMemory, TryCopy};
 use ds_branch::RowsBehind;
-use ds_indexdef::Defs;
 use ds_io::Steps;
 use ds_pages::RowPage;
 use ds_planner::ScanPlan;
-use ds_query::{Branch, Normal, Place, RowList, Window};
+use ds_query::{Branch, Place, RowList, Window};
 use std::alloc::Global;
 use std::sync::ledger::Ledger;
 
 /// The page of a branch's results in one shard: these come in their order, each once, so no row is compared with another one, and those
-/// before the offset are counted and not kept. A refusal means out of memory.
+/// before the offset are counted and not kept. Each row of the page took a step. A refusal means out of memory.
 pub(crate) fn page_alone<L: Ledger>(
     alloc: Global,
     snapshot: &ShardSnapshot<'_, L>,
-    normal: &Normal,
-    window: &Window,
-    defs: &Defs,
+    query: &PlannedQuery<'_>,
     branch: &Branch,
     plan: &ScanPlan,
     steps: &mut Steps<L>,
 ) -> Result<RowPage, NoMemory>
     requires lawful { IsLawfulBranch branch.now }
-    requires definitions { defs.now ≡ snapshot.now.shard.definitions }
-    requires plan { IsPlanFor defs.now branch.now plan.now }
-    ensures page { IfOk result (IsCutOf window.now (map (placed branch.now.columns)
-        (given branch.now window.now.start window.now.end (most_of normal.now window.now) (entities_in snapshot.now)))) }
-    ensures steps { OnOk result (steps.new ≤ steps.old + bound_at branch.now window.now.start window.now.end
-        (most_of normal.now window.now) (asked_in snapshot.now)) }
+    requires definitions { query.now.defs.now ≡ snapshot.now.shard.definitions }
+    requires plan { IsPlanFor query.now.defs.now branch.now plan.now }
+    ensures page { IfOk result (IsCutOf query.now.window.now (map (placed branch.now.columns)
+        (given_in query.now.normal.now query.now.window.now branch.now snapshot.now))) }
+    ensures steps { OnOk result (steps.new ≤ steps.old
+        + bound_in query.now.window.now (most_of query.now.normal.now query.now.window.now) branch.now snapshot.now) }
+    ensures refused { OnErr result (steps.new ≤ steps.old + bound_in query.now.window.now None branch.now snapshot.now) }
+    ensures a_step_for_each { IfOk result (λ page. steps.old + length page.rows ≤ steps.new) }
 {
-    let most = most_of(normal, window);
-    let skip = window.offset;
-    let found = rows_behind(
-        alloc, snapshot, window, defs, branch, plan, most, skip, false, steps,
-    )?;
-    page_of(alloc, found, window)
-}
-
-/// The first results of the branch in the shard, those behind the first `skip`, and if asked for the places of all.
-pub(crate) fn rows_behind<L: Ledger>(
-    alloc: Global,
-    snapshot: &ShardSnapshot<'_, L>,
-    window: &Window,
-    defs: &Defs,
-    branch: &Branch,
-    plan: &ScanPlan,
-    most: Option<u64>,
-    skip: u32,
-    places: bool,
-    steps: &mut Steps<L>,
-) -> Result<RowsBehind, NoMemory>
-    requires lawful { IsLawfulBranch branch.now }
-    requires definitions { defs.now ≡ snapshot.now.shard.definitions }
-    requires plan { IsPlanFor defs.now branch.now plan.now }
-    ensures rows { IfOk result (IsCollected branch.now.columns skip places (map (placed branch.now.columns)
-        (given branch.now window.now.start window.now.end most (entities_in snapshot.now)))) }
-    ensures steps { OnOk result (steps.new ≤ steps.old + bound_at branch.now window.now.start window.now.end most (asked_in snapshot.now)) }
-{
-    let start = window.start.as_ref();
-    let end = window.end.as_ref();
-    snapshot.answer_behind(
-        alloc, branch, defs, plan, start, end, most, skip, places, steps,
-    )
+    let found = snapshot.answer_behind(alloc, query, branch, plan, steps)?;
+    page_of(alloc, found, query.window)
 }
 
 /// The page of what was collected.

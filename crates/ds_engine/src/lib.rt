@@ -5,10 +5,10 @@
 //!
 //! A `ShardSnapshot` is a shard at one of the stamps that it keeps. `search` answers a query from the indexes of several snapshots: each
 //! gives its own results, as many as a page may need, and their page is that of the query over the entities of all; `search_wide` scans
-//! all at once. `plans_of` plans each branch once for all shards. `query_slots` enters the shards of a reader for a query without an
+//! all at once. `plans_of` plans each branch once for all shards, and a `PlannedQuery` hands query, page and plans down to the scans. `query_slots` enters the shards of a reader for a query without an
 //! ancestor, and `query_slot` searches the one shard of an ancestor's group.
 //!
-//! Begin with `specs/Searches`, then `searching`. `planning` has the plans, `snapshot` a shard at a stamp, `rows` what a shard gives,
+//! Begin with `specs/Searches`, then `searching`. `planned` has what is handed down, `planning` the plans, `snapshot` a shard at a stamp, `rows` what a shard gives,
 //! `alone` the page where one branch is asked of one shard, `over_shards` that where it is asked of several (which put the places of rows
 //! in order, and read those of the page alone), `items` what is told of each result, and `wide` the scans that run at once; `slots` and
 //! `group` are the calls of the store (`entered` what both ask of a slot), whose promises are in `specs/Counted` and `specs/Groups`.
@@ -27,6 +27,7 @@ mod entered;
 mod group;
 mod items;
 mod over_shards;
+mod planned;
 mod planning;
 mod rows;
 mod searching;
@@ -38,8 +39,9 @@ pub use answer::Answer;
 pub use ds_branch::EngineRefused;
 pub use entered::shard_in;
 pub use group::{GroupFound, query_slot};
+pub use planned::PlannedQuery;
 pub use planning::plans_of;
 pub use searching::{Found, search};
 pub use slots::{query_slots, query_slots_wide};
 pub use snapshot::ShardSnapshot;
-pub use wide::search_wide;
+pub use wide::{AtOnce, search_wide};

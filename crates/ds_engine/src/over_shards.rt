@@ -1,5 +1,5 @@
 //! A query of one branch over several shards.
-ghost use Rattle.std.specs.Prelude.{◌≡◌, ◌+◌, ◌≤◌, ℕ, List, All, drop, map, sum_by, IfOk, OnOk};
+ghost use Rattle.std.specs.Prelude.{◌≡◌, ◌+◌, ◌≤◌, List, All, None, length, map, sum_by, IfOk, OnErr, OnOk};
 ghost use Rattle.ds_base.specs.KeyOrder.{bytes_cmp};
 ghost use Rattle.ds_base.specs.Sorting.{sorted_by};
 ghost use Rattle.ds_bytes.specs.Rows.{RowParts};
@@ -8,63 +8,46 @@ ghost use Rattle.ds_query.specs.Lawful.{IsLawfulBranch};
 ghost use Rattle.ds_pages.specs.Pages.{at_most, plus_limit};
 ghost use Rattle.ds_pages.specs.Places.{placed};
 ghost use Rattle.ds_branch.specs.Behind.{ArePlaces};
-ghost use Rattle.ds_branch.specs.BoundSums.{bound_at};
 ghost use Rattle.ds_engine.specs.Plans.{IsPlanFor};
-ghost use Rattle.ds_engine.specs.Searches.{given_over, last_at, most_of, page_in_order};
-ghost use Rattle.ds_engine.specs.Snapshots.{asked_in};
+ghost use Rattle.ds_engine.specs.Searches.{bound_in, given_over, last_at, most_of, page_in_order};
 
-use crate::alone::rows_behind;
-use crate::rows::most_of;
+use crate::planned::PlannedQuery;
 use crate::snapshot::ShardSnapshot;
 use ds_base::{ByteString, Column, NoMemory, TryCopy};
 use ds_branch::row_of;
-use ds_indexdef::Defs;
 use ds_io::Steps;
 use ds_pages::RowPage;
 use ds_planner::ScanPlan;
-use ds_query::{Branch, Normal, Place, Row, RowList, Window};
+use ds_query::{Branch, Place, Row, RowList, Window};
 use std::alloc::Global;
 use std::sync::ledger::Ledger;
 
 /// The page of a branch's results in shards. Each shard gives the places of its first results, as many as the page skips or takes; they are
-/// put in order, and the rows of the page alone are read. A refusal means out of memory.
+/// put in order, and the rows of the page alone are read, each of which took a step. A refusal means out of memory.
 pub(crate) fn page_over_shards<L: Ledger>(
     alloc: Global,
     snapshots: &[ShardSnapshot<'_, L>],
-    normal: &Normal,
-    window: &Window,
-    defs: &Defs,
+    query: &PlannedQuery<'_>,
     branch: &Branch,
     plan: &ScanPlan,
     steps: &mut Steps<L>,
 ) -> Result<RowPage, NoMemory>
     requires lawful { IsLawfulBranch branch.now }
-    requires definitions { All (λ s. defs.now ≡ s.shard.definitions) snapshots.now }
-    requires plan { IsPlanFor defs.now branch.now plan.now }
-    ensures page { IfOk result (λ page. page ≡ page_in_order branch.now.columns window.now
-        (given_over normal.now window.now branch.now snapshots.now)) }
-    ensures steps { OnOk result (steps.new ≤ steps.old + sum_by (λ s. bound_at branch.now window.now.start window.now.end
-        (most_of normal.now window.now) (asked_in s)) snapshots.now) }
+    requires definitions { All (λ s. query.now.defs.now ≡ s.shard.definitions) snapshots.now }
+    requires plan { IsPlanFor query.now.defs.now branch.now plan.now }
+    ensures page { IfOk result (λ page. page ≡ page_in_order branch.now.columns query.now.window.now
+        (given_over query.now.normal.now query.now.window.now branch.now snapshots.now)) }
+    ensures steps { OnOk result (steps.new ≤ steps.old + sum_by
+        (bound_in query.now.window.now (most_of query.now.normal.now query.now.window.now) branch.now) snapshots.now) }
+    ensures refused { OnErr result (steps.new ≤ steps.old + sum_by (bound_in query.now.window.now None branch.now) snapshots.now) }
+    ensures a_step_for_each { IfOk result (λ page. steps.old + length page.rows ≤ steps.new) }
 {
-    let most = most_of(normal, window);
     let mut places = Vec::new(alloc);
     for snapshot in snapshots {
-        let found = rows_behind(
-            alloc,
-            snapshot,
-            window,
-            defs,
-            branch,
-            plan,
-            most,
-            u32::MAX,
-            true,
-            steps,
-        )?;
-        let mut list = found.places;
+        let mut list = snapshot.places(alloc, query, branch, plan, steps)?;
         places.append(&mut list)?;
     }
-    page_of_places(alloc, branch.columns.as_slice(), window, places)
+    page_of_places(alloc, branch.columns.as_slice(), query.window, places)
 }
 
 /// The page of rows whose places these are, in any order.

@@ -1,30 +1,27 @@
 //! A query over all shards, as readers see them that wait for nobody.
-ghost use Rattle.std.specs.Prelude.{◌≡◌, ◌+◌, ◌≤◌, All, IsTrue, map, length, IfOk, OnOk};
+ghost use Rattle.std.specs.Prelude.{◌≡◌, ◌+◌, ◌*◌, ◌≤◌, All, IsTrue, None, map, length, IfOk, OnOk};
 ghost use Rattle.ds_base.specs.Limits.{most_shards};
 ghost use Rattle.ds_hub.specs.Growing.{AreLonger};
 ghost use Rattle.ds_hub.specs.Holding.{hub_in, is_inside, known_in};
-ghost use Rattle.ds_query.specs.Lawful.{IsLawfulNormal, SuitsSeveral};
-ghost use Rattle.ds_engine.specs.Counted.{FindsGlobally, HasBegun, IsCounted, greatest_last};
-ghost use Rattle.ds_engine.specs.Plans.{ArePlansFor};
+ghost use Rattle.ds_engine.specs.Counted.{AreInPlace, FindsGlobally, HasBegun, IsCounted, KnowsOwn, greatest_last};
+ghost use Rattle.ds_engine.specs.Planned.{IsPlanned};
 ghost use Rattle.ds_engine.specs.Searches.{look_ups, most_of, search_bound};
 ghost use Rattle.ds_engine.specs.Snapshots.{newest, newest_of};
 
 use crate::answer::Answer;
+use crate::planned::PlannedQuery;
 use crate::searching::{Found, search};
 use crate::snapshot::ShardSnapshot;
-use crate::wide::search_wide;
+use crate::wide::{AtOnce, search_wide};
 use ds_base::{Counts, NoMemory};
 use ds_entity::Seen;
 use ds_hub::{Slot, enter_all, leave_all};
 use ds_indexdef::Defs;
 use ds_io::{Gate, Steps};
 use ds_log::Entry;
-use ds_planner::ScanPlan;
-use ds_query::{Normal, Window};
 use ds_shard::{ShardState, entries_are_kept};
 use std::alloc::{AllocError, Global};
-use std::marker::Brand;
-use std::sync::ledger::{Blank, Ledger};
+use std::sync::ledger::Ledger;
 use std::thread::Threads;
 
 /// Enters all shards, answers a query there, and leaves them. The answer counts all entries that the slots then know. A refusal is want of
@@ -32,75 +29,56 @@ use std::thread::Threads;
 pub fn query_slots<L: Ledger>(
     alloc: Global,
     slots: &mut [Slot<Entry, ShardState>],
-    defs: &Defs,
     kept: u64,
-    normal: &Normal,
-    window: &Window,
-    plans: &[ScanPlan],
+    query: &PlannedQuery<'_>,
     steps: &mut Steps<L>,
 ) -> Result<Answer, NoMemory>
-    requires lawful { IsLawfulNormal normal.now }
-    requires placeless { SuitsSeveral normal.now.several window.now }
-    requires plans { ArePlansFor defs.now normal.now.branches plans.now }
-    requires begun { All (HasBegun L.parts defs.now kept) slots.old }
+    requires planned { IsPlanned query.now }
+    requires begun { All (HasBegun L.parts query.now.defs.now kept) slots.old }
+    requires placed { AreInPlace (length slots.old) 0 slots.old }
     requires kept { 1 ≤ kept }
     requires some { 1 ≤ length slots.old }
     requires few { length slots.old ≤ most_shards }
     ensures hubs { map hub_in slots.new ≡ map hub_in slots.old }
     ensures known { AreLonger (map known_in slots.old) (map known_in slots.new) }
     ensures counted { IfOk result (λ a. IsCounted (map known_in slots.new) a.seen a.beside) }
-    ensures found { IfOk result (λ a. FindsGlobally (map known_in slots.new) normal.now window.now a.results a.next) }
-    ensures steps_bounded { IfOk result (λ a. All (λ q. steps.new ≤ (steps.old
-        + search_bound normal.now window.now (most_of normal.now window.now) (newest defs.now kept (map known_in slots.new)))
-        + look_ups q.select (length a.results)) normal.now.branches) }
+    ensures found { IfOk result (λ a. FindsGlobally (map known_in slots.new) query.now.normal.now query.now.window.now a.results a.next) }
+    ensures steps_bounded { IfOk result (λ a. All (λ q. steps.new ≤ (steps.old + search_bound query.now.normal.now query.now.window.now
+        (most_of query.now.normal.now query.now.window.now) (newest query.now.defs.now kept (map known_in slots.new)))
+        + look_ups q.select (length a.results)) query.now.normal.now.branches) }
+    ensures steps_in_all { steps.new ≤ steps.old + 2 * search_bound query.now.normal.now query.now.window.now None
+        (newest query.now.defs.now kept (map known_in slots.new)) }
 {
     enter(slots)?;
-    let answer = answer(alloc, slots, defs, kept, normal, window, plans, steps);
+    let answer = answer(alloc, slots, kept, query, steps);
     leave(slots);
     answer
 }
 
-/// The same, where the shards are scanned at once and no steps are counted: each scan counts on a ledger of its own, with so many parts as
-/// those of the shards have.
-pub fn query_slots_wide<R: Threads + Sync, G: Gate + Sync>(
+/// The same, where the shards are scanned at once and the steps of the scans aren't told: each scan counts on a ledger of its own.
+pub fn query_slots_wide<L: Ledger, R: Threads + Sync, G: Gate + Sync>(
     rt: &R,
     alloc: Global,
     slots: &mut [Slot<Entry, ShardState>],
-    defs: &Defs,
     kept: u64,
-    normal: &Normal,
-    window: &Window,
-    plans: &[ScanPlan],
-    gate: &G,
-    ledger: u64,
+    query: &PlannedQuery<'_>,
+    at_once: &AtOnce<'_, G>,
+    steps: &mut Steps<L>,
 ) -> Result<Answer, NoMemory>
-    requires lawful { IsLawfulNormal normal.now }
-    requires placeless { SuitsSeveral normal.now.several window.now }
-    requires plans { ArePlansFor defs.now normal.now.branches plans.now }
-    requires begun { All (HasBegun ledger defs.now kept) slots.old }
+    requires planned { IsPlanned query.now }
+    requires begun { All (HasBegun L.parts query.now.defs.now kept) slots.old }
+    requires placed { AreInPlace (length slots.old) 0 slots.old }
     requires kept { 1 ≤ kept }
-    requires ledger { 1 ≤ ledger }
+    requires ledger { (at_once.now.ledger ≡ L.parts) × (1 ≤ at_once.now.ledger) }
     requires some { 1 ≤ length slots.old }
     requires few { length slots.old ≤ most_shards }
     ensures hubs { map hub_in slots.new ≡ map hub_in slots.old }
     ensures known { AreLonger (map known_in slots.old) (map known_in slots.new) }
     ensures counted { IfOk result (λ a. IsCounted (map known_in slots.new) a.seen a.beside) }
-    ensures found { IfOk result (λ a. FindsGlobally (map known_in slots.new) normal.now window.now a.results a.next) }
+    ensures found { IfOk result (λ a. FindsGlobally (map known_in slots.new) query.now.normal.now query.now.window.now a.results a.next) }
 {
     enter(slots)?;
-    let answer = answer_wide::<Brand, R, G>(
-        Blank::new(ledger),
-        rt,
-        alloc,
-        slots,
-        defs,
-        kept,
-        normal,
-        window,
-        plans,
-        gate,
-        ledger,
-    );
+    let answer = answer_wide(rt, alloc, slots, kept, query, at_once, steps);
     leave(slots);
     answer
 }
@@ -131,83 +109,54 @@ fn leave(slots: &mut [Slot<Entry, ShardState>])
 fn answer<L: Ledger>(
     alloc: Global,
     slots: &[Slot<Entry, ShardState>],
-    defs: &Defs,
     kept: u64,
-    normal: &Normal,
-    window: &Window,
-    plans: &[ScanPlan],
+    query: &PlannedQuery<'_>,
     steps: &mut Steps<L>,
 ) -> Result<Answer, NoMemory>
-    requires lawful { IsLawfulNormal normal.now }
-    requires placeless { SuitsSeveral normal.now.several window.now }
-    requires plans { ArePlansFor defs.now normal.now.branches plans.now }
+    requires planned { IsPlanned query.now }
     requires inside { All (λ slot. IsTrue (is_inside slot)) slots.now }
-    requires begun { All (HasBegun L.parts defs.now kept) slots.now }
+    requires begun { All (HasBegun L.parts query.now.defs.now kept) slots.now }
+    requires placed { AreInPlace (length slots.now) 0 slots.now }
     requires kept { 1 ≤ kept }
     requires some { 1 ≤ length slots.now }
     requires few { length slots.now ≤ most_shards }
     ensures counted { IfOk result (λ a. IsCounted (map known_in slots.now) a.seen a.beside) }
-    ensures found { IfOk result (λ a. FindsGlobally (map known_in slots.now) normal.now window.now a.results a.next) }
-    ensures steps_bounded { IfOk result (λ a. All (λ q. steps.new ≤ (steps.old
-        + search_bound normal.now window.now (most_of normal.now window.now) (newest defs.now kept (map known_in slots.now)))
-        + look_ups q.select (length a.results)) normal.now.branches) }
+    ensures found { IfOk result (λ a. FindsGlobally (map known_in slots.now) query.now.normal.now query.now.window.now a.results a.next) }
+    ensures steps_bounded { IfOk result (λ a. All (λ q. steps.new ≤ (steps.old + search_bound query.now.normal.now query.now.window.now
+        (most_of query.now.normal.now query.now.window.now) (newest query.now.defs.now kept (map known_in slots.now)))
+        + look_ups q.select (length a.results)) query.now.normal.now.branches) }
+    ensures steps_in_all { steps.new ≤ steps.old + 2 * search_bound query.now.normal.now query.now.window.now None
+        (newest query.now.defs.now kept (map known_in slots.now)) }
 {
-    let snapshots = snapshots_of(alloc, slots, defs, kept)?;
+    let snapshots = snapshots_of(alloc, slots, query.defs, kept)?;
     entries_are_kept();
-    let found = search(
-        alloc,
-        snapshots.as_slice(),
-        normal,
-        window,
-        defs,
-        plans,
-        steps,
-    )?;
+    let found = search(alloc, snapshots.as_slice(), query, steps)?;
     counted(alloc, snapshots.as_slice(), found)
 }
 
-fn answer_wide<L: Ledger + Send + Sync, R: Threads + Sync, G: Gate + Sync>(
-    blank: Blank,
+fn answer_wide<L: Ledger, R: Threads + Sync, G: Gate + Sync>(
     rt: &R,
     alloc: Global,
     slots: &[Slot<Entry, ShardState>],
-    defs: &Defs,
     kept: u64,
-    normal: &Normal,
-    window: &Window,
-    plans: &[ScanPlan],
-    gate: &G,
-    ledger: u64,
+    query: &PlannedQuery<'_>,
+    at_once: &AtOnce<'_, G>,
+    steps: &mut Steps<L>,
 ) -> Result<Answer, NoMemory>
-    requires name { blank.name ≡ L.name }
-    requires parts { blank.parts ≡ L.parts }
-    requires ledger { (ledger ≡ L.parts) × (1 ≤ ledger) }
-    requires lawful { IsLawfulNormal normal.now }
-    requires placeless { SuitsSeveral normal.now.several window.now }
-    requires plans { ArePlansFor defs.now normal.now.branches plans.now }
+    requires ledger { (at_once.now.ledger ≡ L.parts) × (1 ≤ at_once.now.ledger) }
+    requires planned { IsPlanned query.now }
     requires inside { All (λ slot. IsTrue (is_inside slot)) slots.now }
-    requires begun { All (HasBegun L.parts defs.now kept) slots.now }
+    requires begun { All (HasBegun L.parts query.now.defs.now kept) slots.now }
+    requires placed { AreInPlace (length slots.now) 0 slots.now }
     requires kept { 1 ≤ kept }
     requires some { 1 ≤ length slots.now }
     requires few { length slots.now ≤ most_shards }
     ensures counted { IfOk result (λ a. IsCounted (map known_in slots.now) a.seen a.beside) }
-    ensures found { IfOk result (λ a. FindsGlobally (map known_in slots.now) normal.now window.now a.results a.next) }
+    ensures found { IfOk result (λ a. FindsGlobally (map known_in slots.now) query.now.normal.now query.now.window.now a.results a.next) }
 {
-    let mut steps = Steps::<L>::new(blank);
-    let snapshots = snapshots_of(alloc, slots, defs, kept)?;
+    let snapshots = snapshots_of(alloc, slots, query.defs, kept)?;
     entries_are_kept();
-    let found = search_wide(
-        rt,
-        alloc,
-        snapshots.as_slice(),
-        normal,
-        window,
-        defs,
-        plans,
-        gate,
-        ledger,
-        &mut steps,
-    )?;
+    let found = search_wide(rt, alloc, snapshots.as_slice(), query, at_once, steps)?;
     counted(alloc, snapshots.as_slice(), found)
 }
 
@@ -221,7 +170,8 @@ fn snapshots_of<'a, L: Ledger>(
     requires inside { All (λ slot. IsTrue (is_inside slot)) slots.now }
     requires begun { All (HasBegun L.parts defs.now kept) slots.now }
     requires kept { 1 ≤ kept }
-    ensures { IfOk result (λ s. s.items ≡ newest defs.now kept (map known_in slots.now)) }
+    ensures snapshots { IfOk result (λ s. s.items ≡ newest defs.now kept (map known_in slots.now)) }
+    ensures own { OnOk result (All KnowsOwn slots.now) }
 {
     let mut snapshots = Vec::with_capacity(alloc, slots.len())?;
     for slot in slots {
@@ -230,7 +180,7 @@ fn snapshots_of<'a, L: Ledger>(
     Ok(snapshots)
 }
 
-/// A shard that is entered, with all that it has absorbed.
+/// A shard that is entered, with all that it has absorbed, which are entries of this shard.
 fn snapshot_of<'a, L: Ledger>(
     slot: &'a Slot<Entry, ShardState>,
     defs: &Defs,
@@ -239,7 +189,8 @@ fn snapshot_of<'a, L: Ledger>(
     requires inside { IsTrue (is_inside slot.now) }
     requires begun { HasBegun L.parts defs.now kept slot.now }
     requires kept { 1 ≤ kept }
-    ensures { result ≡ newest_of defs.now kept slot.now.known }
+    ensures snapshot { result ≡ newest_of defs.now kept slot.now.known }
+    ensures own { KnowsOwn slot.now }
 {
     let Some(state) = slot.state() else {
         unreachable!()

@@ -1,22 +1,20 @@
 //! A shard at one of the stamps that it keeps.
-ghost use Rattle.std.specs.Prelude.{◌≡◌, ◌+◌, ◌≤◌, ◌<◌, All, map, None, IfOk, IfSome, OnErr, OnOk, MatchOption};
-ghost use Rattle.std.specs.Option.{option_copied};
+ghost use Rattle.std.specs.Prelude.{◌≡◌, ◌+◌, ◌≤◌, ◌<◌, All, false, length, map, None, IfOk, IfSome, OnErr, OnOk, MatchOption};
 ghost use Rattle.ds_query.specs.Lawful.{IsLawfulBranch};
 ghost use Rattle.ds_pages.specs.Places.{IsPlaced, placed};
-ghost use Rattle.ds_branch.specs.Behind.{IsCollected};
-ghost use Rattle.ds_branch.specs.BoundSums.{bound_at};
-ghost use Rattle.ds_model.specs.Bounds.{given};
+ghost use Rattle.ds_branch.specs.Behind.{ArePlaces, IsCollected};
 ghost use Rattle.ds_model.specs.Results.{entity_of};
 ghost use Rattle.ds_engine.specs.Plans.{IsPlanFor};
-ghost use Rattle.ds_engine.specs.Snapshots.{asked_in, entities_in};
+ghost use Rattle.ds_engine.specs.Searches.{bound_in, given_in, most_of};
+ghost use Rattle.ds_engine.specs.Snapshots.{entities_in};
 
-use ds_base::{Key, NoMemory, copy_of};
+use crate::planned::PlannedQuery;
+use ds_base::{ByteString, Key, NoMemory, copy_of};
 use ds_branch::{RowsBehind, answer, answer_behind};
 use ds_entity::Entity;
-use ds_indexdef::Defs;
 use ds_io::Steps;
 use ds_planner::ScanPlan;
-use ds_query::{Branch, Place, RowList};
+use ds_query::{Branch, RowList};
 use ds_rows::Tables;
 use ds_shard::ShardTables;
 use std::alloc::Global;
@@ -111,62 +109,103 @@ impl<'a, L: Ledger> ShardSnapshot<'a, L> {
         copy_of(alloc, tables.entity(self.stamp, key, steps))
     }
 
-    /// The first results of a branch by a plan, as `ds_branch::answer` gives them.
+    /// The first results of a branch by its plan, as many as the page may need.
     pub(crate) fn answer(
         &self,
         alloc: Global,
+        query: &PlannedQuery<'_>,
         branch: &Branch,
-        defs: &Defs,
         plan: &ScanPlan,
-        start: Option<&Place>,
-        end: Option<&Place>,
-        most: Option<u64>,
         steps: &mut Steps<L>,
     ) -> Result<RowList, NoMemory>
         requires lawful { IsLawfulBranch branch.now }
-        requires definitions { defs.now ≡ self.now.shard.definitions }
-        requires plan { IsPlanFor defs.now branch.now plan.now }
+        requires definitions { query.now.defs.now ≡ self.now.shard.definitions }
+        requires plan { IsPlanFor query.now.defs.now branch.now plan.now }
         ensures rows { IfOk result (λ rows. rows ≡ map (placed branch.now.columns)
-            (given branch.now (option_copied start.entry) (option_copied end.entry) most (entities_in self.now))) }
+            (given_in query.now.normal.now query.now.window.now branch.now self.now)) }
         ensures placed { IfOk result (λ rows. All (IsPlaced branch.now.columns) rows) }
-        ensures steps { OnOk result (steps.new ≤ steps.old + bound_at branch.now (option_copied start.entry) (option_copied end.entry) most
-            (asked_in self.now)) }
-        ensures refused { OnErr result (steps.new ≤ steps.old + bound_at branch.now (option_copied start.entry) (option_copied end.entry)
-            None (asked_in self.now)) }
+        ensures steps { OnOk result (steps.new ≤ steps.old
+            + bound_in query.now.window.now (most_of query.now.normal.now query.now.window.now) branch.now self.now) }
+        ensures refused { OnErr result (steps.new ≤ steps.old + bound_in query.now.window.now None branch.now self.now) }
+        ensures a_step_for_each { IfOk result (λ rows. steps.old + length rows ≤ steps.new) }
     {
         let tables = self.tables();
+        let start = query.window.start.as_ref();
+        let end = query.window.end.as_ref();
+        let most = query.most();
         answer(
-            alloc, &tables, self.stamp, branch, defs, plan, start, end, most, steps,
+            alloc, &tables, self.stamp, branch, query.defs, plan, start, end, most, steps,
         )
     }
 
-    /// The same results without the first `skip` of them, which are counted and not kept, the place of the last one, and if asked for
-    /// the places of all.
+    /// The same results without those before the page's offset, which are counted and not kept.
     pub(crate) fn answer_behind(
         &self,
         alloc: Global,
+        query: &PlannedQuery<'_>,
         branch: &Branch,
-        defs: &Defs,
         plan: &ScanPlan,
-        start: Option<&Place>,
-        end: Option<&Place>,
-        most: Option<u64>,
-        skip: u32,
-        places: bool,
         steps: &mut Steps<L>,
     ) -> Result<RowsBehind, NoMemory>
         requires lawful { IsLawfulBranch branch.now }
-        requires definitions { defs.now ≡ self.now.shard.definitions }
-        requires plan { IsPlanFor defs.now branch.now plan.now }
-        ensures rows { IfOk result (IsCollected branch.now.columns skip places (map (placed branch.now.columns)
-            (given branch.now (option_copied start.entry) (option_copied end.entry) most (entities_in self.now)))) }
-        ensures steps { OnOk result (steps.new ≤ steps.old + bound_at branch.now (option_copied start.entry) (option_copied end.entry) most
-            (asked_in self.now)) }
+        requires definitions { query.now.defs.now ≡ self.now.shard.definitions }
+        requires plan { IsPlanFor query.now.defs.now branch.now plan.now }
+        ensures rows { IfOk result (IsCollected branch.now.columns query.now.window.now.offset false (map (placed branch.now.columns)
+            (given_in query.now.normal.now query.now.window.now branch.now self.now))) }
+        ensures steps { OnOk result (steps.new ≤ steps.old
+            + bound_in query.now.window.now (most_of query.now.normal.now query.now.window.now) branch.now self.now) }
+        ensures refused { OnErr result (steps.new ≤ steps.old + bound_in query.now.window.now None branch.now self.now) }
+        ensures a_step_for_each { IfOk result (λ found. steps.old + found.count ≤ steps.new) }
     {
         let tables = self.tables();
+        let start = query.window.start.as_ref();
+        let end = query.window.end.as_ref();
+        let most = query.most();
+        let skip = query.window.offset;
         answer_behind(
-            alloc, &tables, self.stamp, branch, defs, plan, start, end, most, skip, places, steps,
+            alloc, &tables, self.stamp, branch, query.defs, plan, start, end, most, skip, false,
+            steps,
         )
+    }
+
+    /// The places of the same results.
+    pub(crate) fn places(
+        &self,
+        alloc: Global,
+        query: &PlannedQuery<'_>,
+        branch: &Branch,
+        plan: &ScanPlan,
+        steps: &mut Steps<L>,
+    ) -> Result<Vec<ByteString>, NoMemory>
+        requires lawful { IsLawfulBranch branch.now }
+        requires definitions { query.now.defs.now ≡ self.now.shard.definitions }
+        requires plan { IsPlanFor query.now.defs.now branch.now plan.now }
+        ensures places { IfOk result (λ places. ArePlaces branch.now.columns
+            (given_in query.now.normal.now query.now.window.now branch.now self.now) places.items) }
+        ensures steps { OnOk result (steps.new ≤ steps.old
+            + bound_in query.now.window.now (most_of query.now.normal.now query.now.window.now) branch.now self.now) }
+        ensures refused { OnErr result (steps.new ≤ steps.old + bound_in query.now.window.now None branch.now self.now) }
+        ensures a_step_for_each { IfOk result (λ places. steps.old + length places.items ≤ steps.new) }
+    {
+        let tables = self.tables();
+        let start = query.window.start.as_ref();
+        let end = query.window.end.as_ref();
+        let most = query.most();
+        let found = answer_behind(
+            alloc,
+            &tables,
+            self.stamp,
+            branch,
+            query.defs,
+            plan,
+            start,
+            end,
+            most,
+            u32::MAX,
+            true,
+            steps,
+        )?;
+        Ok(found.places)
     }
 
     /// The shard, as tables.

@@ -3,7 +3,7 @@
 use Rattle.std.proofs.Common.{◌≡◌, ℕ, zero, suc, ◌+◌, ◌<◌, ◌≤◌, List, [], ◌∷◌, ◌++◌, take, map, fold, refl, ap, sym, ◌∙◌, subst}
 use Rattle.std.proofs.Common.{Bool, true, false, cond, not}
 use Rattle.std.proofs.Common.{append_assoc, append-nil, Some, arith}
-use Rattle.std.specs.Prelude.{filter, flat_map, ◌==◌}
+use Rattle.std.specs.Prelude.{filter, flat_map, ◌==◌, ⊤}
 use Rattle.std.specs.List.{AllByRecursion, range_with_len}
 use Rattle.std.specs.declared.cmp.Ordering.TheVariants.{Equal}
 use Rattle.std.proofs.lemmas.Bool.{eqb-true}
@@ -153,15 +153,31 @@ module _ (shards : ℕ) where
   own_taken shard (suc count) (e ∷ es) p =
       all-append (λ w. InShard shard (key_of w)) e.writes (entry_writes (take count es)) p.0 (own_taken shard count es p.1)
 
-  -- the writes of a shard's first entries are to groups of the shard
-  pub own_list : (journal : List Commit) (shard count : ℕ) → WritesIn shard (entry_writes (take count (shard_list journal shard shards)))
-  own_list journal shard count =
-      own_taken shard count (shard_list journal shard shards) (own_filtered shard (entries_from 1 journal) (all_own 1 journal))
-
   -- ---- all shards
 
-  abbrev lists_from : List Commit → ℕ → ℕ → List (List Entry)
-  lists_from journal first n = map (λ shard. shard_list journal shard shards) (range_with_len first n)
+  -- the entries of each list, from that of a first shard on, are of its shard
+  abbrev pub AreOwn : ℕ → List (List Entry) → Type 0
+  AreOwn first [] = ⊤
+  AreOwn first (entries ∷ lists) = AllByRecursion (IsOwn first) entries × AreOwn (first + 1) lists
+
+  own_from : (journal : List Commit) (first n : ℕ) → AreOwn first (map (λ shard. shard_list journal shard shards) (range_with_len first n))
+  own_from journal first zero = tt
+  own_from journal first (suc n) = (
+    own_filtered first (entries_from 1 journal) (all_own 1 journal),
+    own_from journal (first + 1) n,
+  )
+
+  -- those of a journal are
+  own_lists : (journal : List Commit) → AreOwn 0 (shard_lists shards journal)
+  own_lists journal = own_from journal 0 shards
+
+  -- what the first entries of a shard leave is of the shard
+  pub left_own : (shard count : ℕ) (entries : List Entry) → AllByRecursion (IsOwn shard) entries
+      → EntitiesIn shard (sorted_by_key (after (entry_writes (take count entries))))
+  left_own shard count entries own =
+      let writes : List Write = entry_writes (take count entries) in
+      all-sorted (λ (e : EntityParts). InShard shard e.key) entity_cmp (after writes)
+      (all_written_in shard [] writes (own_taken shard count entries own) tt)
 
   -- what each shard's writes leave, side by side
   abbrev beside : List (List Entry) → List ℕ → List EntityParts
@@ -169,28 +185,27 @@ module _ (shards : ℕ) where
   beside (entries ∷ lists) [] = []
   beside (entries ∷ lists) (count ∷ counts) = after (entry_writes (take count entries)) ++ beside lists counts
 
-  global_from : (journal : List Commit) (first n : ℕ) (counts : List ℕ) (es : List EntityParts) → Before first es
-      → fold apply_write es (entry_writes (counted (lists_from journal first n) counts)) ≡ es ++ beside (lists_from journal first n) counts
-  global_from journal first zero counts es before = sym (append-nil es)
-  global_from journal first (suc n) [] es before = sym (append-nil es)
-  global_from journal first (suc n) (count ∷ counts) es before =
-      let own : List Entry = take count (shard_list journal first shards) in
-      let left : List EntityParts = after (entry_writes own) in
-      let writes = own_list journal first count in
-      let rest : List Entry = counted (lists_from journal (first + 1) n) counts in
-      ap (fold apply_write es) (flat_map-append (λ (e : Entry). e.writes) own rest)
-      ∙ fold-append apply_write es (entry_writes own) (entry_writes rest)
-      ∙ ap (λ gs. fold apply_write (fold apply_write gs (entry_writes own)) (entry_writes rest)) (sym (append-nil es))
-      ∙ ap (λ gs. fold apply_write gs (entry_writes rest)) (writes_beside first es [] (entry_writes own) before writes)
-      ∙ global_from journal (first + 1) n counts (es ++ left)
+  global_from : (first : ℕ) (lists : List (List Entry)) (counts : List ℕ) (es : List EntityParts) → AreOwn first lists → Before first es
+      → fold apply_write es (entry_writes (counted lists counts)) ≡ es ++ beside lists counts
+  global_from first [] counts es own before = sym (append-nil es)
+  global_from first (entries ∷ lists) [] es own before = sym (append-nil es)
+  global_from first (entries ∷ lists) (count ∷ counts) es own before =
+      let taken : List Entry = take count entries in
+      let left : List EntityParts = after (entry_writes taken) in
+      let writes = own_taken first count entries own.0 in
+      let rest : List Entry = counted lists counts in
+      ap (fold apply_write es) (flat_map-append (λ (e : Entry). e.writes) taken rest)
+      ∙ fold-append apply_write es (entry_writes taken) (entry_writes rest)
+      ∙ ap (λ gs. fold apply_write (fold apply_write gs (entry_writes taken)) (entry_writes rest)) (sym (append-nil es))
+      ∙ ap (λ gs. fold apply_write gs (entry_writes rest)) (writes_beside first es [] (entry_writes taken) before writes)
+      ∙ global_from (first + 1) lists counts (es ++ left) own.1
       (all-append (λ (e : EntityParts). shard_of (root_of e.key) shards < first + 1) es left (later_before first es before)
-      (in_before first left (all_written_in first [] (entry_writes own) writes tt)))
-      ∙ append_assoc es left (beside (lists_from journal (first + 1) n) counts)
+      (in_before first left (all_written_in first [] (entry_writes taken) writes tt)))
+      ∙ append_assoc es left (beside lists counts)
 
   -- the global view is what each shard's counted entries leave, side by side
-  pub global_beside : (journal : List Commit) (counts : List ℕ)
-      → global_view (shard_lists shards journal) counts ≡ beside (shard_lists shards journal) counts
-  global_beside journal counts = global_from journal 0 shards counts [] tt
+  global_beside : (lists : List (List Entry)) (counts : List ℕ) → AreOwn 0 lists → global_view lists counts ≡ beside lists counts
+  global_beside lists counts own = global_from 0 lists counts [] own tt
 
 -- ---- no two entities have one key
 
@@ -228,28 +243,27 @@ module _ (shards : ℕ) where
   from_later shard [] p = tt
   from_later shard (e ∷ es) p = (let own = p.0 in omega (arith, own), from_later shard es p.1)
 
-  views_from : (journal : List Commit) (first n : ℕ) (counts : List ℕ)
-      → KeysDiffer (shard_views (lists_from shards journal first n) counts) × NotBefore first
-      (shard_views (lists_from shards journal first n) counts)
-  views_from journal first zero counts = (tt, tt)
-  views_from journal first (suc n) [] = (tt, tt)
-  views_from journal first (suc n) (count ∷ counts) =
-      let writes : List Write = entry_writes (take count (shard_list journal first shards)) in
-      let own : EntitiesIn shards first (sorted_by_key (after writes)) =
-      all-sorted (λ (e : EntityParts). InShard shards first e.key) entity_cmp (after writes)
-      (all_written_in shards first [] writes (own_list shards journal first count) tt) in
-      let rest = views_from journal (first + 1) n counts in (
-        differ_joined first (sorted_by_key (after writes)) (shard_views (lists_from shards journal (first + 1) n) counts)
-            (KeysDiffer-sorted (after writes) (KeysDiffer-after writes)) own rest.0 rest.1,
-        all-append (λ (e : EntityParts). first ≤ shard_of (root_of e.key) shards) (sorted_by_key (after writes))
-            (shard_views (lists_from shards journal (first + 1) n) counts)
-            (from_here first (sorted_by_key (after writes)) own)
-            (from_later first (shard_views (lists_from shards journal (first + 1) n) counts) rest.1),
+  views_from : (first : ℕ) (lists : List (List Entry)) (counts : List ℕ) → AreOwn shards first lists
+      → KeysDiffer (shard_views lists counts) × NotBefore first (shard_views lists counts)
+  views_from first [] counts own = (tt, tt)
+  views_from first (entries ∷ lists) [] own = (tt, tt)
+  views_from first (entries ∷ lists) (count ∷ counts) own =
+      let writes : List Write = entry_writes (take count entries) in
+      let here = left_own shards first count entries own.0 in
+      let rest = views_from (first + 1) lists counts own.1 in (
+        differ_joined first (sorted_by_key (after writes)) (shard_views lists counts)
+            (KeysDiffer-sorted (after writes) (KeysDiffer-after writes)) here rest.0 rest.1,
+        all-append (λ (e : EntityParts). first ≤ shard_of (root_of e.key) shards) (sorted_by_key (after writes)) (shard_views lists counts)
+            (from_here first (sorted_by_key (after writes)) here)
+            (from_later first (shard_views lists counts) rest.1),
       )
 
 -- No two of the entities of all shards have one key.
+pub own_differ : (shards : ℕ) (lists : List (List Entry)) (counts : List ℕ) → AreOwn shards 0 lists → KeysDiffer (shard_views lists counts)
+own_differ shards lists counts own = (views_from shards 0 lists counts own).0
+
 pub views_differ : (journal : List Commit) (shards : ℕ) (counts : List ℕ) → KeysDiffer (shard_views (shard_lists shards journal) counts)
-views_differ journal shards counts = (views_from shards journal 0 shards counts).0
+views_differ journal shards counts = own_differ shards (shard_lists shards journal) counts (own_lists shards journal)
 
 -- ---- in order
 
@@ -306,28 +320,37 @@ as_all all [] p = tt
 as_all all (e ∷ es) p = (p.0, as_all all es p.1)
 
 -- The entities of all shards by key are those of the global view by key.
-pub views_of_journal : (journal : List Commit) (shards : ℕ) (counts : List ℕ)
-    → sorted_by_key (shard_views (shard_lists shards journal) counts) ≡ sorted_by_key (global_view (shard_lists shards journal) counts)
-views_of_journal journal shards counts =
-    let lists : List (List Entry) = shard_lists shards journal in
+own_sorted : (shards : ℕ) (lists : List (List Entry)) (counts : List ℕ) → AreOwn shards 0 lists
+    → sorted_by_key (shard_views lists counts) ≡ sorted_by_key (global_view lists counts)
+own_sorted shards lists counts own =
     let all : List EntityParts = beside shards lists counts in
-    let is : global_view lists counts ≡ all = global_beside shards journal counts in
+    let is : global_view lists counts ≡ all = global_beside shards lists counts own in
     let differ : KeysDiffer all = subst KeysDiffer is (KeysDiffer-after (entry_writes (counted lists counts))) in
     views-put all shards lists counts [] (as_all all all (AreFound-all all differ)) ∙ ap sorted_by_key (sym is)
 
+pub views_of_journal : (journal : List Commit) (shards : ℕ) (counts : List ℕ)
+    → sorted_by_key (shard_views (shard_lists shards journal) counts) ≡ sorted_by_key (global_view (shard_lists shards journal) counts)
+views_of_journal journal shards counts = own_sorted shards (shard_lists shards journal) counts (own_lists shards journal)
+
 -- Queries without an ancestor: over the entities of all shards by key they have the results that they have over the global view, and
 -- the same is told of their rows.
+module _ (shards : ℕ) (lists : List (List Entry)) (counts : List ℕ) (own : AreOwn shards 0 lists) where
+  pub own_result : (n : Normal) (w : Window) → result n w (sorted_by_key (shard_views lists counts)) ≡ result n w (global_view lists counts)
+  own_result n w = ap (result n w) (own_sorted shards lists counts own) ∙ result_sorted n w (global_view lists counts)
+
+  pub own_items : (columns : List Column) (selected : Select) (rs : List RowParts)
+      → items_of columns selected (sorted_by_key (shard_views lists counts)) rs ≡ items_of columns selected (global_view lists counts) rs
+  own_items columns selected rs =
+      ap (λ es. items_of columns selected es rs) (own_sorted shards lists counts own)
+      ∙ items_sorted columns selected (global_view lists counts) rs (KeysDiffer-after (entry_writes (counted lists counts)))
+
 module _ (journal : List Commit) (shards : ℕ) (counts : List ℕ) where
   pub views_result : (n : Normal) (w : Window)
       → result n w (sorted_by_key (shard_views (shard_lists shards journal) counts))
       ≡ result n w (global_view (shard_lists shards journal) counts)
-  views_result n w =
-      ap (result n w) (views_of_journal journal shards counts) ∙ result_sorted n w (global_view (shard_lists shards journal) counts)
+  views_result = own_result shards (shard_lists shards journal) counts (own_lists shards journal)
 
   pub views_items : (columns : List Column) (selected : Select) (rs : List RowParts)
       → items_of columns selected (sorted_by_key (shard_views (shard_lists shards journal) counts)) rs
       ≡ items_of columns selected (global_view (shard_lists shards journal) counts) rs
-  views_items columns selected rs =
-      ap (λ es. items_of columns selected es rs) (views_of_journal journal shards counts)
-      ∙ items_sorted columns selected (global_view (shard_lists shards journal) counts) rs
-      (KeysDiffer-after (entry_writes (counted (shard_lists shards journal) counts)))
+  views_items = own_items shards (shard_lists shards journal) counts (own_lists shards journal)

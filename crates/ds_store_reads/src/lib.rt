@@ -5,7 +5,7 @@
 //!
 //! Begin with `searching` (queries without an ancestor, in `specs/Searched.antt`), then `group` (those with one) and `looking_up` (keys, in
 //! `specs/Found.antt`); `entity_at` looks into one shard. All count the steps that they take on the ledger that they are handed, but
-//! `query_wide`, which alone has the right to ledgers of its own (`uncounted`).
+//! `query_wide` and `query_uncounted`, which alone have the right to ledgers of their own (`uncounted`).
 #![tactic(auto)]
 
 mod entity_at;
@@ -16,5 +16,5 @@ mod uncounted;
 
 pub use group::query_in;
 pub use looking_up::{Found, look_up};
-pub use searching::{query, query_wide};
-pub use uncounted::Uncounted;
+pub use searching::{query, query_uncounted, query_wide};
+pub use uncounted::{Uncounted, UncountedScans};

@@ -14,3 +14,12 @@ impl<J: Names> Uncounted<J> {
         Uncounted { ledgers }
     }
 }
+
+/// How a store's shards are scanned at once.
+#[derive(Drop)]
+pub struct UncountedScans<'a, J: Names, G> {
+    /// What is called before and after each shard's scan, with the shard's number and line 0.
+    pub gate: &'a G,
+    /// The right to scan them on ledgers of their own.
+    pub right: &'a Uncounted<J>,
+}

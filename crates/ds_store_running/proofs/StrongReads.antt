@@ -1,5 +1,5 @@
 -- What a query with an ancestor tells, of where it stands and what is found there.
-use Rattle.std.proofs.Common.{◌≡◌, ℕ, ◌≤◌, ◌+◌, Bool, true, false, List, [], ◌∷◌, length, Option, Some, refl, sym, subst, arith}
+use Rattle.std.proofs.Common.{◌≡◌, ℕ, ◌≤◌, ◌+◌, ◌*◌, Bool, true, false, List, [], ◌∷◌, length, Option, None, Some, refl, sym, subst, arith}
 use Rattle.std.specs.Prelude.{All, IsTrue, ◌&&◌, nat_le}
 use Rattle.std.proofs.lemmas.Bool.{leb-true}
 use Rattle.std.proofs.lemmas.List.Elements.{All-head}
@@ -16,7 +16,9 @@ use Rattle.ds_query.specs.declared.row.Place.{Place}
 use Rattle.ds_engine.specs.Groups.{FindsInGroup, look_ups_of}
 use Rattle.ds_engine.specs.declared.group.GroupFound.TheVariants as group
 use Rattle.ds_query.specs.declared.branch.Branch.{Branch}
-use Rattle.ds_engine.specs.Searches.{ancestor_of}
+use Rattle.ds_engine.specs.Searches.{ancestor_of, search_bound}
+use Rattle.ds_engine.specs.Snapshots.{SnapshotParts, snapshot_of}
+use Rattle.ds_indexdef.specs.declared.IndexDef.{IndexDef}
 use Rattle.ds_store_passes.specs.Passes.{PassParts}
 use Rattle.ds_store_shards.specs.Standing.{StandsAt}
 use Rattle.ds_store_running.specs.Strong.{IsFoundInGroup}
@@ -63,3 +65,15 @@ bounded_gone n m applied commit [] ancestor is each = absurd (cc (is))
 bounded_gone n m applied commit (q ∷ branches) ancestor is each =
     let here : m ≤ n + 0 = All-head (λ q. m ≤ n + look_ups_of q.select (group.Gone applied commit)) q branches each in
     omega (arith, here)
+
+-- the steps at a stamp of the group's shard
+pub within_there : (n : Normal) (w : Window) (definitions : List IndexDef) (window shards shard : ℕ) (before after : PassParts)
+    (ancestor : KeyParts) (entries start new : ℕ) → shard ≡ shard_of (root_of ancestor) shards → before.lists ≡ after.lists
+    → new ≤ start + 2 * search_bound n w None (snapshot_of definitions window (list_of before.lists shard) entries ∷ [])
+    → (stamp : ℕ) × (new ≤ start + 2 * search_bound n w None
+    (snapshot_of definitions window (list_of after.lists (shard_of (root_of ancestor) shards)) stamp ∷ []))
+within_there n w definitions window shards shard before after ancestor entries start new is lists within = (
+  entries,
+  subst (λ (s : SnapshotParts). new ≤ start + 2 * search_bound n w None (s ∷ []))
+      (λ i. snapshot_of definitions window (list_of (lists i) (is i)) entries) within,
+)

@@ -1,11 +1,12 @@
 //! Queries with an ancestor.
-ghost use Rattle.std.specs.Prelude.{◌≡◌, ◌+◌, ◌≤◌, ◌<◌, ◌∷◌, [], All, None, Some, IfOk, IfErr, IfSome, OnErr, OnOk, length};
+ghost use Rattle.std.specs.Prelude.{◌≡◌, ℕ, ◌+◌, ◌*◌, ◌≤◌, ◌<◌, ◌∷◌, [], All, None, Some, IfOk, IfErr, IfSome, OnErr, OnOk, length};
 ghost use Rattle.std.specs.Option.{option_copied};
 ghost use Rattle.ds_base.specs.Keys.{KeyParts, root_of};
 ghost use Rattle.ds_log.specs.Shards.{shard_of};
 ghost use Rattle.ds_model.specs.Sessions.{list_of};
 ghost use Rattle.ds_query.specs.Lawful.{IsLawfulNormal, SuitsSeveral};
-ghost use Rattle.ds_engine.specs.Plans.{ArePlansFor, first_missing};
+ghost use Rattle.ds_engine.specs.Planned.{IsPlanned};
+ghost use Rattle.ds_engine.specs.Plans.{first_missing};
 ghost use Rattle.ds_engine.specs.Searches.{ancestor_of, look_ups, most_of, search_bound};
 ghost use Rattle.ds_engine.specs.Snapshots.{snapshot_of};
 ghost use Rattle.ds_store_passes.specs.Answered.{IsExpired, WhereExpired};
@@ -15,10 +16,9 @@ ghost use Rattle.ds_store_running.specs.Strong.{IsFoundInGroup, WhereGone, Where
 use crate::refused::StrongRefused;
 use crate::store::Store;
 use ds_base::{Key, NoMemory};
-use ds_engine::{Answer, GroupFound, plans_of};
+use ds_engine::{Answer, GroupFound, PlannedQuery, plans_of};
 use ds_entity::Seen;
 use ds_io::Steps;
-use ds_planner::ScanPlan;
 use ds_query::{Branch, Normal, Window};
 use ds_store_hubs::Names;
 use ds_store_passes::{Expired, GetRefused, Pass};
@@ -61,12 +61,21 @@ impl<J: Names, H: Wait + Drop> Store<J, H> {
             → IfErr result (WhereGone (λ x. steps.new ≤ steps.old
             + search_bound normal.now window.now (most_of normal.now window.now)
             (snapshot_of J.definitions J.window (list_of pass.new.lists (shard_of (root_of ancestor) self.now.shards)) x.snapshot ∷ []))) }
+        ensures steps_in_all { (ancestor : KeyParts) → ancestor_of normal.now.branches ≡ Some ancestor → (entries : ℕ)
+            × (steps.new ≤ steps.old + 2 * search_bound normal.now window.now None
+            (snapshot_of J.definitions J.window (list_of pass.new.lists (shard_of (root_of ancestor) self.now.shards)) entries ∷ [])) }
         ensures read { OnErr result (HasRead pass.old pass.new) }
     {
         let branches = normal.branches.as_slice();
         let plans = plans_of(self.alloc, branches, &self.definitions)?;
         let shard = self.shard_asked(branches)?;
-        Ok(self.strong_query_planned(rt, pass, normal, window, plans.as_slice(), shard, at, steps)?)
+        let query = PlannedQuery {
+            normal,
+            window,
+            defs: &self.definitions,
+            plans: plans.as_slice(),
+        };
+        Ok(self.strong_query_planned(rt, pass, &query, shard, at, steps)?)
     }
 
     /// The same in the ancestor's shard, by plans that are made already: for each branch one that answers it under the store's definitions
@@ -75,50 +84,47 @@ impl<J: Names, H: Wait + Drop> Store<J, H> {
         &self,
         rt: &R,
         pass: &mut Pass<J>,
-        normal: &Normal,
-        window: &Window,
-        plans: &[ScanPlan],
+        query: &PlannedQuery<'_>,
         shard: u32,
         at: Option<u64>,
         steps: &mut Steps<L>,
     ) -> Result<Answer, GetRefused>
-        requires lawful { IsLawfulNormal normal.now }
-        requires placeless { SuitsSeveral normal.now.several window.now }
+        requires planned { IsPlanned query.now }
+        requires definitions { query.now.defs.now ≡ J.definitions }
         requires ledger { L.parts ≡ J.ledger }
-        requires plans { ArePlansFor J.definitions normal.now.branches plans.now }
-        requires shard { (ancestor : KeyParts) → ancestor_of normal.now.branches ≡ Some ancestor
+        requires shard { (ancestor : KeyParts) → ancestor_of query.now.normal.now.branches ≡ Some ancestor
             → shard ≡ shard_of (root_of ancestor) self.now.shards }
         requires below { shard < self.now.shards }
         requires at { IfSome at (λ place. place ≤ pass.old.place) }
-        ensures found { (ancestor : KeyParts) → ancestor_of normal.now.branches ≡ Some ancestor → IfOk result
-            (λ a. IsFoundInGroup self.now.shards pass.old pass.new (root_of ancestor) at normal.now window.now a.results a.next a.seen
-            a.beside) }
-        ensures expired { (ancestor : KeyParts) → ancestor_of normal.now.branches ≡ Some ancestor → IfErr result (λ e. WhereExpired
+        ensures found { (ancestor : KeyParts) → ancestor_of query.now.normal.now.branches ≡ Some ancestor → IfOk result
+            (λ a. IsFoundInGroup self.now.shards pass.old pass.new (root_of ancestor) at query.now.normal.now query.now.window.now a.results
+            a.next a.seen a.beside) }
+        ensures expired { (ancestor : KeyParts) → ancestor_of query.now.normal.now.branches ≡ Some ancestor → IfErr result (λ e. WhereExpired
             (λ x. IsExpired self.now.shards J.window pass.old pass.new (root_of ancestor) at x.snapshot x.applied x.commit) e) }
-        ensures steps_bounded { (ancestor : KeyParts) → ancestor_of normal.now.branches ≡ Some ancestor
+        ensures steps_bounded { (ancestor : KeyParts) → ancestor_of query.now.normal.now.branches ≡ Some ancestor
             → IfOk result (λ a. All (λ q. steps.new ≤ (steps.old
-            + search_bound normal.now window.now (most_of normal.now window.now)
+            + search_bound query.now.normal.now query.now.window.now (most_of query.now.normal.now query.now.window.now)
             (snapshot_of J.definitions J.window (list_of pass.new.lists (shard_of (root_of ancestor) self.now.shards)) a.beside ∷ []))
-            + look_ups q.select (length a.results)) normal.now.branches) }
-        ensures steps_gone { (ancestor : KeyParts) → ancestor_of normal.now.branches ≡ Some ancestor
+            + look_ups q.select (length a.results)) query.now.normal.now.branches) }
+        ensures steps_gone { (ancestor : KeyParts) → ancestor_of query.now.normal.now.branches ≡ Some ancestor
             → IfErr result (λ e. WhereExpired (λ x. steps.new ≤ steps.old
-            + search_bound normal.now window.now (most_of normal.now window.now)
+            + search_bound query.now.normal.now query.now.window.now (most_of query.now.normal.now query.now.window.now)
             (snapshot_of J.definitions J.window (list_of pass.new.lists (shard_of (root_of ancestor) self.now.shards)) x.snapshot
             ∷ [])) e) }
+        ensures steps_in_all { (ancestor : KeyParts) → ancestor_of query.now.normal.now.branches ≡ Some ancestor → (entries : ℕ)
+            × (steps.new ≤ steps.old + 2 * search_bound query.now.normal.now query.now.window.now None
+            (snapshot_of J.definitions J.window (list_of pass.new.lists (shard_of (root_of ancestor) self.now.shards)) entries ∷ [])) }
         ensures read { OnErr result (HasRead pass.old pass.new) }
     {
-        has_root(normal.branches.as_slice());
+        has_root(query.normal.branches.as_slice());
         let stand = self.stand(rt, pass, shard, at)?;
         let found = query_in(
             pass,
             self.alloc,
             shard as usize,
-            &self.definitions,
             self.window,
             stand.entries,
-            normal,
-            window,
-            plans,
+            query,
             steps,
         )?;
         match found {

@@ -149,6 +149,7 @@ fn counted<J: Names, L: Ledger, H: Wait + Drop>(
 fn query_wide<J: Names, R: Threads + Sync, H: Wait + Drop, G: Gate + Sync>(
     rt: &R,
     store: &Store<J, H>,
+    ledgers: &Ledgers<J>,
     pass: &mut Pass<J>,
     normal: &Normal,
     gate: &G,
@@ -156,7 +157,7 @@ fn query_wide<J: Names, R: Threads + Sync, H: Wait + Drop, G: Gate + Sync>(
 ) -> Asked
     requires { IsLawfulNormal normal.now }
 {
-    let found = store.query_wide(rt, pass, normal, &all(), gate);
+    let found = store.query_wide(rt, pass, normal, &all(), gate, ledgers);
     told_if(&found, names)
 }
 
@@ -237,12 +238,13 @@ pub(crate) fn find_wide<J: Names, R: Threads + Sync, H: Wait + Drop, G: Gate + S
     rt: &R,
     alloc: Global,
     store: &Store<J, H>,
+    ledgers: &Ledgers<J>,
     pass: &mut Pass<J>,
     gate: &G,
     names: &[&str],
 ) -> Result<Asked, NoMemory> {
     let anywhere = keys(alloc, None)?;
-    Ok(query_wide(rt, store, pass, &anywhere, gate, names))
+    Ok(query_wide(rt, store, ledgers, pass, &anywhere, gate, names))
 }
 
 /// A query for what is under an ancestor, inside a transaction at its touch place, or outside one.

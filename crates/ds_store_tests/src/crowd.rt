@@ -265,7 +265,7 @@ fn query<J: Names + Send + Sync, R: Threads + Wait + Sync, H: Wait + Drop + Send
     told: &mut Told,
 ) -> Result<(), NoMemory> {
     let asked = match dice.roll(4) {
-        0 => find_wide(rt, alloc, store, pass, &NoGate, &[])?,
+        0 => find_wide(rt, alloc, store, ledgers, pass, &NoGate, &[])?,
         1 => find_under(rt, alloc, store, ledgers, pass, "c", None, &[])?.0,
         _ => find(alloc, store, ledgers, pass, &[])?,
     };

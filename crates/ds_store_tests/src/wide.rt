@@ -76,13 +76,13 @@ pub(crate) fn at_once<J: Names, R: Threads + Wait + Sync, H: Wait + Drop>(
         done: AtomicU64::new(0),
         saw: AtomicU64::new(0),
     };
-    let found = find_wide(rt, alloc, store, pass, &held, &NAMES)?;
+    let found = find_wide(rt, alloc, store, ledgers, pass, &held, &NAMES)?;
     told.expect(found == finds(5, 5), "a query of all shards at once");
     told.expect(
         held.saw.load(Ordering::SeqCst) == 1,
         "a shard that waited for another",
     );
-    let found = find_wide(rt, alloc, store, pass, &NoGate, &NAMES)?;
+    let found = find_wide(rt, alloc, store, ledgers, pass, &NoGate, &NAMES)?;
     told.expect(found == finds(5, 5), "a query without a gate");
     let found = find(alloc, store, ledgers, pass, &NAMES)?;
     told.expect(found == finds(5, 5), "a query of one shard after the other");

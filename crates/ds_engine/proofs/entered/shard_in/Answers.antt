@@ -7,11 +7,11 @@ pub tables-requires : goal.tables-requires
 tables-requires g c =
     record {
       ledger = on_ledger g.L.Ledger.parts c.args.slot.now.start c.args.slot.now.known c.in-Some.state.now c.requires.ledger
-          c.in-Some.ensures.1;
+          c.in-Some.ensures.shows.1;
     }
 
 pub returns-in-Some : goal.returns-in-Some
 returns-in-Some g c = λ definitions kept begins.
     c.tables.ensures
     ∙ ap (λ (s : StateParts). s.shard)
-    (fold_is g.L.Ledger.parts definitions kept c.args.slot.now.start c.args.slot.now.known c.in-Some.state.now begins c.in-Some.ensures.1)
+    (fold_is g.L.Ledger.parts definitions kept c.args.slot.now.start c.args.slot.now.known c.in-Some.state.now begins c.in-Some.ensures.shows.1)

@@ -1,46 +1,74 @@
-use Rattle.std.proofs.Common.{◌≡◌, ◌+◌, ◌≤◌, List, ap, get_or, length, map, subst, sym, ◌∙◌, arith}
+use Rattle.std.proofs.Common.{◌≡◌, ◌+◌, ◌≤◌, List, None, ap, get_or, length, map, subst, sym, ◌∙◌, arith}
 use Rattle.ds_query.specs.declared.branch.Branch.{Branch}
+use Rattle.ds_engine.specs.Plans.{IsPlanFor}
 use Rattle.ds_engine.specs.Searches.{all_entities, look_ups, most_of, page_over, search_bound}
 use Rattle.ds_engine.specs.Snapshots.{SnapshotParts, entities_in}
+use Rattle.ds_engine.proofs.FewerSteps.{doubled}
 use Rattle.ds_engine.proofs.OneShard.{bound_of_one, is_one, page_of_one}
 use Rattle.ds_engine.proofs.Plans.{as_many, plan_at}
 use Rattle.ds_branch.proofs.OkLaws.{all_then, ok_then}
 use Rattle.ds_engine.proofs.searching.search_alone.Goals as goal
 
-pub bounds-plans-0 : goal.bounds-plans-0
-bounds-plans-0 g c =
-    let many = as_many c.args.defs.now c.args.normal.now.branches c.args.plans.now c.requires.plans in
-    let one = c.requires.lawful.single c.requires.single in
+pub bounds-query-0 : goal.bounds-query-0
+bounds-query-0 g c =
+    let many = as_many c.args.query.now.defs.now c.args.query.now.normal.now.branches c.args.query.now.plans.now c.requires.planned.plans in
+    let one = c.requires.planned.lawful.single c.requires.single in
     omega (arith, many, one)
 
 pub page_alone-requires-clause-plan : goal.page_alone-requires-clause-plan
 page_alone-requires-clause-plan g c =
     let q = c.index-as_slice-0.result in
-    let one = c.requires.lawful.single c.requires.single in
-    plan_at c.args.defs.now c.args.normal.now.branches c.args.plans.now 0 q c.index-plans-0.result c.requires.plans (omega (arith, one))
-    (c.index-as_slice-0.is ∙ ap (λ bs. get_or bs 0 q) c.as_slice.ensures) c.index-plans-0.is
+    let one = c.requires.planned.lawful.single c.requires.single in
+    subst (IsPlanFor c.args.query.now.defs.now q) c.index-query-0.is
+    (plan_at c.args.query.now.defs.now c.args.query.now.normal.now.branches c.args.query.now.plans.now 0 q c.index-query-0.result c.requires.planned.plans (omega (arith, one))
+    (c.index-as_slice-0.is ∙ ap (λ bs. get_or bs 0 q) c.as_slice.ensures) c.index-query-0.is)
 
 pub returns-clause-found : goal.returns-clause-found
 returns-clause-found g c = λ own.
-    let n = c.args.normal.now in
-    let w = c.args.window.now in
+    let n = c.args.query.now.normal.now in
+    let w = c.args.query.now.window.now in
     let q = c.index-as_slice-0.result in
     let s = c.index-snapshots-0.result in
-    let branches = is_one n.branches q (c.requires.lawful.single c.requires.single)
+    let branches = is_one n.branches q (c.requires.planned.lawful.single c.requires.single)
     (c.index-as_slice-0.is ∙ ap (λ bs. get_or bs 0 q) c.as_slice.ensures) in
     let shards = is_one c.args.snapshots.now s c.requires.one c.index-snapshots-0.is in
-    c.told.ensures.found w
+    c.told.ensures.found
     (subst (λ (ss : List SnapshotParts). c.in_ok-page.page ≡ page_over n w (all_entities (map entities_in ss))) (sym shards)
-    (page_of_one n w q (entities_in s) c.in_ok-page.page c.requires.lawful c.requires.single branches c.in_ok-page.ensures.page))
+    (page_of_one n w q (entities_in s) c.in_ok-page.page c.requires.planned.lawful c.requires.single branches c.in_ok-page.ensures.page))
     own
+
+pub returns-in_err-page-clause-steps_in_all : goal.returns-in_err-page-clause-steps_in_all
+returns-in_err-page-clause-steps_in_all g c =
+    let n = c.args.query.now.normal.now in
+    let w = c.args.query.now.window.now in
+    let q = c.index-as_slice-0.result in
+    let branches = is_one n.branches q (c.requires.planned.lawful.single c.requires.single)
+    (c.index-as_slice-0.is ∙ ap (λ bs. get_or bs 0 q) c.as_slice.ensures) in
+    let shards = is_one c.args.snapshots.now c.index-snapshots-0.result c.requires.one c.index-snapshots-0.is in
+    let bound = bound_of_one n w None q c.index-snapshots-0.result c.args.snapshots.now branches shards in
+    let within = c.in_err-page.ensures.refused in
+    omega (arith, within, bound)
+
+pub returns-clause-steps_in_all : goal.returns-clause-steps_in_all
+returns-clause-steps_in_all g c =
+    let n = c.args.query.now.normal.now in
+    let w = c.args.query.now.window.now in
+    let q = c.index-as_slice-0.result in
+    let branches = is_one n.branches q (c.requires.planned.lawful.single c.requires.single)
+    (c.index-as_slice-0.is ∙ ap (λ bs. get_or bs 0 q) c.as_slice.ensures) in
+    let shards = is_one c.args.snapshots.now c.index-snapshots-0.result c.requires.one c.index-snapshots-0.is in
+    let bound = bound_of_one n w (most_of n w) q c.index-snapshots-0.result c.args.snapshots.now branches shards in
+    let within = c.in_ok-page.ensures.steps in
+    doubled n w (most_of n w) c.args.snapshots.now c.args.steps.now c.page_alone.new.steps (length c.in_ok-page.page.rows) c.told.new.steps
+    (omega (arith, within, bound)) c.in_ok-page.ensures.a_step_for_each c.told.ensures.look_ups
 
 pub returns-clause-steps_bounded : goal.returns-clause-steps_bounded
 returns-clause-steps_bounded g c =
-    let n = c.args.normal.now in
-    let w = c.args.window.now in
+    let n = c.args.query.now.normal.now in
+    let w = c.args.query.now.window.now in
     let q = c.index-as_slice-0.result in
     let s = c.index-snapshots-0.result in
-    let branches = is_one n.branches q (c.requires.lawful.single c.requires.single)
+    let branches = is_one n.branches q (c.requires.planned.lawful.single c.requires.single)
     (c.index-as_slice-0.is ∙ ap (λ bs. get_or bs 0 q) c.as_slice.ensures) in
     let shards = is_one c.args.snapshots.now s c.requires.one c.index-snapshots-0.is in
     let bound = bound_of_one n w (most_of n w) q s c.args.snapshots.now branches shards in

@@ -12,8 +12,8 @@ use Rattle.ds_engine.proofs.wide.joined.Goals as goal
 
 pub loop-lane-preserved : goal.loop-lane-preserved
 loop-lane-preserved g c =
-    let n = c.args.normal.now in
-    let w = c.args.window.now in
+    let n = c.args.query.now.normal.now in
+    let w = c.args.query.now.window.now in
     let ss = c.args.snapshots.now in
     let i = length c.loop-lane.yielded in
     let rest = c.next.new.self.rest.items in
@@ -35,8 +35,8 @@ loop-lane-preserved g c =
 
 pub returns-clause-rows : goal.returns-clause-rows
 returns-clause-rows g c =
-    let n = c.args.normal.now in
-    let w = c.args.window.now in
+    let n = c.args.query.now.normal.now in
+    let w = c.args.query.now.window.now in
     let ss = c.args.snapshots.now in
     let i = length c.loop-lane.yielded in
     let few : length c.loop-lane.lane-iterator.rest.items ≡ 0 = search rules in

@@ -10,7 +10,7 @@ use Rattle.ds_engine.proofs.wide.joined.Given as goal
 abbrev pub invariant-loop-lane : goal.invariant-loop-lane
 invariant-loop-lane g l = record {
   rows : l.rows.items
-      ≡ map (placed l.normal.merged) (flat_map (λ s. shard_rows l.normal l.window (entities_in s)) (take (length l.yielded) l.snapshots));
-  placed : All (IsPlaced l.normal.merged) l.rows.items;
-  left : AreLanes l.normal l.window (drop (length l.yielded) l.snapshots) l.lane-iterator.rest.items;
+      ≡ map (placed l.query.normal.now.merged) (flat_map (λ s. shard_rows l.query.normal.now l.query.window.now (entities_in s)) (take (length l.yielded) l.snapshots));
+  placed : All (IsPlaced l.query.normal.now.merged) l.rows.items;
+  left : AreLanes l.query.normal.now l.query.window.now (drop (length l.yielded) l.snapshots) l.lane-iterator.rest.items;
 }

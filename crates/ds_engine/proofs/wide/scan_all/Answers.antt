@@ -6,4 +6,4 @@ pub returns : goal.returns
 returns g c = λ shard s l below.
     let many = c.requires.lanes in
     let changed = c.for_each_mut.ensures shard l (omega (arith, many, below)) in
-    subst (IsLaneOf c.args.normal.now c.args.window.now (get_or c.args.snapshots.now shard s)) changed.1.left (changed.1.call s)
+    subst (IsLaneOf c.args.query.now.normal.now c.args.query.now.window.now (get_or c.args.snapshots.now shard s)) changed.1.left (changed.1.call s)

@@ -7,7 +7,7 @@ use Rattle.ds_store_reads.proofs.looking_up.found_in.Goals as goal
 
 pub shard_in-requires : goal.shard_in-requires
 shard_in-requires g c =
-    record { ledger = subst (λ o. IfSome o (λ (s : StateParts). s.ledger ≡ g.L.Ledger.parts)) (sym c.requires.start) refl }
+    record { ledger = subst (λ o. IfSome o (λ (s : StateParts). s.ledger ≡ g.L.Ledger.parts)) (sym c.requires.start.1) refl }
 
 pub keeps_stamp-requires-clause-window : goal.keeps_stamp-requires-clause-window
 keeps_stamp-requires-clause-window g c =

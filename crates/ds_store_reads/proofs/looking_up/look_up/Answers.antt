@@ -4,6 +4,7 @@ use Rattle.std.proofs.lemmas.List.{length-map}
 use Rattle.std.proofs.Math.Seq.{map-set_same}
 use Rattle.ds_hub.specs.Holding.{hub_in, known_in}
 use Rattle.ds_log.specs.declared.Entry.{Entry}
+use Rattle.ds_shard.specs.States.{ShardPlace}
 use Rattle.ds_model.specs.Sessions.{list_of}
 use Rattle.ds_engine.specs.Counted.{HasBegun}
 use Rattle.ds_store_reads.specs.Found.{IsFound}
@@ -16,9 +17,12 @@ found_in-found-requires-clause-start g c =
     let slots = c.pass.inside.shards.items in
     let lt : c.args.shard < length slots =
     omega (arith, c.requires.shard, ap (λ (p : PassParts). length p.lists) c.pass.view_is, length-map slots known_in) in
-    subst (λ n. HasBegun n g.J.Names.definitions g.J.Names.window c.index_mut-slot.result.now) (sym c.requires.ledger)
-    (start_there g.J.Names.ledger g.J.Names.definitions g.J.Names.window slots g.J.Names.shards c.args.shard c.index_mut-slot.result.now
-    c.pass.invariant.1 lt c.index_mut-slot.ensures.value)
+    let place : ShardPlace = record { shards = length g.J.Names.shards; number = c.args.shard } in
+    subst (λ n. HasBegun n g.J.Names.definitions g.J.Names.window c.index_mut-slot.result.now) (sym c.requires.ledger) (
+      place,
+      start_there g.J.Names.ledger g.J.Names.definitions g.J.Names.window slots g.J.Names.shards c.args.shard c.index_mut-slot.result.now
+          c.pass.invariant.1 lt c.index_mut-slot.ensures.value,
+    )
 
 pub found_in-found-requires-clause-entries : goal.found_in-found-requires-clause-entries
 found_in-found-requires-clause-entries g c =

@@ -1,23 +1,22 @@
-use Rattle.std.proofs.Common.{◌+◌, ◌≤◌, List, length, map, subst, sym, ◌∙◌, arith}
+use Rattle.std.proofs.Common.{◌+◌, ◌*◌, ◌≤◌, None, List, length, map, subst, sym, ◌∙◌, arith}
 use Rattle.std.specs.Prelude.{All}
 use Rattle.ds_query.specs.declared.branch.Branch.{Branch}
 use Rattle.ds_hub.specs.Holding.{known_in}
 use Rattle.ds_engine.specs.Counted.{HasBegun}
-use Rattle.ds_engine.specs.Plans.{ArePlansFor}
 use Rattle.ds_engine.specs.Searches.{look_ups, most_of, search_bound}
 use Rattle.ds_engine.specs.Snapshots.{SnapshotParts, newest}
-use Rattle.ds_store_reads.proofs.QueryLaws.{begun-of, many-origins}
+use Rattle.ds_store_reads.proofs.QueryLaws.{begun-of, many-origins, placed-origins}
 use Rattle.ds_store_reads.proofs.searching.query.Goals as goal
-
-pub query_shards-requires-clause-plans : goal.query_shards-requires-clause-plans
-query_shards-requires-clause-plans g c =
-    subst (λ d. ArePlansFor d c.args.normal.now.branches c.args.plans.now) (sym c.requires.definitions) c.requires.plans
 
 pub query_shards-requires-clause-begun : goal.query_shards-requires-clause-begun
 query_shards-requires-clause-begun g c =
-    subst (λ n. All (HasBegun n c.args.defs.now c.args.kept) c.pass.inside.shards.items) (sym c.requires.ledger)
-    (begun-of g.J.Names.ledger g.J.Names.definitions c.args.defs.now g.J.Names.window c.args.kept g.J.Names.shards
+    subst (λ n. All (HasBegun n c.args.query.now.defs.now c.args.kept) c.pass.inside.shards.items) (sym c.requires.ledger)
+    (begun-of g.J.Names.ledger g.J.Names.definitions c.args.query.now.defs.now g.J.Names.window c.args.kept g.J.Names.shards
     c.pass.inside.shards.items c.requires.definitions c.requires.kept.0 c.pass.invariant.1)
+
+pub query_shards-requires-clause-placed : goal.query_shards-requires-clause-placed
+query_shards-requires-clause-placed g c =
+    placed-origins g.J.Names.ledger g.J.Names.definitions g.J.Names.window g.J.Names.shards c.pass.inside.shards.items c.pass.invariant.1
 
 pub query_shards-requires-clause-some : goal.query_shards-requires-clause-some
 query_shards-requires-clause-some g c =
@@ -40,9 +39,23 @@ invariant_of-pass g c =
 
 pub returns-clause-steps_bounded : goal.returns-clause-steps_bounded
 returns-clause-steps_bounded g c =
-    let n = c.args.normal.now in
-    let w = c.args.window.now in
+    let n = c.args.query.now.normal.now in
+    let w = c.args.query.now.window.now in
     subst (λ (snapshots : List SnapshotParts). All (λ (q : Branch). c.query_shards.new.steps
     ≤ (c.args.steps.now + search_bound n w (most_of n w) snapshots) + look_ups q.select (length c.in_ok-answer.answer.results)) n.branches)
     (λ i. newest (c.requires.definitions i) (c.requires.kept.0 i) (map known_in c.query_shards.new.shards.items))
     c.in_ok-answer.ensures.steps_bounded
+
+pub returns-in_err-answer-clause-steps_in_all : goal.returns-in_err-answer-clause-steps_in_all
+returns-in_err-answer-clause-steps_in_all g c =
+    subst (λ (snapshots : List SnapshotParts). c.query_shards.new.steps ≤ c.args.steps.now
+    + 2 * search_bound c.args.query.now.normal.now c.args.query.now.window.now None snapshots)
+    (λ i. newest (c.requires.definitions i) (c.requires.kept.0 i) (map known_in c.query_shards.new.shards.items))
+    c.query_shards.ensures.steps_in_all
+
+pub returns-clause-steps_in_all : goal.returns-clause-steps_in_all
+returns-clause-steps_in_all g c =
+    subst (λ (snapshots : List SnapshotParts). c.query_shards.new.steps ≤ c.args.steps.now
+    + 2 * search_bound c.args.query.now.normal.now c.args.query.now.window.now None snapshots)
+    (λ i. newest (c.requires.definitions i) (c.requires.kept.0 i) (map known_in c.query_shards.new.shards.items))
+    c.query_shards.ensures.steps_in_all

@@ -1,4 +1,4 @@
-use Rattle.std.proofs.Common.{ap, ◌∙◌}
+use Rattle.std.proofs.Common.{ap, ◌∙◌, arith}
 use Rattle.ds_engine.specs.Searches.{ancestor_of}
 use Rattle.ds_store_passes.specs.Passes.{HasRead}
 use Rattle.ds_store_passes.proofs.PassReads.{on_err}
@@ -16,3 +16,9 @@ returns-in_err-shard-clause-read g c =
 pub strong_query_planned-requires-clause-shard : goal.strong_query_planned-requires-clause-shard
 strong_query_planned-requires-clause-shard g c = λ ancestor is.
     c.in_ok-shard.ensures.is ancestor (ap ancestor_of c.as_slice-branches.ensures ∙ is)
+
+pub returns-in_err-plans-clause-steps_in_all : goal.returns-in_err-plans-clause-steps_in_all
+returns-in_err-plans-clause-steps_in_all g c = λ ancestor is. (0, omega arith)
+
+pub returns-in_err-shard-clause-steps_in_all : goal.returns-in_err-shard-clause-steps_in_all
+returns-in_err-shard-clause-steps_in_all g c = λ ancestor is. (0, omega arith)
