@@ -12,11 +12,11 @@ use Rattle.ds_store.specs.Passes.{HasRead}
 use Rattle.ds_asked.specs.declared.lines.Asked.{Asked}
 use Rattle.ds_asked.specs.AskedLines.{AreAsked, AreAskedFrom, MayBeAnswered}
 use Rattle.ds_clients.specs.Clients.{AreAlike, EachOf, HasAnsweredOwn, IsReady, clients_of}
-use Rattle.ds_session.specs.Room.{most_no_memory}
+use Rattle.ds_client.specs.Room.{most_no_memory}
 use Rattle.ds_clients.specs.Runs.{AreWritten, HaveAnswered, HaveMet, HaveTaken, seen_of}
-use Rattle.ds_session.specs.Meeting.{HasTaken}
+use Rattle.ds_client.specs.Meeting.{HasTaken}
 use Rattle.ds_asked.specs.AskedLines.{lines_of_client}
-use Rattle.ds_session.specs.Sessions.{SessionParts}
+use Rattle.ds_client.specs.Sessions.{SessionParts}
 
 -- ---- a loop over a list, in place
 

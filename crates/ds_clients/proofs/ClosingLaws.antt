@@ -17,7 +17,7 @@ use Rattle.ds_store.specs.Ending.{HaveEnded, Begins, commits_of_all, draws_of_al
 use Rattle.ds_store.specs.Passes.{nothing_seen}
 use Rattle.ds_store.specs.Passes.{PassParts, HasRead}
 use Rattle.ds_clients.specs.Runs.{HasRun, AllBegin, IsIdle, passes_of, seen_of}
-use Rattle.ds_session.specs.Sessions.{SessionParts}
+use Rattle.ds_client.specs.Sessions.{SessionParts}
 
 -- ---- of all passes those of the sessions
 

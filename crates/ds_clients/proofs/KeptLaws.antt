@@ -6,8 +6,8 @@ use Rattle.std.proofs.lemmas.List.Elements.{All-nil, All-append, All-cons, All-w
 use Rattle.ds_base.specs.Limits.{first_drawn_id, greatest_client}
 use Rattle.ds_model.specs.Sessions.{Session, first_session, greater_counts, saw_next, saw_place}
 use Rattle.ds_protocol.specs.Watermarks.{raised_by}
-use Rattle.ds_session.specs.Meeting.{HasTaken}
-use Rattle.ds_session.specs.Sessions.{SessionParts}
+use Rattle.ds_client.specs.Meeting.{HasTaken}
+use Rattle.ds_client.specs.Sessions.{SessionParts}
 use Rattle.ds_store.specs.Passes.{PassParts, nothing_seen}
 use Rattle.ds_clients.specs.Clients.{AreNew, EachOf}
 use Rattle.ds_clients.specs.Runs.{AreWritten, IsIdle, passes_of, seen_of}

@@ -2,10 +2,11 @@ pub mod ClientLaws
 pub mod ClosingLaws
 pub mod KeptLaws
 pub mod MeetingLaws
-pub mod MissedLaws
 pub mod MovingLaws
-pub mod OwnLaws
 pub mod RoundLaws
 pub mod RunLaws
 pub mod SeatLaws
 pub mod TextLaws
+pub use Rattle.ds_client.proofs.GrowthLaws
+pub use Rattle.ds_client.proofs.LineLaws
+pub use Rattle.ds_client.proofs.SeeingLaws

@@ -4,7 +4,7 @@ use Rattle.ds_model.specs.Sessions.{Session, raised_to}
 use Rattle.ds_protocol.specs.Watermarks.{HaveCounts, greatest_of, raised_by}
 use Rattle.ds_protocol.proofs.Meetings.{all_met}
 use Rattle.ds_clients.specs.Runs.{HaveMet, HaveTaken, seen_of}
-use Rattle.ds_session.specs.Sessions.{SessionParts}
+use Rattle.ds_client.specs.Sessions.{SessionParts}
 
 each_met : (greatest : Session) (all : List Session) (before after : List SessionParts)
     → map (raised_by greatest) (seen_of before) ≡ map (raised_to all) (seen_of before) → HaveTaken greatest before after

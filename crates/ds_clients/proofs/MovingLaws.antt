@@ -8,8 +8,8 @@ use Rattle.std.proofs.Math.Seq.{take-append_seam}
 use Rattle.ds_store.specs.Answered.{AreAtLeast}
 use Rattle.ds_store.specs.Lower.{IsNoLower}
 use Rattle.ds_store.specs.Passes.{HasRead, PassParts, counts_of}
-use Rattle.ds_session.specs.Sessions.{SessionParts}
-use Rattle.ds_session.proofs.SeeingLaws.{least_longer, least_through}
+use Rattle.ds_client.specs.Sessions.{SessionParts}
+use Rattle.ds_client.proofs.SeeingLaws.{least_longer, least_through}
 use Rattle.ds_clients.specs.Clients.{clients_of}
 use Rattle.ds_clients.specs.Moving.{AreMoved, HaveBeenMet, IsMetBy}
 use Rattle.ds_clients.specs.Runs.{AreWritten, IsIdle, passes_of, seen_of}

@@ -21,13 +21,14 @@ use Rattle.ds_model.specs.Sessions.{Session, met, raised_to}
 use Rattle.ds_model.specs.Worlds.{World, world_of}
 use Rattle.ds_store.specs.Ending.{Begins}
 use Rattle.ds_store.specs.Passes.{PassParts}
-use Rattle.ds_session.specs.Answering.{HasAnswered}
+use Rattle.ds_client.specs.Answering.{HasAnswered}
+use Rattle.ds_client.specs.GoingOnLaws.{steps_go_on}
 use Rattle.ds_clients.specs.Runs.{HasMet, HaveMet, HaveAnswered, HaveRun, HasRun, AllBegin, AreWritten, IsIdle, seen_of}
 use Rattle.ds_asked.specs.AskedLines.{lines_of_client}
 use Rattle.ds_clients.specs.Runs.{texts_of}
-use Rattle.ds_session.specs.Sessions.{SessionParts}
-use Rattle.ds_session.proofs.GrowthLaws.{begins_before, grown_by_reading}
-use Rattle.ds_session.proofs.LineLaws.{texts-append, drawn-append}
+use Rattle.ds_client.specs.Sessions.{SessionParts}
+use Rattle.ds_client.proofs.GrowthLaws.{begins_before, grown_by_reading}
+use Rattle.ds_client.proofs.LineLaws.{texts-append, drawn-append}
 
 -- ---- meeting
 
@@ -169,7 +170,8 @@ module _ (definitions : List IndexDef) (shards : ℕ) (window : Option ℕ) (rou
       own.replies,
       others.replies,
       refl,
-      own.steps journal (All-head (λ u. Begins shards journal u.pass) t after on),
+      steps_go_on definitions shards window (asked shards) t.pass s.seen t.seen (lines_of_client shards client round) own.replies
+          own.steps journal (All-head (λ u. Begins shards journal u.pass) t after on),
       others.steps journal (All-tail (λ u. Begins shards journal u.pass) t after on),
     );
     counted = length-append own.replies others.replies ∙ ap (λ n. n + length others.replies) own.counted

@@ -15,10 +15,10 @@ use Rattle.ds_store.specs.Passes.{PassParts}
 use Rattle.ds_asked.specs.declared.lines.Asked.{Asked}
 use Rattle.ds_asked.specs.AskedLines.{AreAskedBy, AreAskedFrom}
 use Rattle.ds_clients.specs.Clients.{AreAlike, AreReady, EachOf, HasAnsweredOwn, IsReady, StartsRound, clients_of}
-use Rattle.ds_session.specs.Room.{most_no_memory}
+use Rattle.ds_client.specs.Room.{most_no_memory}
 use Rattle.ds_clients.specs.Runs.{AreWritten, HaveMet, HaveRun, passes_of, seen_of}
-use Rattle.ds_session.specs.Meeting.{HasTaken}
-use Rattle.ds_session.specs.Sessions.{SessionParts}
+use Rattle.ds_client.specs.Meeting.{HasTaken}
+use Rattle.ds_client.specs.Sessions.{SessionParts}
 use Rattle.ds_clients.proofs.ClientLaws.{IsAlike, alike, all_ready, counts_kept, each_map, each_through, each_weaker, have_answered}
 use Rattle.ds_clients.proofs.ClientLaws.{have_taken, met_alike}
 use Rattle.ds_clients.proofs.ClientLaws.{are_written, written_each, written_kept}

@@ -12,7 +12,7 @@ use Rattle.ds_store.specs.Passes.{nothing_seen}
 use Rattle.ds_store.specs.Passes.{PassParts}
 use Rattle.ds_clients.specs.Clients.{AreSeated, clients_of}
 use Rattle.ds_clients.specs.Runs.{AreWritten, passes_of, seen_of}
-use Rattle.ds_session.specs.Sessions.{SessionParts}
+use Rattle.ds_client.specs.Sessions.{SessionParts}
 
 pub record SeatedSoFar (shards n : ℕ) (sessions : List SessionParts) : Type 0 where
   pub seen : seen_of sessions ≡ replicate n (first_session shards)

@@ -10,7 +10,7 @@ use Rattle.ds_base.specs.Buffers.{BufferParts}
 use Rattle.ds_clients.specs.declared.output.Cut.{Cut}
 use Rattle.ds_clients.specs.Clients.{IsCut, IsCutAt, WrotePart}
 use Rattle.ds_clients.specs.Runs.{texts_of}
-use Rattle.ds_session.specs.Sessions.{SessionParts}
+use Rattle.ds_client.specs.Sessions.{SessionParts}
 use Rattle.ds_output.specs.Unsent.{AreEmpty, IsPartTaken}
 use Rattle.ds_output.proofs.TextLaws.{all_bytes}
 

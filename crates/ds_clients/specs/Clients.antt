@@ -1,19 +1,16 @@
 -- All clients' sessions: as they begin, what stays of them where no line is answered, and how their texts are written.
-use Rattle.std.specs.Prelude.{◌≡◌, ℕ, ◌+◌, ◌*◌, ◌≤◌, List, [], ◌++◌, Option, Some, All, length, map, replicate, slice_get, take}
+use Rattle.std.specs.Prelude.{◌≡◌, ℕ, ◌+◌, ◌≤◌, List, ◌++◌, Option, Some, length, map, replicate, slice_get, take}
 use Rattle.std.specs.List.{range_with_len}
 use Rattle.std.specs.Io.KnownBytes.{Appends}
 use Rattle.ds_base.specs.Limits.{greatest_client}
-use Rattle.ds_indexdef.specs.declared.IndexDef.{IndexDef}
 use Rattle.ds_rounds.specs.Rounds.{NumberedLine}
-use Rattle.ds_model.specs.Sessions.{Session, first_sessions}
-use Rattle.ds_protocol.specs.Watermarks.{raised_by}
+use Rattle.ds_model.specs.Sessions.{first_sessions}
 use Rattle.ds_store.specs.Passes.{nothing_seen}
-use Rattle.ds_session.specs.Answering.{HasAnswered}
-use Rattle.ds_asked.specs.AskedLines.{AreAsked, AreAskedFrom, MayBeAnswered}
-use Rattle.ds_session.specs.Room.{most_no_memory}
+use Rattle.ds_asked.specs.AskedLines.{AreAskedFrom}
+pub use Rattle.ds_client.specs.Clients.{ClientParts, HasAnsweredOwn, IsReady, StartsRound, taking}
 use Rattle.ds_clients.specs.Runs.{AreWritten, HaveMet, passes_of, seen_of, texts_of}
 pub use Rattle.ds_workers.specs.Each.{EachOf}
-use Rattle.ds_session.specs.Sessions.{SessionParts}
+use Rattle.ds_client.specs.Sessions.{SessionParts}
 use Rattle.ds_asked.specs.declared.lines.Asked.{Asked}
 use Rattle.ds_clients.specs.declared.output.Cut.{Cut}
 
@@ -57,36 +54,7 @@ pub record AreSeated (shards : ℕ) (sessions : List SessionParts) : Type 0 wher
   pub new : AreNew shards sessions
   pub clients : clients_of sessions ≡ range_with_len 0 (greatest_client + 1)
 
--- a client whose own lines these are may answer them, and has room for a reply to each that there was no memory
-pub record IsReady (shards : ℕ) (s : SessionParts) (own : List Asked) : Type 0 where
-  pub answerable : All (MayBeAnswered shards) own
-  pub own_lines : All (λ a. a.client ≡ s.client) own
-  pub room : length own * most_no_memory ≤ s.room
-
--- a client's session once it has taken this
-abbrev pub taking : Session → SessionParts → SessionParts
-taking missed s = record s { seen = raised_by missed s.seen }
-
--- what contracts see of a client: its session, and what its lines of a round ask
-pub record ClientParts : Type 0 where
-  pub session : SessionParts
-  pub own : List Asked
-
--- a client that is ready, with no reply left from an earlier round, and with a count of each shard
-pub record StartsRound (shards : ℕ) (s : SessionParts) (own : List Asked) : Type 0 where
-  pub ready : IsReady shards s own
-  pub written : s.text ≡ []
-  pub counts : length s.seen.counts ≡ shards
-
 -- The sessions have met, and so these lists are what the clients' lines of the round ask.
 pub record AreReady (shards : ℕ) (round : List NumberedLine) (before after : List SessionParts) (own : List (List Asked)) : Type 0 where
   pub met : HaveMet (seen_of before) before after
   pub asked : AreAskedFrom shards 0 round own
-
--- whatever lines ask this of the client, they were answered; and as many counts are seen
-pub record HasAnsweredOwn (definitions : List IndexDef) (shards : ℕ) (window : Option ℕ) (before : SessionParts) (own : List Asked)
-    (after : SessionParts) : Type 0 where
-  pub answered : (lines : List NumberedLine) → AreAsked shards before.client lines own
-      → HasAnswered definitions shards window before after lines
-  pub client : after.client ≡ before.client
-  pub counts : length after.seen.counts ≡ length before.seen.counts

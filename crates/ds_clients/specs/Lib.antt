@@ -2,3 +2,4 @@ pub mod Clients
 pub mod Moving
 pub mod Runs
 pub mod Showing
+pub use Rattle.ds_client.specs.Sessions

@@ -1,6 +1,6 @@
 -- Sessions that go on over another store.
 use Rattle.std.specs.Prelude.{◌≡◌, ◌<◌, ◌≤◌, List, All, map}
-use Rattle.ds_session.specs.Sessions.{SessionParts}
+use Rattle.ds_client.specs.Sessions.{SessionParts}
 use Rattle.ds_clients.specs.Clients.{clients_of}
 use Rattle.ds_clients.specs.Runs.{AreWritten, IsIdle, seen_of}
 use Rattle.ds_store.specs.Answered.{AreAtLeast}

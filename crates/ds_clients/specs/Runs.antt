@@ -14,9 +14,9 @@ use Rattle.ds_model.specs.Worlds.{world_of}
 use Rattle.ds_store.specs.Ending.{Begins}
 use Rattle.ds_store.specs.Passes.{PassParts, HasRead}
 use Rattle.ds_asked.specs.AskedLines.{lines_of_client}
-use Rattle.ds_session.specs.Answering.{HasAnswered}
-use Rattle.ds_session.specs.Meeting.{HasTaken}
-use Rattle.ds_session.specs.Sessions.{SessionParts}
+use Rattle.ds_client.specs.Answering.{HasAnswered}
+use Rattle.ds_client.specs.Meeting.{HasTaken}
+use Rattle.ds_client.specs.Sessions.{SessionParts}
 
 -- what the clients have seen
 abbrev pub seen_of : List SessionParts → List Session

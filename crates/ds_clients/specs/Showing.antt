@@ -1,6 +1,6 @@
 -- What the passes of all clients show.
 use Rattle.std.specs.Prelude.{ℕ, List, fold, max}
-use Rattle.ds_session.specs.Sessions.{SessionParts}
+use Rattle.ds_client.specs.Sessions.{SessionParts}
 
 -- the greatest place of a pass
 abbrev pub place_shown : List SessionParts → ℕ

@@ -8,10 +8,10 @@ ghost use Rattle.ds_protocol.specs.Watermarks.{HaveCounts};
 ghost use Rattle.ds_rounds.specs.Reading.{IsRound};
 ghost use Rattle.ds_rounds.specs.Rounds.{lines_of_round};
 
-use crate::client::Client;
 use crate::clients::ready_clients;
 use crate::workers::{RunNames, Workers};
 use ds_base::NoMemory;
+use ds_client::Client;
 use ds_indexdef::Defs;
 use ds_io::Gate;
 use ds_rounds::Round;

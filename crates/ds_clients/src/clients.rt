@@ -9,21 +9,19 @@ ghost use Rattle.ds_protocol.specs.Watermarks.{nothing_seen as no_counts};
 ghost use Rattle.ds_rounds.specs.Reading.{IsRound};
 ghost use Rattle.ds_rounds.specs.Rounds.{lines_of_round};
 ghost use Rattle.ds_clients.specs.Clients.{AreAlike, AreReady, AreSeated, EachOf, StartsRound};
-ghost use Rattle.ds_session.specs.Room.{most_no_memory};
+ghost use Rattle.ds_client.specs.Room.{most_no_memory};
 ghost use Rattle.ds_clients.specs.Runs.{AreWritten, seen_of};
-ghost use Rattle.ds_session.specs.Meeting.{HasTaken};
+ghost use Rattle.ds_client.specs.Meeting.{HasTaken};
 ghost use Rattle.ds_output.specs.Unsent.{AreEmpty};
 ghost use Rattle.ds_store.specs.Passes.{nothing_seen};
 
-use crate::client::Client;
-use crate::missed::Missed;
 use ds_asked::{Asked, asked_by_client};
 use ds_base::limits::MAX_CLIENT;
 use ds_base::{NoMemory, Sequence};
+use ds_client::{Client, Missed, Session};
 use ds_output::Texts;
 use ds_protocol::Watermark;
 use ds_rounds::Round;
-use ds_session::Session;
 use ds_store::{Ledgers, Names, Pass};
 use std::alloc::{AllocError, Global};
 

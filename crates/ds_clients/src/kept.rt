@@ -6,11 +6,11 @@ ghost use Rattle.ds_clients.specs.Clients.{AreAlike, AreNew};
 ghost use Rattle.ds_clients.specs.Runs.{AreWritten, IsIdle, seen_of, texts_of};
 ghost use Rattle.ds_clients.specs.Showing.{next_shown, place_shown};
 
-use crate::client::Client;
 use crate::clients::meet_all;
 use crate::output::Cut;
 use crate::rounds::Sessions;
 use ds_base::NoMemory;
+use ds_client::Client;
 use ds_output::Unsent;
 use ds_protocol::Watermark;
 use ds_store::{Names, Shown, Store};

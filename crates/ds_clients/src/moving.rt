@@ -7,9 +7,9 @@ ghost use Rattle.ds_clients.specs.Runs.{IsIdle, passes_of};
 ghost use Rattle.ds_store.specs.Lower.{IsNoLower};
 ghost use Rattle.ds_store.specs.Passes.{HasRead};
 
-use crate::client::Client;
 use crate::clients::CLIENTS;
 use crate::rounds::Sessions;
+use ds_client::Client;
 use ds_store::{Ledgers, Names, Pass, Store};
 use std::sync::Wait;
 

@@ -5,10 +5,10 @@ ghost use Rattle.ds_io.specs.Faults.{next_count};
 ghost use Rattle.ds_clients.specs.Clients.{AreAlike, IsCutAt, WrotePart};
 ghost use Rattle.ds_clients.specs.Runs.{AreWritten, texts_of};
 
-use crate::client::Client;
 use crate::rounds::Sessions;
-use ds_io::Sink;
-use ds_output::{Unsent, write_all};
+use ds_client::Client;
+use ds_io::{Sink, write_all};
+use ds_output::Unsent;
 use ds_store::Names;
 
 /// Writes the sessions' texts, by client, and sends them on their way once. A refusal comes exactly where a write or the flush failed, and

@@ -10,11 +10,11 @@ ghost use Rattle.ds_clients.specs.Runs.{AreWritten, HaveRun, passes_of, seen_of,
 ghost use Rattle.ds_store.specs.Passes.{nothing_seen};
 
 use crate::answering::{LineHandler, run_clients};
-use crate::client::Client;
 use crate::clients::{CLIENTS, clear_texts, first_marks, none_missed, seated, take_texts};
 use crate::output::Cut;
 use crate::workers::{RunNames, Workers};
 use ds_base::NoMemory;
+use ds_client::Client;
 use ds_indexdef::Defs;
 use ds_io::Gate;
 use ds_output::{Unsent, no_texts};
@@ -36,7 +36,7 @@ impl<J: Names> Model for Sessions<J> {
     ghost use Rattle.std.specs.Prelude.{◌≡◌, ◌+◌, List, map};
     ghost use Rattle.std.specs.List.{range_with_len};
     ghost use Rattle.ds_base.specs.Limits.{greatest_client};
-    ghost use Rattle.ds_session.specs.Sessions.{SessionParts};
+    ghost use Rattle.ds_client.specs.Sessions.{SessionParts};
 
     ghost Value = { List SessionParts };
 

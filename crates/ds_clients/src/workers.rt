@@ -3,8 +3,8 @@ ghost use Rattle.std.specs.Prelude.{◌≡◌, All, Some};
 ghost use Rattle.ds_clients.specs.Clients.{EachOf, HasAnsweredOwn, StartsRound};
 
 use crate::answering::{Answering, LineHandler};
-use crate::client::Client;
 use crate::clients::CLIENTS;
+use ds_client::Client;
 use ds_indexdef::Defs;
 use ds_io::Gate;
 use ds_store::{Names, Store};

@@ -12,8 +12,8 @@ use Rattle.ds_rounds.specs.Reading.{ReaderParts}
 use Rattle.ds_rounds.specs.Rounds.{NumberedLine}
 use Rattle.ds_clients.specs.Runs.{HasRun, IsIdle, passes_of, seen_of}
 use Rattle.ds_clients.proofs.ClosingLaws.{legal_run}
-use Rattle.ds_session.specs.Sessions.{SessionParts}
-use Rattle.ds_session.proofs.LineLaws.{texts-append}
+use Rattle.ds_clients.specs.Sessions.{SessionParts}
+use Rattle.ds_clients.proofs.LineLaws.{texts-append}
 use Rattle.ds_serving.specs.Rounds.{HasServed, HasStopped}
 use Rattle.ds_serving.specs.Runs.{Wrote}
 use Rattle.ds_serving.specs.declared.settings.Setting.{Setting}

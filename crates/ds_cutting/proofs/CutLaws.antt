@@ -26,9 +26,9 @@ use Rattle.ds_model.specs.Worlds.{shard_lists, world_of}
 use Rattle.ds_reply.specs.declared.reply.Reply.{Reply}
 use Rattle.ds_rounds.specs.Rounds.{NumberedLine}
 use Rattle.ds_clients.specs.Runs.{AllBegin, HasRun, IsIdle, passes_of, seen_of}
-use Rattle.ds_session.specs.Sessions.{SessionParts}
-use Rattle.ds_session.proofs.GrowthLaws.{longer_through}
-use Rattle.ds_session.proofs.LineLaws.{drawn-append}
+use Rattle.ds_clients.specs.Sessions.{SessionParts}
+use Rattle.ds_clients.proofs.GrowthLaws.{longer_through}
+use Rattle.ds_clients.proofs.LineLaws.{drawn-append}
 use Rattle.ds_serving.proofs.Alike.{all_sessions}
 use Rattle.ds_store.specs.Ending.{Begins, HaveEnded}
 use Rattle.ds_store.specs.Loads.{loaded}

@@ -17,8 +17,8 @@ use Rattle.ds_rounds.specs.Reading.{ReaderParts}
 use Rattle.ds_clients.specs.Moving.{AreMoved, HaveBeenMet}
 use Rattle.ds_clients.specs.Runs.{HasRun, IsIdle, seen_of}
 use Rattle.ds_clients.proofs.RoundLaws.{run_nothing}
-use Rattle.ds_session.specs.Sessions.{SessionParts}
-use Rattle.ds_session.proofs.SeeingLaws.{least_longer, least_through}
+use Rattle.ds_clients.specs.Sessions.{SessionParts}
+use Rattle.ds_clients.proofs.SeeingLaws.{least_longer, least_through}
 use Rattle.ds_serving.specs.Rounds.{HasServed}
 use Rattle.ds_serving.specs.declared.settings.Setting.{Setting}
 use Rattle.ds_serve.specs.RunSteps.{Counted, Exactly, RanBehind}

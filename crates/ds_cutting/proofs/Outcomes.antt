@@ -10,7 +10,7 @@ use Rattle.ds_log.specs.declared.Commit.{Commit}
 use Rattle.ds_model.specs.Sessions.{Session}
 use Rattle.ds_rounds.specs.Rounds.{NumberedLine}
 use Rattle.ds_clients.specs.Runs.{IsIdle, passes_of}
-use Rattle.ds_session.specs.Sessions.{SessionParts}
+use Rattle.ds_clients.specs.Sessions.{SessionParts}
 use Rattle.ds_serving.specs.Rounds.{HasStopped}
 use Rattle.ds_serving.specs.declared.settings.Setting.{Setting}
 use Rattle.ds_serve.specs.RunSteps.{Counted, RanBehind, StoppedPast}

@@ -14,7 +14,7 @@ use Rattle.ds_protocol.specs.Watermarks.{HaveCounts}
 use Rattle.ds_rounds.specs.Reading.{ReaderParts}
 use Rattle.ds_rounds.specs.Rounds.{NumberedLine}
 use Rattle.ds_clients.specs.Runs.{AreWritten, IsIdle, passes_of, seen_of}
-use Rattle.ds_session.specs.Sessions.{SessionParts}
+use Rattle.ds_clients.specs.Sessions.{SessionParts}
 use Rattle.ds_serving.specs.Rounds.{HasServed, HasStopped}
 use Rattle.ds_serving.specs.Runs.{HasBegun, read_faults, write_faults}
 use Rattle.ds_serving.specs.declared.settings.Setting.{Setting}

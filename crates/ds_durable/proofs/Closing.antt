@@ -20,7 +20,7 @@ use Rattle.ds_serving.proofs.ContinuedLaws.{legal_behind, of_loader}
 use Rattle.ds_serving.proofs.RoundLaws.{served_nothing}
 use Rattle.ds_protocol.specs.Watermarks.{HaveCounts}
 use Rattle.ds_rounds.specs.Reading.{ReaderParts}
-use Rattle.ds_session.specs.Sessions.{SessionParts}
+use Rattle.ds_clients.specs.Sessions.{SessionParts}
 use Rattle.ds_store.specs.Ending.{Begins, HaveEnded}
 use Rattle.ds_store.specs.Loads.{loaded}
 use Rattle.ds_store.specs.Passes.{HasRead, PassParts, StoreParts}

@@ -2,7 +2,7 @@
 use Rattle.std.proofs.Common.{ℕ, ◌<◌, ◌≤◌, List, arith}
 use Rattle.std.specs.Prelude.{All}
 use Rattle.std.proofs.lemmas.List.Elements.{All-weaker}
-use Rattle.ds_session.specs.Sessions.{SessionParts}
+use Rattle.ds_clients.specs.Sessions.{SessionParts}
 use Rattle.ds_keeping.specs.Holding.{AreCovered}
 
 pub covered_up_to : (commits next commits_now next_now : ℕ) (sessions : List SessionParts) → commits ≤ commits_now → next ≤ next_now

@@ -3,7 +3,7 @@ use Rattle.std.specs.Prelude.{◌≡◌, ℕ, ◌<◌, ◌≤◌, List, length, 
 use Rattle.ds_kept_file.specs.Files.{Kept, StandsFor}
 use Rattle.ds_keep.specs.Keepers.{KeeperParts}
 use Rattle.ds_store.specs.Passes.{PassParts}
-use Rattle.ds_session.specs.Sessions.{SessionParts}
+use Rattle.ds_clients.specs.Sessions.{SessionParts}
 
 -- what is kept where that is all that a pass has seen
 abbrev pub kept_at : PassParts → ℕ → Kept

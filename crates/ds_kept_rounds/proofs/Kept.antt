@@ -19,7 +19,7 @@ use Rattle.ds_serving.specs.Rounds.{RanFrom}
 use Rattle.ds_serving.specs.declared.settings.Setting.{Setting}
 use Rattle.ds_serving.proofs.Alike.{all_passes, all_sessions, run_alike, run_alike_replies}
 use Rattle.ds_serving.proofs.NextLaws.{ran_behind, ran_more}
-use Rattle.ds_session.specs.Sessions.{SessionParts}
+use Rattle.ds_clients.specs.Sessions.{SessionParts}
 use Rattle.ds_store.specs.Passes.{PassParts}
 use Rattle.ds_keeping.specs.Holding.{AreCovered}
 use Rattle.ds_kept_rounds.specs.Going.{HasRunKept}

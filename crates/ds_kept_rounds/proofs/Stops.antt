@@ -17,7 +17,7 @@ use Rattle.ds_serving.specs.Runs.{WereRun}
 use Rattle.ds_serving.specs.declared.settings.Setting.{Setting}
 use Rattle.ds_serving.proofs.NextLaws.{round_served, round_unsent}
 use Rattle.ds_serving.proofs.RoundLaws.{ends_here, ends_unsent}
-use Rattle.ds_session.specs.Sessions.{SessionParts}
+use Rattle.ds_clients.specs.Sessions.{SessionParts}
 use Rattle.ds_store.specs.Passes.{PassParts}
 use Rattle.ds_words.specs.declared.status.Status.{Status}
 use Rattle.ds_words.specs.declared.status.Status.TheVariants as status

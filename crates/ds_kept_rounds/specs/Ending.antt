@@ -3,7 +3,7 @@ use Rattle.std.specs.Prelude.{◌≡◌, ◌⊎◌, ℕ, ◌≤◌, List, [], Bo
 use Rattle.ds_model.specs.Sessions.{Session}
 use Rattle.ds_io.specs.Faults.{Rose}
 use Rattle.ds_rounds.specs.Reading.{ReaderParts, first_reader}
-use Rattle.ds_session.specs.Sessions.{SessionParts}
+use Rattle.ds_clients.specs.Sessions.{SessionParts}
 use Rattle.ds_keep.specs.Keepers.{KeeperParts}
 use Rattle.ds_serving.specs.Rounds.{HasServed, HasStopped}
 use Rattle.ds_serving.specs.declared.settings.Setting.{Setting}

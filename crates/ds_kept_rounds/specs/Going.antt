@@ -8,7 +8,7 @@ use Rattle.ds_reply.specs.Replies.{replies_text}
 use Rattle.ds_rounds.specs.Rounds.{NumberedLine}
 use Rattle.ds_keep.specs.Keepers.{KeeperParts}
 use Rattle.ds_store.specs.Passes.{PassParts}
-use Rattle.ds_session.specs.Sessions.{SessionParts}
+use Rattle.ds_clients.specs.Sessions.{SessionParts}
 use Rattle.ds_protocol.specs.Watermarks.{HaveCounts}
 use Rattle.ds_clients.specs.Runs.{AreWritten, HasRun, seen_of}
 use Rattle.ds_serving.specs.declared.settings.Setting.{Setting}

@@ -5,7 +5,7 @@ use Rattle.ds_rounds.specs.Reading.{ReaderParts, first_reader}
 use Rattle.ds_kept_file.specs.Files.{Kept}
 use Rattle.ds_store.specs.Loads.{loaded}
 use Rattle.ds_store.specs.Passes.{PassParts, StoreParts}
-use Rattle.ds_session.specs.Sessions.{SessionParts}
+use Rattle.ds_clients.specs.Sessions.{SessionParts}
 use Rattle.ds_clients.specs.Runs.{AreWritten, IsIdle, seen_of}
 use Rattle.ds_restoring.specs.LegalFrom.{sessions_from}
 

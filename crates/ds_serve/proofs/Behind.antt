@@ -10,7 +10,7 @@ use Rattle.ds_rounds.specs.Rounds.{NumberedLine, lines_of_round}
 use Rattle.ds_rounds.specs.declared.round.Round.{Round}
 use Rattle.ds_clients.specs.Clients.{AreAlike, WrotePart}
 use Rattle.ds_clients.specs.Runs.{HaveRun, texts_of}
-use Rattle.ds_session.specs.Sessions.{SessionParts}
+use Rattle.ds_clients.specs.Sessions.{SessionParts}
 use Rattle.ds_words.specs.declared.status.Status.{Status}
 use Rattle.ds_words.specs.declared.status.Status.TheVariants as status
 use Rattle.ds_serving.specs.Rounds.{HasNone, HasServed, HasStopped, IsEnd, RanFrom}

@@ -27,7 +27,7 @@ use Rattle.ds_serving.proofs.EndLaws.{taken}
 use Rattle.ds_serving.proofs.RoundLaws.{all_wrote, served_nothing, was_set_up}
 use Rattle.ds_clients.specs.Clients.{AreNew}
 use Rattle.ds_clients.specs.Runs.{IsIdle, passes_of, seen_of}
-use Rattle.ds_session.specs.Sessions.{SessionParts}
+use Rattle.ds_clients.specs.Sessions.{SessionParts}
 use Rattle.ds_protocol.specs.Watermarks.{HaveCounts}
 use Rattle.ds_clients.proofs.ClosingLaws.{idle_first, legal_run}
 use Rattle.ds_clients.proofs.RoundLaws.{run_nothing}

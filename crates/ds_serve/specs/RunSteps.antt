@@ -4,7 +4,7 @@ use Rattle.std.specs.Prelude.{◌≡◌, ◌⊎◌, ℕ, ◌+◌, ◌<◌, ◌�
 use Rattle.ds_rounds.specs.Rounds.{NumberedLine}
 use Rattle.ds_rounds.specs.Reading.{ReaderParts}
 use Rattle.ds_model.specs.Sessions.{Session, first_sessions}
-use Rattle.ds_session.specs.Sessions.{SessionParts}
+use Rattle.ds_clients.specs.Sessions.{SessionParts}
 use Rattle.ds_serving.specs.Rounds.{HasServed, HasStopped, RanFrom}
 use Rattle.ds_serving.specs.Runs.{HasBegun, read_faults, write_faults}
 use Rattle.ds_serving.specs.Settings.{IsSetting}

@@ -7,7 +7,7 @@ use Rattle.ds_model.specs.Sessions.{first_sessions}
 use Rattle.ds_rounds.specs.Reading.{ReaderParts, first_reader}
 use Rattle.ds_clients.specs.Clients.{AreNew}
 use Rattle.ds_clients.specs.Runs.{IsIdle, passes_of}
-use Rattle.ds_session.specs.Sessions.{SessionParts}
+use Rattle.ds_clients.specs.Sessions.{SessionParts}
 use Rattle.ds_serving.specs.Rounds.{HasServed}
 use Rattle.ds_serving.specs.Runs.{HasBegun, read_faults, write_faults}
 use Rattle.ds_serving.specs.declared.settings.Setting.{Setting}

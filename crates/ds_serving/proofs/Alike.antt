@@ -13,7 +13,7 @@ use Rattle.ds_store.specs.Ending.{Begins}
 use Rattle.ds_store.specs.Passes.{PassParts}
 use Rattle.ds_clients.specs.Clients.{AreAlike}
 use Rattle.ds_clients.specs.Runs.{HasRun, passes_of}
-use Rattle.ds_session.specs.Sessions.{SessionParts}
+use Rattle.ds_clients.specs.Sessions.{SessionParts}
 
 pub flat_of : (f : PassParts → List ℕ) (s : List SessionParts) → flat_map f (passes_of s) ≡ flat_map (λ v. f v.pass) s
 flat_of f [] = refl

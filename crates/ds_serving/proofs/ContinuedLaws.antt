@@ -19,7 +19,7 @@ use Rattle.ds_model.specs.Sessions.{Session}
 use Rattle.ds_store.specs.Ending.{HaveEnded, Begins, commits_of_all, draws_of_all}
 use Rattle.ds_store.specs.Passes.{PassParts}
 use Rattle.ds_clients.specs.Runs.{HasRun, AllBegin, IsIdle, passes_of, seen_of}
-use Rattle.ds_session.specs.Sessions.{SessionParts}
+use Rattle.ds_clients.specs.Sessions.{SessionParts}
 use Rattle.ds_serving.specs.Continued.{HasLoaded, LegalBehind}
 use Rattle.ds_serving.proofs.Alike.{all_sessions, flat_of}
 use Rattle.ds_serving.proofs.Cancelling.{after_kept}

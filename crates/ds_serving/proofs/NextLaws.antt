@@ -10,7 +10,7 @@ use Rattle.ds_rounds.specs.Rounds.{NumberedLine, lines_of_round}
 use Rattle.ds_rounds.specs.declared.round.Round.{Round}
 use Rattle.ds_clients.specs.Clients.{AreAlike, WrotePart}
 use Rattle.ds_clients.specs.Runs.{HaveRun, IsIdle, texts_of}
-use Rattle.ds_session.specs.Sessions.{SessionParts}
+use Rattle.ds_clients.specs.Sessions.{SessionParts}
 use Rattle.ds_clients.proofs.ClosingLaws.{idle_first}
 use Rattle.ds_clients.proofs.RoundLaws.{run_more, run_more_begins}
 use Rattle.ds_store.specs.Passes.{PassParts, nothing_seen}

@@ -16,7 +16,7 @@ use Rattle.ds_rounds.specs.declared.stage.Stage.{Stage}
 use Rattle.ds_rounds.specs.declared.stage.Stage.TheVariants as stage
 use Rattle.ds_clients.specs.Clients.{WrotePart}
 use Rattle.ds_clients.specs.Runs.{texts_of}
-use Rattle.ds_session.specs.Sessions.{SessionParts}
+use Rattle.ds_clients.specs.Sessions.{SessionParts}
 use Rattle.ds_words.specs.declared.status.Status.{Status}
 use Rattle.ds_words.specs.declared.status.Status.TheVariants as status
 use Rattle.ds_serving.specs.Rounds.{HasNone, HasServed, HasStopped, IsEnd, status_of}

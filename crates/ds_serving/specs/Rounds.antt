@@ -10,7 +10,7 @@ use Rattle.ds_rounds.specs.declared.stage.RoundRefused.TheVariants as refused
 use Rattle.ds_clients.specs.Clients.{AreAlike}
 use Rattle.ds_model.specs.Sessions.{Session}
 use Rattle.ds_clients.specs.Runs.{HasRun, HaveRun}
-use Rattle.ds_session.specs.Sessions.{SessionParts}
+use Rattle.ds_clients.specs.Sessions.{SessionParts}
 use Rattle.ds_words.specs.declared.status.Status.{Status}
 use Rattle.ds_words.specs.declared.status.Status.TheVariants as status
 use Rattle.ds_serving.specs.Runs.{WereRun, Wrote, read_faults}

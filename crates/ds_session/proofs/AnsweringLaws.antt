@@ -16,11 +16,11 @@ use Rattle.ds_protocol.specs.declared.operations.Operation.{Operation}
 use Rattle.ds_protocol.specs.declared.operations.Operation.TheVariants as operation
 use Rattle.ds_protocol.specs.declared.operations.OperationRefused.{OperationRefused}
 use Rattle.ds_protocol.specs.declared.operations.OperationRefused.TheVariants as refused
-use Rattle.ds_session.specs.Refusing.{IsRefusedWith}
-use Rattle.ds_session.specs.Replying.{request_of}
-use Rattle.ds_session.specs.Sessions.{SessionParts}
-use Rattle.ds_session.specs.Steps.{IsWithinSteps, SearchSteps}
-use Rattle.ds_session.proofs.SayingLaws.{call_refused}
+use Rattle.ds_session_state.specs.Refusing.{IsRefusedWith}
+use Rattle.ds_session_state.specs.Replying.{request_of}
+use Rattle.ds_session_state.specs.Sessions.{SessionParts}
+use Rattle.ds_session_reads.specs.Steps.{IsWithinSteps, SearchSteps}
+use Rattle.ds_session_state.proofs.SayingLaws.{call_refused}
 
 some-same : (b refusal : Body) → Some b ≡ Some refusal → b ≡ refusal
 some-same b refusal is = cc

@@ -12,10 +12,11 @@ use Rattle.ds_rounds.specs.Rounds.{NumberedLine}
 use Rattle.ds_model.specs.Asked.{Reading, asked, client_of}
 use Rattle.ds_model.specs.Legal.{ClientSteps, acknowledged, accepted, printed_next, drawn_by, drawn_in}
 use Rattle.ds_model.specs.Sessions.{Session}
-use Rattle.ds_model.specs.Worlds.{World, world_of}
-use Rattle.ds_session.specs.Answering.{HasSaid, HasAnswered}
-use Rattle.ds_session.specs.Sessions.{SessionParts}
-use Rattle.ds_session.proofs.GrowthLaws.{begins_before, grown_itself, grown_through}
+use Rattle.ds_model.specs.Worlds.{World}
+use Rattle.ds_session_state.specs.Answering.{HasSaid, HasAnswered}
+use Rattle.ds_session.specs.GoingOnLaws.{steps_later}
+use Rattle.ds_session_state.specs.Sessions.{SessionParts, world_seen}
+use Rattle.ds_session_state.proofs.GrowthLaws.{grown_itself, grown_through}
 
 -- ---- replies in a row
 
@@ -52,7 +53,7 @@ module _ (definitions : List IndexDef) (shards : ℕ) (window : Option ℕ) wher
     replies = [];
     client = refl;
     grown = grown_itself s.pass;
-    steps = λ journal on. refl;
+    steps = refl;
     counted = refl;
     printed = sym (append-nil s.text);
     commits = sym (append-nil s.pass.commits);
@@ -67,10 +68,10 @@ module _ (definitions : List IndexDef) (shards : ℕ) (window : Option ℕ) wher
     replies = first.replies ++ second.replies;
     client = second.client ∙ first.client;
     grown = grown_through s.pass t.pass u.pass first.grown second.grown;
-    steps = λ journal on.
-        steps-append (asked shards) (world_of definitions shards window journal) s.seen t.seen u.seen lines more first.replies
+    steps = steps-append (asked shards) (world_seen definitions shards window u.pass) s.seen t.seen u.seen lines more first.replies
         second.replies
-        (first.steps journal (begins_before shards journal t.pass u.pass second.grown on)) (second.steps journal on);
+        (steps_later definitions shards window (asked shards) t.pass s.seen t.seen lines first.replies first.steps u.pass second.grown)
+        second.steps;
     counted = length-append first.replies second.replies ∙ ap (λ n. n + length second.replies) first.counted
         ∙ ap (λ n. length lines + n) second.counted ∙ sym (length-append lines more);
     printed = second.printed ∙ ap (λ bs. bs ++ replies_text second.replies) first.printed
@@ -103,12 +104,12 @@ module _ (definitions : List IndexDef) (shards : ℕ) (window : Option ℕ) wher
     replies = reply ∷ [];
     client = client;
     grown = said.grown;
-    steps = λ journal on. (
+    steps = (
       t.seen,
       record {
         numbered = numbered;
         addressed = addressed;
-        said = said.answers journal on;
+        said = said.answers;
       },
       refl,
     );

@@ -4,9 +4,9 @@ use Rattle.ds_model.specs.Sessions.{Session}
 use Rattle.ds_protocol.specs.Watermarks.{raised_by}
 use Rattle.ds_store.specs.Answered.{AreAtLeast}
 use Rattle.ds_store.specs.Passes.{PassParts, HasRead, counts_of}
-use Rattle.ds_session.specs.Sessions.{IsWithin}
-use Rattle.ds_session.proofs.GrowthLaws.{grown_by_reading}
-use Rattle.ds_session.proofs.SeeingLaws.{least_greater, within_later}
+use Rattle.ds_session_state.specs.Sessions.{IsWithin}
+use Rattle.ds_session_state.proofs.GrowthLaws.{grown_by_reading}
+use Rattle.ds_session_state.proofs.SeeingLaws.{least_greater, within_later}
 
 -- what the pass has seen is no less than the greatest of all
 pub record HasReached (greatest : Session) (q : PassParts) : Type 0 where

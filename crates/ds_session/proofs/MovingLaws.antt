@@ -5,8 +5,8 @@ use Rattle.ds_log.specs.JournalLaws.{AreIssued-rises}
 use Rattle.ds_model.specs.Sessions.{Session, Transaction}
 use Rattle.ds_store.specs.Lower.{IsNoLower}
 use Rattle.ds_store.specs.Passes.{PassParts, counts_of}
-use Rattle.ds_session.specs.Sessions.{HasTransaction, IsWithin}
-use Rattle.ds_session.proofs.SeeingLaws.{least_through}
+use Rattle.ds_session_state.specs.Sessions.{HasTransaction, IsWithin}
+use Rattle.ds_session_state.proofs.SeeingLaws.{least_through}
 
 -- an open transaction goes on
 has-moved : (old new : PassParts) (t : Option Transaction) → IsNoLower old new → HasTransaction old t → HasTransaction new t

@@ -7,9 +7,9 @@ use Rattle.ds_reply.specs.declared.reply.Body.{Body}
 use Rattle.ds_model.specs.Asked.{Search, search_of}
 use Rattle.ds_asked.specs.declared.lines.Asked.{Asked}
 use Rattle.ds_asked.specs.AskedLines.{IsLawful, was_read, read_as}
-use Rattle.ds_session.specs.Replying.{request_of}
-use Rattle.ds_session.specs.Sessions.{SessionParts}
-use Rattle.ds_session.specs.Steps.{IsWithinSteps, SearchSteps}
+use Rattle.ds_session_state.specs.Replying.{request_of}
+use Rattle.ds_session_state.specs.Sessions.{SessionParts}
+use Rattle.ds_session_reads.specs.Steps.{IsWithinSteps, SearchSteps}
 
 module _ (definitions : List IndexDef) (window shards number : ℕ) (before after : SessionParts) (old new room left : ℕ) where
   other-room : (read : Result Request (ℕ × Body)) → IsWithinSteps definitions window shards number read before after old new
@@ -21,7 +21,13 @@ module _ (definitions : List IndexDef) (window shards number : ℕ) (before afte
     by None h = h
     by (Some (Err refusal)) h = h
     by (Some (Ok search)) (inl none) = inl none
-    by (Some (Ok search)) (inr (inl said)) = inr (inl said)
+    by (Some (Ok search)) (inr (inl f)) = inr (inl (record {
+      places = f.places;
+      read = f.read;
+      entries = f.entries;
+      told = f.told;
+      within = f.within;
+    }))
     by (Some (Ok search)) (inr (inr (inl f))) = inr (inr (inl (record {
       places = f.places;
       read = f.read;
@@ -31,7 +37,7 @@ module _ (definitions : List IndexDef) (window shards number : ℕ) (before afte
       told = f.told;
       within = f.within;
     })))
-    by (Some (Ok search)) (inr (inr (inr f))) = inr (inr (inr (record {
+    by (Some (Ok search)) (inr (inr (inr (inl f)))) = inr (inr (inr (inl (record {
       places = f.places;
       read = f.read;
       applied = f.applied;
@@ -39,7 +45,13 @@ module _ (definitions : List IndexDef) (window shards number : ℕ) (before afte
       snapshot = f.snapshot;
       told = f.told;
       within = f.within;
-    })))
+    }))))
+    by (Some (Ok search)) (inr (inr (inr (inr f)))) = inr (inr (inr (inr (record {
+      places = f.places;
+      read = f.read;
+      everywhere = f.everywhere;
+      wide = f.wide;
+    }))))
 
   -- of the session that its state began with
   pub steps_from : (session : SessionParts) (read asked : Result Request (ℕ × Body)) → (record before { room = room }) ≡ session

@@ -17,19 +17,19 @@ use Rattle.ds_rounds.specs.Rounds.{NumberedLine}
 use Rattle.ds_model.specs.Answers.{BodyAnswers}
 use Rattle.ds_model.specs.Asked.{asked, client_of}
 use Rattle.ds_model.specs.Sessions.{Session, first_session}
-use Rattle.ds_model.specs.Worlds.{World, world_of}
+use Rattle.ds_model.specs.Worlds.{World}
 use Rattle.ds_protocol.specs.Quiet.{IsQuiet}
 use Rattle.ds_protocol.specs.Saying.{no_memory_reply}
 use Rattle.ds_store.specs.Answered.{AreAtLeast}
 use Rattle.ds_store.specs.Passes.{PassParts, HasRead}
 use Rattle.ds_asked.specs.declared.lines.Asked.{Asked}
-use Rattle.ds_session.specs.Answering.{HasAnswered, HasSaid}
+use Rattle.ds_session_state.specs.Answering.{HasAnswered, HasSaid}
 use Rattle.ds_asked.specs.AskedLines.{Asks, was_read}
-use Rattle.ds_session.specs.Replying.{HasReplied}
-use Rattle.ds_session.specs.Sessions.{IsWithin, SessionParts}
-use Rattle.ds_session.proofs.GrowthLaws.{grown_itself, read_itself}
+use Rattle.ds_session_state.specs.Replying.{HasReplied}
+use Rattle.ds_session_state.specs.Sessions.{IsWithin, SessionParts, world_seen}
+use Rattle.ds_session_state.proofs.GrowthLaws.{grown_itself, read_itself}
 use Rattle.ds_session.proofs.LineLaws.{answered_line}
-use Rattle.ds_session.proofs.ReplyLaws.{replied, replied_no_memory}
+use Rattle.ds_session_state.proofs.ReplyLaws.{replied, replied_no_memory}
 
 -- ---- one reply, one line; a session tells less of its room than its state has
 
@@ -70,7 +70,7 @@ module _ (definitions : List IndexDef) (shards : ℕ) (window : Option ℕ) wher
   said_of_line : (p : PassParts) (s : Session) (client : ℕ) (b : Body) → IsQuiet b → IsWithin s p
       → HasSaid definitions shards window p p s s (Err (client, b)) b
   said_of_line p s client b quiet within = record {
-    answers = λ journal on. told-itself (world_of definitions shards window journal) s client b;
+    answers = told-itself (world_seen definitions shards window p) s client b;
     grown = grown_itself p;
     commits = sym (append-nil p.commits) ∙ ap (λ ns. p.commits ++ ns) (sym quiet.acknowledges);
     draws = sym (append-nil p.draws);

@@ -3,7 +3,7 @@ ghost use Rattle.std.specs.Prelude.{◌≡◌};
 ghost use Rattle.ds_store.specs.Lower.{IsNoLower};
 
 use crate::session::Session;
-use crate::state::State;
+use ds_session_state::State;
 use ds_store::{Names, Pass};
 
 impl<J: Names> Session<J> {

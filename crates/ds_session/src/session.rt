@@ -6,20 +6,21 @@ ghost use Rattle.ds_model.specs.Groups.{with_transaction};
 ghost use Rattle.ds_model.specs.Sessions.{first_session};
 ghost use Rattle.ds_rounds.specs.Lines.{IsWithinLimit, handed};
 ghost use Rattle.ds_rounds.specs.Rounds.{NumberedLine};
-ghost use Rattle.ds_session.specs.Answering.{HasAnswered};
+ghost use Rattle.ds_session_state.specs.Answering.{HasAnswered};
 ghost use Rattle.ds_asked.specs.AskedLines.{Asks, MayBeAnswered, was_read};
 ghost use Rattle.ds_session.specs.Room.{most_no_memory};
 ghost use Rattle.ds_session.specs.Meeting.{HasTaken};
-ghost use Rattle.ds_session.specs.Sessions.{IsWithin};
-ghost use Rattle.ds_session.specs.Steps.{IsWithinSteps};
+ghost use Rattle.ds_session_state.specs.Sessions.{IsWithin};
+ghost use Rattle.ds_session_reads.specs.Steps.{IsWithinSteps};
 
-use crate::state::{ReplyTo, State};
+use crate::answering::{answer, refuse_line};
 use ds_asked::{Asked, asked_line};
 use ds_base::{Buffer, Counts, NoMemory};
 use ds_indexdef::Defs;
 use ds_io::Steps;
 use ds_protocol::{OpenTransaction, Watermark};
 use ds_rounds::Line;
+use ds_session_state::{ReplyTo, State};
 use ds_store::{Names, Pass, Store};
 use std::alloc::{AllocError, Global};
 use std::marker::Model;
@@ -44,7 +45,7 @@ pub struct Session<J: Names> {
 impl<J: Names> Model for Session<J> {
     ghost use Rattle.std.specs.Prelude.{◌≤◌};
     ghost use Rattle.ds_base.specs.Limits.{greatest_client};
-    ghost use Rattle.ds_session.specs.Sessions.{IsWithin, SessionParts};
+    ghost use Rattle.ds_session_state.specs.Sessions.{IsWithin, SessionParts};
 
     ghost Value = { SessionParts };
 
@@ -211,9 +212,9 @@ impl<J: Names> Session<J> {
         match request {
             Ok(request) => {
                 let to = ReplyTo { number, keep };
-                self.state.answer(rt, store, defs, to, request.call, steps);
+                answer(&mut self.state, rt, store, defs, to, request.call, steps);
             }
-            Err(body) => self.state.refuse_line(number, body, keep),
+            Err(body) => refuse_line(&mut self.state, number, body, keep),
         }
     }
 

@@ -1,6 +1,6 @@
 -- The clients so far have room.
 use Rattle.std.proofs.Common.{◌≡◌, ◌*◌, ◌≤◌, length}
-use Rattle.ds_session.specs.Room.{most_no_memory}
+use Rattle.ds_client.specs.Room.{most_no_memory}
 use Rattle.ds_clients.proofs.ClientLaws.{DoneBelow}
 use Rattle.ds_clients.proofs.clients.make_rooms.Given as goal
 

@@ -1,5 +1,5 @@
 use Rattle.std.proofs.Common.{◌≡◌, arith, length}
-use Rattle.ds_session.specs.Meeting.{HasTaken}
+use Rattle.ds_client.specs.Meeting.{HasTaken}
 use Rattle.ds_clients.proofs.ClientLaws.{all_done}
 use Rattle.ds_clients.proofs.clients.meet_all.Goals as goal
 

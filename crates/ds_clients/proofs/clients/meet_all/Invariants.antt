@@ -1,6 +1,6 @@
 -- The clients so far have met.
 use Rattle.std.proofs.Common.{◌≡◌, length}
-use Rattle.ds_session.specs.Meeting.{HasTaken}
+use Rattle.ds_client.specs.Meeting.{HasTaken}
 use Rattle.ds_clients.proofs.ClientLaws.{DoneBelow}
 use Rattle.ds_clients.proofs.clients.meet_all.Given as goal
 

@@ -3,7 +3,7 @@ use Rattle.std.proofs.lemmas.List.{length-replicate}
 use Rattle.std.proofs.lemmas.List.Elements.{All-rest}
 use Rattle.ds_protocol.specs.Watermarks.{nothing_seen as no_counts}
 use Rattle.ds_model.specs.Sessions.{Session, first_session}
-use Rattle.ds_session.specs.Sessions.{SessionParts}
+use Rattle.ds_client.specs.Sessions.{SessionParts}
 use Rattle.ds_clients.proofs.SeatLaws.{SeatedSoFar, first_mark, front_none, last_none, last_pass, one_seated, passes_left, passes_new}
 use Rattle.ds_clients.proofs.clients.seated.Goals as goal
 

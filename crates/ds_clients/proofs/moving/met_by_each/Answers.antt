@@ -1,7 +1,7 @@
 use Rattle.std.proofs.Common.{◌≡◌, ◌+◌, ◌∙◌, ◌++◌, ◌∷◌, List, [], ap, map, subst, sym, take}
 use Rattle.std.proofs.lemmas.List.{take_all, take_more}
 use Rattle.std.proofs.lemmas.List.Elements.{All-nil}
-use Rattle.ds_session.proofs.GrowthLaws.{read_itself, read_through}
+use Rattle.ds_client.proofs.GrowthLaws.{read_itself, read_through}
 use Rattle.ds_clients.specs.Moving.{HaveBeenMet, IsMetBy}
 use Rattle.ds_clients.proofs.MovingLaws.{met_more}
 use Rattle.ds_clients.proofs.moving.met_by_each.Goals as goal

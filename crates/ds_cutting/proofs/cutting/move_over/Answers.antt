@@ -7,7 +7,7 @@ use Rattle.ds_protocol.specs.Watermarks.{HaveCounts}
 use Rattle.ds_clients.specs.Runs.{IsIdle, passes_of, seen_of}
 use Rattle.ds_model.specs.Sessions.{Session}
 use Rattle.ds_rounds.specs.Rounds.{NumberedLine}
-use Rattle.ds_session.specs.Sessions.{SessionParts}
+use Rattle.ds_clients.specs.Sessions.{SessionParts}
 use Rattle.ds_serving.specs.Rounds.{HasServed}
 use Rattle.ds_serving.specs.declared.settings.Setting.{Setting}
 use Rattle.ds_serve.specs.RunSteps.{RanBehind}

@@ -3,7 +3,7 @@ use Rattle.std.proofs.lemmas.List.Elements.{All-append, All-head, All-take}
 use Rattle.ds_protocol.specs.Watermarks.{HaveCounts}
 use Rattle.ds_rounds.specs.Reading.{ReaderParts}
 use Rattle.ds_clients.specs.Runs.{AreWritten, IsIdle, passes_of, seen_of}
-use Rattle.ds_session.specs.Sessions.{SessionParts}
+use Rattle.ds_clients.specs.Sessions.{SessionParts}
 use Rattle.ds_serving.specs.declared.settings.Setting.{Setting}
 use Rattle.ds_serving.proofs.Alike.{all_drop}
 use Rattle.ds_serve.proofs.Ends.{counts_new}

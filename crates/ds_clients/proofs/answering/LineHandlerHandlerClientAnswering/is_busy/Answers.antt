@@ -1,5 +1,5 @@
 use Rattle.std.proofs.Common.{Some}
-use Rattle.ds_clients.proofs.OwnLaws.{idle_answered}
+use Rattle.ds_client.proofs.OwnLaws.{idle_answered}
 use Rattle.ds_clients.proofs.answering.LineHandlerHandlerClientAnswering.is_busy.Goals as goal
 
 pub returns : goal.returns

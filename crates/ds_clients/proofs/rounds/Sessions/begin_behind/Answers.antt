@@ -2,7 +2,7 @@ use Rattle.std.proofs.Common.{◌≡◌, ◌∙◌, [], ap, arith, length, subst
 use Rattle.std.specs.Prelude.{All}
 use Rattle.std.proofs.lemmas.List.{with_items_is}
 use Rattle.ds_model.specs.Sessions.{first_session, saw_next, saw_place}
-use Rattle.ds_session.specs.Meeting.{HasTaken}
+use Rattle.ds_client.specs.Meeting.{HasTaken}
 use Rattle.ds_clients.specs.Runs.{AreWritten}
 use Rattle.ds_clients.proofs.ClientLaws.{each_length, each_weaker, written_each}
 use Rattle.ds_clients.proofs.KeptLaws.{all_behind, numbered_behind}

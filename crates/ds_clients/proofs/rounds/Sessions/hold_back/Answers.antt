@@ -1,6 +1,6 @@
 use Rattle.std.proofs.Common.{◌≡◌, arith, subst}
 use Rattle.std.specs.Prelude.{List}
-use Rattle.ds_session.specs.Sessions.{SessionParts}
+use Rattle.ds_client.specs.Sessions.{SessionParts}
 use Rattle.ds_clients.specs.Clients.{IsCut}
 use Rattle.ds_clients.proofs.KeptLaws.{first_there}
 use Rattle.ds_clients.proofs.rounds.Sessions.hold_back.Goals as goal

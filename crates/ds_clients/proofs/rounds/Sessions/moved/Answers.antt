@@ -2,7 +2,7 @@ use Rattle.std.proofs.Common.{◌+◌, ◌-◌, ◌∙◌, ◌++◌, List, ap, a
 use Rattle.std.specs.Prelude.{All}
 use Rattle.std.proofs.lemmas.List.{length-map}
 use Rattle.ds_base.specs.Limits.{greatest_client}
-use Rattle.ds_session.specs.Sessions.{SessionParts}
+use Rattle.ds_client.specs.Sessions.{SessionParts}
 use Rattle.ds_store.specs.Lower.{IsNoLower}
 use Rattle.ds_clients.specs.Moving.{AreMoved}
 use Rattle.ds_clients.specs.Runs.{passes_of}

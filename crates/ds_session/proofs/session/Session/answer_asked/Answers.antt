@@ -1,8 +1,8 @@
 use Rattle.std.proofs.Common.{◌∙◌, ap, arith, length, sym}
 use Rattle.std.specs.Prelude.{Err}
 use Rattle.ds_asked.specs.AskedLines.{was_read}
-use Rattle.ds_session.specs.Replying.{request_of}
-use Rattle.ds_session.specs.Sessions.{SessionParts}
+use Rattle.ds_session_state.specs.Replying.{request_of}
+use Rattle.ds_session_state.specs.Sessions.{SessionParts}
 use Rattle.ds_session.proofs.RoomLaws.{longest_no_memory}
 use Rattle.ds_session.proofs.StepLaws.{read_refused, read_request, steps_from}
 use Rattle.ds_session.proofs.TellingLaws.{answered_as, same_client, same_counts, within_after}
@@ -29,12 +29,12 @@ refuse_line-requires-clause-room g c =
     )
 
 pub invariant_of-self-in-Err : goal.invariant_of-self-in-Err
-invariant_of-self-in-Err g c = within_after _ _ _ c.self.inside.state c.refuse_line.new.self _ _ _ c.self.invariant.1
+invariant_of-self-in-Err g c = within_after _ _ _ c.self.inside.state c.refuse_line.new.state _ _ _ c.self.invariant.1
     (c.refuse_line.ensures 0)
 
 pub returns-in-Ok-clause-answered : goal.returns-in-Ok-clause-answered
 returns-in-Ok-clause-answered g c = λ line asks.
-    answered_as _ _ _ c.self.inside.state c.answer.new.self c.args.self.now _ _ c.self.view_is line c.args.asked
+    answered_as _ _ _ c.self.inside.state c.answer.new.state c.args.self.now _ _ c.self.view_is line c.args.asked
     (request_of c.self.inside.state.client c.in-Ok.request.call) _ c.requires.own
     (read_request c.args.store.now.shards c.args.asked c.in-Ok.request c.self.inside.state.client c.in-Ok.is c.requires.answerable.lawful
     (c.requires.own ∙ ap (λ (s : SessionParts). s.client) (sym c.self.view_is)))
@@ -42,12 +42,12 @@ returns-in-Ok-clause-answered g c = λ line asks.
 
 pub returns-in-Ok-clause-counts : goal.returns-in-Ok-clause-counts
 returns-in-Ok-clause-counts g c =
-    same_counts _ _ _ c.self.inside.state c.answer.new.self _ _ _ c.self.invariant.0 c.answer.ensures.replied
+    same_counts _ _ _ c.self.inside.state c.answer.new.state _ _ _ c.self.invariant.0 c.answer.ensures.replied
     ∙ ap (λ (s : SessionParts). length s.seen.counts) c.self.view_is
 
 pub returns-in-Ok-clause-steps : goal.returns-in-Ok-clause-steps
 returns-in-Ok-clause-steps g c =
-    steps_from g.J.Names.definitions g.J.Names.window c.args.store.now.shards c.args.asked.number c.self.inside.state c.answer.new.self _ _
+    steps_from g.J.Names.definitions g.J.Names.window c.args.store.now.shards c.args.asked.number c.self.inside.state c.answer.new.state _ _
     _ _
     c.args.self.now (request_of c.self.inside.state.client c.in-Ok.request.call) (was_read c.args.asked) c.self.view_is
     (read_request c.args.store.now.shards c.args.asked c.in-Ok.request c.self.inside.state.client c.in-Ok.is c.requires.answerable.lawful
@@ -56,7 +56,7 @@ returns-in-Ok-clause-steps g c =
 
 pub returns-in-Err-clause-answered : goal.returns-in-Err-clause-answered
 returns-in-Err-clause-answered g c = λ line asks.
-    answered_as _ _ _ c.self.inside.state c.refuse_line.new.self c.args.self.now _ _ c.self.view_is line c.args.asked
+    answered_as _ _ _ c.self.inside.state c.refuse_line.new.state c.args.self.now _ _ c.self.view_is line c.args.asked
     (Err (c.self.inside.state.client, c.in-Err.body)) _ c.requires.own
     (read_refused c.args.asked c.in-Err.body c.self.inside.state.client c.in-Err.is
     (c.requires.own ∙ ap (λ (s : SessionParts). s.client) (sym c.self.view_is)))
@@ -64,10 +64,10 @@ returns-in-Err-clause-answered g c = λ line asks.
 
 pub returns-in-Err-clause-client : goal.returns-in-Err-clause-client
 returns-in-Err-clause-client g c =
-    same_client _ _ _ c.self.inside.state c.refuse_line.new.self _ _ _ (c.refuse_line.ensures 0)
+    same_client _ _ _ c.self.inside.state c.refuse_line.new.state _ _ _ (c.refuse_line.ensures 0)
     ∙ ap (λ (s : SessionParts). s.client) c.self.view_is
 
 pub returns-in-Err-clause-counts : goal.returns-in-Err-clause-counts
 returns-in-Err-clause-counts g c =
-    same_counts _ _ _ c.self.inside.state c.refuse_line.new.self _ _ _ c.self.invariant.0 (c.refuse_line.ensures 0)
+    same_counts _ _ _ c.self.inside.state c.refuse_line.new.state _ _ _ c.self.invariant.0 (c.refuse_line.ensures 0)
     ∙ ap (λ (s : SessionParts). length s.seen.counts) c.self.view_is

@@ -5,7 +5,7 @@ use Rattle.ds_protocol.specs.Watermarks.{raised_by}
 use Rattle.ds_protocol.proofs.Meetings.{greater-length}
 use Rattle.ds_store.specs.Answered.{AreAtLeast}
 use Rattle.ds_store.specs.Passes.{HasRead, counts_of}
-use Rattle.ds_session.specs.Sessions.{IsWithin, SessionParts}
+use Rattle.ds_session_state.specs.Sessions.{IsWithin, SessionParts}
 use Rattle.ds_session.proofs.MeetingLaws.{within_raised}
 use Rattle.ds_session.proofs.session.Session.meet.Goals as goal
 

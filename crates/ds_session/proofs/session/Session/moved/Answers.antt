@@ -1,7 +1,7 @@
 use Rattle.std.proofs.Common.{◌≤◌, subst, sym}
 use Rattle.ds_base.specs.Limits.{greatest_client}
 use Rattle.ds_store.specs.Lower.{IsNoLower}
-use Rattle.ds_session.specs.Sessions.{IsWithin, SessionParts}
+use Rattle.ds_session_state.specs.Sessions.{IsWithin, SessionParts}
 use Rattle.ds_session.proofs.MovingLaws.{within_moved}
 use Rattle.ds_session.proofs.session.Session.moved.Goals as goal
 

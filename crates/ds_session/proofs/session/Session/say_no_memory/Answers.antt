@@ -2,7 +2,7 @@ use Rattle.std.proofs.Common.{arith, ap, sym}
 use Rattle.std.specs.Prelude.{Err}
 use Rattle.ds_reply.specs.declared.reply.Body.TheVariants as body
 use Rattle.ds_model.specs.Asked.{asked}
-use Rattle.ds_session.specs.Sessions.{SessionParts}
+use Rattle.ds_session_state.specs.Sessions.{SessionParts}
 use Rattle.ds_session.proofs.RoomLaws.{longest_no_memory}
 use Rattle.ds_session.proofs.TellingLaws.{answered_from, within_after}
 use Rattle.ds_session.proofs.session.Session.say_no_memory.Goals as goal

@@ -1,6 +1,6 @@
 use Rattle.std.proofs.Common.{ap, ◌∙◌, None}
 use Rattle.ds_model.specs.Groups.{with_transaction}
-use Rattle.ds_session.specs.Sessions.{SessionParts}
+use Rattle.ds_session_state.specs.Sessions.{SessionParts}
 use Rattle.ds_session.proofs.session.Session.seen.Goals as goal
 
 pub returns : goal.returns

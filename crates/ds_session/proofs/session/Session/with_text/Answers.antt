@@ -1,6 +1,6 @@
 use Rattle.std.proofs.Common.{sym, subst}
 use Rattle.ds_model.specs.Groups.{with_transaction}
-use Rattle.ds_session.specs.Sessions.{IsWithin}
+use Rattle.ds_session_state.specs.Sessions.{IsWithin}
 use Rattle.ds_session.proofs.TellingLaws.{first_within}
 use Rattle.ds_session.proofs.session.Session.with_text.Goals as goal
 

@@ -1,0 +1,5 @@
+pub mod MissedLaws
+pub mod OwnLaws
+pub use Rattle.ds_session.proofs.GrowthLaws
+pub use Rattle.ds_session.proofs.LineLaws
+pub use Rattle.ds_session.proofs.SeeingLaws

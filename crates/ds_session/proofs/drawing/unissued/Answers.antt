@@ -1,9 +1,0 @@
-use Rattle.ds_session.proofs.GrowthLaws.{read_itself}
-use Rattle.ds_session.proofs.IdLaws.{read_next}
-use Rattle.ds_session.proofs.drawing.unissued.Goals as goal
-
-pub returns-then-is_none-clause-read : goal.returns-then-is_none-clause-read
-returns-then-is_none-clause-read g c = read_itself c.args.pass.now
-
-pub returns-clause-read : goal.returns-clause-read
-returns-clause-read g c = read_next c.args.pass.now c.next_id-next.new.pass c.next_id-next.result c.next_id-next.ensures

@@ -1,8 +1,0 @@
-use Rattle.std.proofs.Common.{refl}
-use Rattle.ds_session.proofs.LaterReplies.{replied_from}
-use Rattle.ds_session.proofs.state.State.refuse_new.Goals as goal
-
-pub returns-in-NoMemory : goal.returns-in-NoMemory
-returns-in-NoMemory g c = λ p read shards within h said.
-    replied_from _ shards _ (record c.args.self.now { pass = p }) c.args.self.now _ _ read _ refl refl refl h
-    (c.say_no_memory.ensures.replied read shards)

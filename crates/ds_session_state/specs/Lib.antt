@@ -1,0 +1,5 @@
+pub mod Answering
+pub mod Refusing
+pub mod Replying
+pub mod Sessions
+pub mod Standing
