@@ -48,8 +48,8 @@ NUMBERS = [
 NUMBER = re.compile(r"2\^(?P<power>\d+)(?P<less> - 1)?|(?P<plain>\d[\d,_]*)")
 # Numbers that other pages share with a source: the page, what stands before the number there, the source, and what stands before it in that.
 SHARED = [
-    ("docs/python.md", "or with `xg=True` up to", LIMITS, "most_groups ="), ("docs/python.md", "with more than", "crates/ds_session/specs/Wide.antt", "most_scanned_by_one ="),
-    ("docs/DECISIONS.md", "where its pass has seen more than", "crates/ds_session/specs/Wide.antt", "most_scanned_by_one ="),
+    ("docs/python.md", "or with `xg=True` up to", LIMITS, "most_groups ="), ("docs/python.md", "with more than", "crates/ds_session_reads/specs/Wide.antt", "most_scanned_by_one ="),
+    ("docs/DECISIONS.md", "where its pass has seen more than", "crates/ds_session_reads/specs/Wide.antt", "most_scanned_by_one ="),
     ("docs/DECISIONS.md", "**An applier takes up to", "crates/ds_store_running/src/applying.rt", "const MOST_AT_ONCE: u64 ="),
     ("docs/measurements.md", "ten queries of two equalities, fails above", "tests/test_limits.py", "LOAD_SECONDS, OVERWRITING_SECONDS, WIDE_SECONDS ="),
     (PROMISES, "with 200,000 commits within", "tests/test_kept.py", "SECONDS_TO_OPEN ="),
@@ -364,7 +364,7 @@ WRONG = [
     ("docs/python.md", "It is `ds_nothing`.", "no crate"),
     ("docs/tools.md", "It stands in `ds_base/src/nothing`.", "no file or folder"),
     (PROTOCOL, "| an entity's size | 1,048,575 | `TooLarge` |", "greatest_entity_size is 1048576"),
-    ("docs/python.md", "It goes over all at once with more than 16,000 entries.", "and in crates/ds_session/specs/Wide.antt [16384]"),
+    ("docs/python.md", "It goes over all at once with more than 16,000 entries.", "and in crates/ds_session_reads/specs/Wide.antt [16384]"),
     (PROTOCOL, "`--window` 1 to many", "greatest_window is 65536"),
     (PROTOCOL, "| 12 | `no reason` | never |", "the statuses are"),
     (DESIGN, "Call `ds_serve::reserve`.", "defines no"),
